@@ -38,20 +38,23 @@ before (Err e) f b h = absurd (cc)
 -- where each asked node has the answer that `met` gives
 module _ (met : Node → Result Given Fault) (here : Trail) (bytes : List ℕ) where
   -- what a rule answered before another went on from it
-  pub goes_on : {A B : Type 0} (p : Rule A) (f : A → Rule B) (b : B) → answer_of met here bytes (bind p f) ≡ Ok b → Before (answer_of met here bytes p) (λ a. answer_of met here bytes (f a)) b
+  pub goes_on : {A B : Type 0} (p : Rule A) (f : A → Rule B) (b : B) → answer_of met here bytes (bind p f) ≡ Ok b
+      → Before (answer_of met here bytes p) (λ a. answer_of met here bytes (f a)) b
   goes_on p f b h = before (answer_of met here bytes p) (λ a. answer_of met here bytes (f a)) b (sym (answer_bind met here bytes p f) ∙ h)
 
   -- the head that was asked for
   pub asked_head : (p : Trail) (h : Head) → answer_of met here bytes (ask_head p) ≡ Ok h → met (head_node p) ≡ Ok (givens.Head h)
   asked_head p h e = by_given (met (head_node p)) refl e
     where
-      by_given : (r : Result Given Fault) → met (head_node p) ≡ r → with_given r (λ g. answer_of met here bytes (in_head g)) ≡ Ok h → met (head_node p) ≡ Ok (givens.Head h)
+      by_given : (r : Result Given Fault) → met (head_node p) ≡ r → with_given r (λ g. answer_of met here bytes (in_head g)) ≡ Ok h
+          → met (head_node p) ≡ Ok (givens.Head h)
       by_given (Ok (givens.Head h')) is e' = is ∙ ap (λ (x : Head). Ok (givens.Head x)) (ok_is h' h e')
       by_given (Ok _) is e' = absurd (cc)
       by_given (Err f) is e' = absurd (cc)
 
   -- the rule of a node is the meaning of its kind
-  pub meaning_is : (d : Description) (n : Node) (g : Given) → answer_of met here bytes (rule_of d n) ≡ Ok g → answer_of met here bytes (meaning_of d n.kind n.path) ≡ Ok g
+  pub meaning_is : (d : Description) (n : Node) (g : Given) → answer_of met here bytes (rule_of d n) ≡ Ok g
+      → answer_of met here bytes (meaning_of d n.kind n.path) ≡ Ok g
   unfolding rule_of
   meaning_is d n g h = h
 
@@ -63,11 +66,13 @@ module _ (d : Description) (bytes : List ℕ) where
   below depth opened n = answer_within d bytes depth (n ∷ opened)
 
   -- an answer that is no fault is the rule's, and its node isn't open
-  pub ruled : (depth : ℕ) (opened : List Node) (n : Node) (g : Given) → answer_within d bytes (suc depth) opened n ≡ Ok g → (is_among node_number opened n ≡ false) × (answer_of (below depth opened n) n.path bytes (rule_of d n) ≡ Ok g)
+  pub ruled : (depth : ℕ) (opened : List Node) (n : Node) (g : Given) → answer_within d bytes (suc depth) opened n ≡ Ok g
+      → (is_among node_number opened n ≡ false) × (answer_of (below depth opened n) n.path bytes (rule_of d n) ≡ Ok g)
   unfolding answer_within
   ruled depth opened n g h = by_open (is_among node_number opened n) refl h
     where
-      by_open : (b : Bool) → is_among node_number opened n ≡ b → cond b (circle n) (answer_of (below depth opened n) n.path bytes (rule_of d n)) ≡ Ok g → (is_among node_number opened n ≡ false) × (answer_of (below depth opened n) n.path bytes (rule_of d n) ≡ Ok g)
+      by_open : (b : Bool) → is_among node_number opened n ≡ b → cond b (circle n) (answer_of (below depth opened n) n.path bytes (rule_of d n)) ≡ Ok g
+          → (is_among node_number opened n ≡ false) × (answer_of (below depth opened n) n.path bytes (rule_of d n) ≡ Ok g)
       by_open true e e' = absurd (cc)
       by_open false e e' = (e, e')
 
@@ -84,13 +89,15 @@ same_answer met met' here bytes same (Answer x) a h = h
 same_answer met met' here bytes same (Fail e) a h = absurd (cc)
 same_answer met met' here bytes same {A = A} (Ask (Of n) k) a h = by_given (met n) refl h (λ g. same_answer met met' here bytes same (k g) a)
   where
-    by_given : (r : Result Given Fault) → met n ≡ r → with_given r (λ g. answer_of met here bytes (k g)) ≡ Ok a → ((g : Given) → answer_of met here bytes (k g) ≡ Ok a → answer_of met' here bytes (k g) ≡ Ok a)
+    by_given : (r : Result Given Fault) → met n ≡ r → with_given r (λ g. answer_of met here bytes (k g)) ≡ Ok a
+        → ((g : Given) → answer_of met here bytes (k g) ≡ Ok a → answer_of met' here bytes (k g) ≡ Ok a)
         → with_given (met' n) (λ g. answer_of met' here bytes (k g)) ≡ Ok a
     by_given (Ok g) is e later = ap (λ r. with_given r (λ x. answer_of met' here bytes (k x))) (same n g is) ∙ later g e
     by_given (Err f) is e later = absurd (cc)
 same_answer met met' here bytes same {A = A} (Ask (See r) k) a h = by_seen (look r bytes).seen h (λ x. same_answer met met' here bytes same (k x) a)
   where
-    by_seen : (o : Option (Seen r)) → with_seen here o (λ x. answer_of met here bytes (k x)) ≡ Ok a → ((x : Seen r) → answer_of met here bytes (k x) ≡ Ok a → answer_of met' here bytes (k x) ≡ Ok a)
+    by_seen : (o : Option (Seen r)) → with_seen here o (λ x. answer_of met here bytes (k x)) ≡ Ok a
+        → ((x : Seen r) → answer_of met here bytes (k x) ≡ Ok a → answer_of met' here bytes (k x) ≡ Ok a)
         → with_seen here o (λ x. answer_of met' here bytes (k x)) ≡ Ok a
     by_seen (Some x) e later = later x e
     by_seen None e later = absurd (cc)
@@ -109,13 +116,15 @@ not_among false c f e = refl
 
 -- one node more on both sides, and one more among which others are
 among_both : (n : Node) (others opened : List Node) → AreAmong others opened → AreAmong (n ∷ others) (n ∷ opened)
-among_both n others opened among m h = or_more (nat_eq (node_number m) (node_number n)) (is_among node_number others m) (is_among node_number opened m) (among m) h
+among_both n others opened among m h = or_more (nat_eq (node_number m) (node_number n)) (is_among node_number others m) (is_among node_number opened m)
+    (among m) h
 
 pub among_more : (n : Node) (opened : List Node) → AreAmong opened (n ∷ opened)
 among_more n opened m h = or_right (nat_eq (node_number m) (node_number n)) (is_among node_number opened m) h
 
 module _ (d : Description) (bytes : List ℕ) where
-  pub stays_within : (depth depth' : ℕ) (opened others : List Node) (n : Node) (g : Given) → depth ≤ depth' → AreAmong others opened → answer_within d bytes depth opened n ≡ Ok g → answer_within d bytes depth' others n ≡ Ok g
+  pub stays_within : (depth depth' : ℕ) (opened others : List Node) (n : Node) (g : Given) → depth ≤ depth' → AreAmong others opened
+      → answer_within d bytes depth opened n ≡ Ok g → answer_within d bytes depth' others n ≡ Ok g
   unfolding answer_within
   stays_within zero depth' opened others n g le among h = absurd (no_depth d bytes opened n g h)
   stays_within (suc depth) zero opened others n g le among h = absurd (omega arith)
@@ -134,7 +143,8 @@ answers_stay d bytes opened others n g among h = stays_within d bytes node_bound
 -- ---- by rules
 
 module _ (d : Description) (bytes : List ℕ) where
-  ruled_again : (depth : ℕ) (opened : List Node) (n : Node) (g : Given) → answer_within d bytes depth opened n ≡ Ok g → answer_of (answer_within d bytes depth opened) n.path bytes (meaning_of d n.kind n.path) ≡ Ok g
+  ruled_again : (depth : ℕ) (opened : List Node) (n : Node) (g : Given) → answer_within d bytes depth opened n ≡ Ok g
+      → answer_of (answer_within d bytes depth opened) n.path bytes (meaning_of d n.kind n.path) ≡ Ok g
   ruled_again zero opened n g h = absurd (no_depth d bytes opened n g h)
   ruled_again (suc depth) opened n g h =
       let met = answer_within d bytes depth (n ∷ opened) in
@@ -143,15 +153,18 @@ module _ (d : Description) (bytes : List ℕ) where
       (meaning_is met n.path bytes d n g (ruled d bytes depth opened n g h).1)
 
   -- an answer is the rule's where each node that it asks has its own
-  pub by_rule : (opened : List Node) (n : Node) (g : Given) → from_nothing d bytes opened n ≡ Ok g → answer_of (from_nothing d bytes opened) n.path bytes (meaning_of d n.kind n.path) ≡ Ok g
+  pub by_rule : (opened : List Node) (n : Node) (g : Given) → from_nothing d bytes opened n ≡ Ok g
+      → answer_of (from_nothing d bytes opened) n.path bytes (meaning_of d n.kind n.path) ≡ Ok g
   unfolding from_nothing
   by_rule opened n g h = ruled_again node_bound opened n g h
 
   -- what is so of each answer of a rule, where it is so of all that the rule asks: these answers are the nodes' own
   module _ (opened : List Node) (P : Node → Given → Type 0)
-      (each : (met : Node → Result Given Fault) → ((m : Node) (g : Given) → met m ≡ Ok g → from_nothing d bytes opened m ≡ Ok g) → ((m : Node) (g : Given) → met m ≡ Ok g → P m g)
+      (each : (met : Node → Result Given Fault) → ((m : Node) (g : Given) → met m ≡ Ok g → from_nothing d bytes opened m ≡ Ok g)
+      → ((m : Node) (g : Given) → met m ≡ Ok g → P m g)
       → (n : Node) (g : Given) → answer_of met n.path bytes (meaning_of d n.kind n.path) ≡ Ok g → P n g) where
-    rules_within : (depth : ℕ) (others : List Node) (n : Node) (g : Given) → depth ≤ node_bound → AreAmong opened others → answer_within d bytes depth others n ≡ Ok g → P n g
+    rules_within : (depth : ℕ) (others : List Node) (n : Node) (g : Given) → depth ≤ node_bound → AreAmong opened others
+        → answer_within d bytes depth others n ≡ Ok g → P n g
     unfolding from_nothing
     rules_within zero others n g le among h = absurd (no_depth d bytes others n g h)
     rules_within (suc depth) others n g le among h =

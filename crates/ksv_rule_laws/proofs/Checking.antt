@@ -42,14 +42,23 @@ module _ (met : Node → Result Given Fault) (here : Trail) (bytes : List ℕ) w
       by_truth : (b : Bool) → Gives met here bytes s b e → Answers met here bytes (λ c. c ≡ true → HasTrue met here bytes s es) (meets_one s es)
           → Answers met here bytes (λ c. c ≡ true → HasTrue met here bytes s (e ∷ es)) (if b then Answer true else meets_one s es)
       by_truth true is later = λ t. record { front = []; condition = e; rest = es; is = refl; before = tt; holds = is }
-      by_truth false is later = so met here bytes _ _ (meets_one s es) later (λ c one t. (let l = one t in record { front = e ∷ l.front; condition = l.condition; rest = l.rest; is = ap (λ (xs : List Tree). e ∷ xs) l.is; before = (is, l.before); holds = l.holds }))
+      by_truth false is later = so met here bytes _ _ (meets_one s es) later
+          (λ c one t. (let l = one t in record {
+            front = e ∷ l.front;
+            condition = l.condition;
+            rest = l.rest;
+            is = ap (λ (xs : List Tree). e ∷ xs) l.is;
+            before = (is, l.before);
+            holds = l.holds;
+          }))
 
   each_is : (s : Setting) (es : List Tree) → Says (λ b. b ≡ true → AllByRecursion (Gives met here bytes s true) es) (meets_each s es)
   unfolding meets_each
   each_is s [] = λ e. tt
   each_is s (e ∷ es) = after _ _ (truth_of s e) _ (truth_is met here bytes s e) (λ b is. by_truth b is (each_is s es))
     where
-      by_truth : (b : Bool) → Gives met here bytes s b e → Answers met here bytes (λ c. c ≡ true → AllByRecursion (Gives met here bytes s true) es) (meets_each s es)
+      by_truth : (b : Bool) → Gives met here bytes s b e
+          → Answers met here bytes (λ c. c ≡ true → AllByRecursion (Gives met here bytes s true) es) (meets_each s es)
           → Answers met here bytes (λ c. c ≡ true → AllByRecursion (Gives met here bytes s true) (e ∷ es)) (if b then meets_each s es else Answer false)
       by_truth true is later = so met here bytes _ _ (meets_each s es) later (λ c all t. (is, all t))
       by_truth false is later = λ t. absurd (cc)

@@ -1,5 +1,36 @@
 -- A circle comes from nodes that ask for each other, and from no rule.
-use Rattle.std.proofs.Common.{◌≡◌, ◌∙◌, ℕ, zero, suc, ◌+◌, ◌-◌, ◌<◌, ◌≤◌, Bool, true, false, cond, List, [], ◌∷◌, length, Option, Some, None, Result, Ok, Err, refl, sym, ap, subst, arith, inl, inr}
+use Rattle.std.proofs.Common.{
+  ◌≡◌,
+  ◌∙◌,
+  ℕ,
+  zero,
+  suc,
+  ◌+◌,
+  ◌-◌,
+  ◌<◌,
+  ◌≤◌,
+  Bool,
+  true,
+  false,
+  cond,
+  List,
+  [],
+  ◌∷◌,
+  length,
+  Option,
+  Some,
+  None,
+  Result,
+  Ok,
+  Err,
+  refl,
+  sym,
+  ap,
+  subst,
+  arith,
+  inl,
+  inr,
+}
 use Rattle.std.specs.Prelude.{Contains}
 use Rattle.std.proofs.lemmas.List.Elements.{Contains-append_left, Contains-append_right, Contains-append_cases, Contains-push, Contains-push_cases}
 use Rattle.ksv_basics.specs.Plan.{Answer, Fail, Ask}
@@ -44,22 +75,26 @@ module _ (met : Node → Result Given Fault) (here : Trail) (bytes : List ℕ) w
   abbrev pub Source : {A : Type 0} → Rule A → Fault → Type 0
   Source p f = (m : Node) × Contains (asks_of met here bytes p) m × (met m ≡ Err f)
 
-  from_asked : {A : Type 0} (P : A → Type 0) (p : Rule A) (f : Fault) → Answers met here bytes P p → f.kind ≡ kinds.Circle → answer_of met here bytes p ≡ Err f → Source p f
+  from_asked : {A : Type 0} (P : A → Type 0) (p : Rule A) (f : Fault) → Answers met here bytes P p → f.kind ≡ kinds.Circle
+      → answer_of met here bytes p ≡ Err f → Source p f
   from_asked P (Answer a) f own is h = absurd (cc)
   from_asked P (Fail (Here k)) f own is h = absurd (subst IsOwn (ap (λ (e : Fault). e.kind) (err_is (fault_at here k) f h) ∙ is) own)
   from_asked P (Fail (There k q)) f own is h = absurd (subst IsOwn (ap (λ (e : Fault). e.kind) (err_is (fault_at q k) f h) ∙ is) own)
   from_asked {A = A} P (Ask (Of n) k) f own is h = by_given (met n) refl h (λ g e. from_asked P (k g) f (own g e) is)
     where
-      by_given : (r : Result Given Fault) → met n ≡ r → with_given r (λ g. answer_of met here bytes (k g)) ≡ Err f → ((g : Given) → met n ≡ Ok g → answer_of met here bytes (k g) ≡ Err f → Source (k g) f)
+      by_given : (r : Result Given Fault) → met n ≡ r → with_given r (λ g. answer_of met here bytes (k g)) ≡ Err f
+          → ((g : Given) → met n ≡ Ok g → answer_of met here bytes (k g) ≡ Err f → Source (k g) f)
           → (m : Node) × Contains (n ∷ behind_given r (λ g. asks_of met here bytes (k g))) m × (met m ≡ Err f)
       by_given (Ok g) e e' later = let s = later g e e' in (s.0, Contains-append_right (n ∷ []) (asks_of met here bytes (k g)) s.0 s.1, s.2)
       by_given (Err e'') e e' later = (n, first_in n [], e ∙ ap Err (err_is e'' f e'))
   from_asked {A = A} P (Ask (See r) k) f own is h = by_seen (look r bytes).seen refl h (λ x e. from_asked P (k x) f (own x e) is)
     where
-      by_seen : (o : Option (Seen r)) → (look r bytes).seen ≡ o → with_seen here o (λ x. answer_of met here bytes (k x)) ≡ Err f → ((x : Seen r) → (look r bytes).seen ≡ Some x → answer_of met here bytes (k x) ≡ Err f → Source (k x) f)
+      by_seen : (o : Option (Seen r)) → (look r bytes).seen ≡ o → with_seen here o (λ x. answer_of met here bytes (k x)) ≡ Err f
+          → ((x : Seen r) → (look r bytes).seen ≡ Some x → answer_of met here bytes (k x) ≡ Err f → Source (k x) f)
           → (m : Node) × Contains (behind_seen o (λ x. asks_of met here bytes (k x))) m × (met m ≡ Err f)
       by_seen (Some x) e e' later = later x e e'
-      by_seen None e' e later = absurd (let same : kinds.EndOfBytes ≡ kinds.Circle = ap (λ (e' : Fault). e'.kind) (err_is (fault_at here kinds.EndOfBytes) f e) ∙ is in cc)
+      by_seen None e' e later = absurd (let same : kinds.EndOfBytes ≡ kinds.Circle =
+          ap (λ (e' : Fault). e'.kind) (err_is (fault_at here kinds.EndOfBytes) f e) ∙ is in cc)
 
   -- a fault of a node that it asks is the rule's
   asked_fault : {A : Type 0} (p : Rule A) (m : Node) (f : Fault) → met m ≡ Err f → Contains (asks_of met here bytes p) m → answer_of met here bytes p ≡ Err f
@@ -67,7 +102,8 @@ module _ (met : Node → Result Given Fault) (here : Trail) (bytes : List ℕ) w
   asked_fault (Fail e) m f is h = absurd (no_member m h)
   asked_fault {A = A} (Ask (Of n) k) m f is h = by_given (met n) refl h (λ g. asked_fault (k g) m f is)
     where
-      by_given : (r : Result Given Fault) → met n ≡ r → Contains (n ∷ behind_given r (λ g. asks_of met here bytes (k g))) m → ((g : Given) → Contains (asks_of met here bytes (k g)) m → answer_of met here bytes (k g) ≡ Err f)
+      by_given : (r : Result Given Fault) → met n ≡ r → Contains (n ∷ behind_given r (λ g. asks_of met here bytes (k g))) m
+          → ((g : Given) → Contains (asks_of met here bytes (k g)) m → answer_of met here bytes (k g) ≡ Err f)
           → with_given r (λ g. answer_of met here bytes (k g)) ≡ Err f
       by_given (Ok g) e c later = elim (Contains-append_cases (n ∷ []) (asks_of met here bytes (k g)) m c) [
         | inl front ↦ elim (Contains-push_cases [] n m front) [
@@ -82,13 +118,15 @@ module _ (met : Node → Result Given Fault) (here : Trail) (bytes : List ℕ) w
       ]
   asked_fault {A = A} (Ask (See r) k) m f is h = by_seen (look r bytes).seen h (λ x. asked_fault (k x) m f is)
     where
-      by_seen : (o : Option (Seen r)) → Contains (behind_seen o (λ x. asks_of met here bytes (k x))) m → ((x : Seen r) → Contains (asks_of met here bytes (k x)) m → answer_of met here bytes (k x) ≡ Err f)
+      by_seen : (o : Option (Seen r)) → Contains (behind_seen o (λ x. asks_of met here bytes (k x))) m
+          → ((x : Seen r) → Contains (asks_of met here bytes (k x)) m → answer_of met here bytes (k x) ≡ Err f)
           → with_seen here o (λ x. answer_of met here bytes (k x)) ≡ Err f
       by_seen (Some x) c later = later x c
       by_seen None c later = absurd (no_member m c)
 
 -- a circle in which a rule ends is that of a node that it asks
-source : (d : Description) (bytes : List ℕ) (met : Node → Result Given Fault) (n : Node) (f : Fault) → f.kind ≡ kinds.Circle → answer_of met n.path bytes (rule_of d n) ≡ Err f → Source met n.path bytes (rule_of d n) f
+source : (d : Description) (bytes : List ℕ) (met : Node → Result Given Fault) (n : Node) (f : Fault) → f.kind ≡ kinds.Circle
+    → answer_of met n.path bytes (rule_of d n) ≡ Err f → Source met n.path bytes (rule_of d n) f
 unfolding rule_of
 source d bytes met n f is h = from_asked met n.path bytes _ (meaning_of d n.kind n.path) f (answer_is met n.path bytes d n.kind) is h
 
@@ -113,32 +151,45 @@ module _ (d : Description) (bytes : List ℕ) where
       let below : node_number n < node_bound = node_number-below n in
       let k : ℕ = node_bound - 1 in
       let deep : node_bound ≡ suc k = omega arith in
-      ap (λ x. answer_within d bytes x opened n) deep ∙ ap (λ b. cond b (circle n) (answer_of (answer_within d bytes k (n ∷ opened)) n.path bytes (rule_of d n))) e
+      ap (λ x. answer_within d bytes x opened n) deep ∙ ap
+      (λ b. cond b (circle n) (answer_of (answer_within d bytes k (n ∷ opened)) n.path bytes (rule_of d n))) e
 
   abbrev Back : List Node → Node → Trail → Type 0
   Back opened n p = (way : List Node) × LeadsBack d bytes opened n way p
 
   -- where the node is open, the way has no further node
-  by_open : (opened : List Node) (n : Node) (p : Trail) → from_nothing d bytes opened n ≡ Err (fault_at p kinds.Circle) → (is_among node_number opened n ≡ false → Back opened n p) → Back opened n p
+  by_open : (opened : List Node) (n : Node) (p : Trail) → from_nothing d bytes opened n ≡ Err (fault_at p kinds.Circle)
+      → (is_among node_number opened n ≡ false → Back opened n p) → Back opened n p
   by_open opened n p h other = by_test (is_among node_number opened n) refl
     where
       by_test : (b : Bool) → is_among node_number opened n ≡ b → Back opened n p
-      by_test true e = ([], (e, ap (λ (f : Fault). f.path) (err_is {A = Given} (fault_at n.path kinds.Circle) (fault_at p kinds.Circle) (sym (open_circle opened n e) ∙ h))))
+      by_test true e = (
+        [],
+        (
+          e,
+          ap (λ (f : Fault). f.path)
+              (err_is {A = Given} (fault_at n.path kinds.Circle) (fault_at p kinds.Circle) (sym (open_circle opened n e) ∙ h)),
+        ),
+      )
       by_test false e = other e
 
-  leads_back : (k : ℕ) (opened : List Node) (n : Node) (p : Trail) → AreDistinct rules opened → node_bound ≤ k + length opened → from_nothing d bytes opened n ≡ Err (fault_at p kinds.Circle) → Back opened n p
-  leads_back zero opened n p distinct deep h = by_open opened n p h (λ e. absurd (let most : length (n ∷ opened) ≤ node_bound = few rules settled (n ∷ opened) (AreDistinct-cons rules n opened e distinct) in omega arith))
+  leads_back : (k : ℕ) (opened : List Node) (n : Node) (p : Trail) → AreDistinct rules opened → node_bound ≤ k + length opened
+      → from_nothing d bytes opened n ≡ Err (fault_at p kinds.Circle) → Back opened n p
+  leads_back zero opened n p distinct deep h = by_open opened n p h
+      (λ e. absurd (let most : length (n ∷ opened) ≤ node_bound = few rules settled (n ∷ opened) (AreDistinct-cons rules n opened e distinct) in omega arith))
   leads_back (suc k) opened n p distinct deep h = by_open opened n p h (λ e.
       let follows = answers_follow_rules d bytes opened n (record { distinct = distinct; apart = e }) in
       let s = source d bytes (from_nothing d bytes (n ∷ opened)) n (fault_at p kinds.Circle) refl (sym follows ∙ h) in
       let way = leads_back k (n ∷ opened) s.0 p (AreDistinct-cons rules n opened e distinct) (omega arith) s.2 in
       (s.0 ∷ way.0, (e, s.1, way.1)))
 
-  is_circle : (way : List Node) (opened : List Node) (n : Node) (p : Trail) → AreDistinct rules opened → LeadsBack d bytes opened n way p → from_nothing d bytes opened n ≡ Err (fault_at p kinds.Circle)
+  is_circle : (way : List Node) (opened : List Node) (n : Node) (p : Trail) → AreDistinct rules opened → LeadsBack d bytes opened n way p
+      → from_nothing d bytes opened n ≡ Err (fault_at p kinds.Circle)
   is_circle [] opened n p distinct h = open_circle opened n h.0 ∙ ap (λ q. Err (fault_at q kinds.Circle)) h.1
   is_circle (m ∷ way) opened n p distinct h =
       answers_follow_rules d bytes opened n (record { distinct = distinct; apart = h.0 })
-      ∙ asked_fault (from_nothing d bytes (n ∷ opened)) n.path bytes (rule_of d n) m (fault_at p kinds.Circle) (is_circle way (n ∷ opened) m p (AreDistinct-cons rules n opened h.0 distinct) h.2) h.1
+      ∙ asked_fault (from_nothing d bytes (n ∷ opened)) n.path bytes (rule_of d n) m (fault_at p kinds.Circle)
+      (is_circle way (n ∷ opened) m p (AreDistinct-cons rules n opened h.0 distinct) h.2) h.1
 
 pub circles_lead_back : CirclesLeadBack
 circles_lead_back d bytes opened n p distinct = (

@@ -1,5 +1,33 @@
 -- The number of elements that a list is said to have is that of the ends of its elements.
-use Rattle.std.proofs.Common.{◌≡◌, ◌∙◌, ℕ, zero, suc, ◌+◌, ◌==◌, ◌<◌, Bool, true, false, List, [], ◌∷◌, Option, Some, None, Result, Ok, ◌⊎◌, inl, inr, refl, sym, ap, subst, arith}
+use Rattle.std.proofs.Common.{
+  ◌≡◌,
+  ◌∙◌,
+  ℕ,
+  zero,
+  suc,
+  ◌+◌,
+  ◌==◌,
+  ◌<◌,
+  Bool,
+  true,
+  false,
+  List,
+  [],
+  ◌∷◌,
+  Option,
+  Some,
+  None,
+  Result,
+  Ok,
+  ◌⊎◌,
+  inl,
+  inr,
+  refl,
+  sym,
+  ap,
+  subst,
+  arith,
+}
 use Rattle.std.proofs.lemmas.Bool.{cases_lt}
 use Rattle.std.proofs.lemmas.Bool.Decides.{nat_tests}
 use Rattle.ksv_expr_tree.specs.Tree.{Tree}
@@ -47,13 +75,19 @@ module _ (met : Node → Result Given Fault) where
   is_other : (m n : ℕ) → m < n → (m == n) ≡ false
   is_other m n lt = grind (arith, nat_tests)
 
-  last_one : (l p : Trail) (i : ℕ) (place : Place) → child l (steps.Index i) ≡ Some p → met (end_node p) ≡ Ok (givens.End place true) → AreElements met l i (i + 1) place
-  last_one l p i place is ended = record { some = omega arith; each = λ j low high. (let same : i ≡ j = omega arith in subst (λ k. EndsAsOf met l k (i + 1) place) same one) }
+  last_one : (l p : Trail) (i : ℕ) (place : Place) → child l (steps.Index i) ≡ Some p → met (end_node p) ≡ Ok (givens.End place true)
+      → AreElements met l i (i + 1) place
+  last_one l p i place is ended = record {
+    some = omega arith;
+    each =
+        λ j low high. (let same : i ≡ j = omega arith in subst (λ k. EndsAsOf met l k (i + 1) place) same one);
+  }
     where
       one : EndsAsOf met l i (i + 1) place
       one = record { path = p; is = is; ends = place; ended = ended ∙ ap (λ b. Ok (givens.End place b)) (sym (is_same (i + 1))); last_ends = λ e. refl }
 
-  one_more : (l p : Trail) (i : ℕ) (ends : Place) (c : ℕ) (place : Place) → child l (steps.Index i) ≡ Some p → met (end_node p) ≡ Ok (givens.End ends false) → AreElements met l (i + 1) c place → AreElements met l i c place
+  one_more : (l p : Trail) (i : ℕ) (ends : Place) (c : ℕ) (place : Place) → child l (steps.Index i) ≡ Some p → met (end_node p) ≡ Ok (givens.End ends false)
+      → AreElements met l (i + 1) c place → AreElements met l i c place
   one_more l p i ends c place is ended more = record {
     some = low_more;
     each = λ j low high. elim (cases_lt i j) [
@@ -66,7 +100,14 @@ module _ (met : Node → Result Given Fault) where
       low_more = let some = more.some in omega arith
 
       one : EndsAsOf met l i c place
-      one = let some = more.some in record { path = p; is = is; ends = ends; ended = ended ∙ ap (λ b. Ok (givens.End ends b)) (sym (is_other (i + 1) c some)); last_ends = λ e. absurd (omega arith) }
+      one = let some = more.some in record {
+        path = p;
+        is = is;
+        ends = ends;
+        ended = ended
+            ∙ ap (λ b. Ok (givens.End ends b)) (sym (is_other (i + 1) c some));
+        last_ends = λ e. absurd (omega arith);
+      }
 
   -- the list has so many elements from this one on, or none at all
   abbrev pub Counts : Trail → ℕ → ℕ → Place → Type 0
@@ -78,19 +119,23 @@ module _ (met : Node → Result Given Fault) where
   IsCounted p _ = Unit {0}
 
 -- what the nodes that are asked answer counts so; all of it is what they answer in the end
-module _ (d : Description) (bytes : List ℕ) (met all : Node → Result Given Fault) (same : (m : Node) (g : Given) → met m ≡ Ok g → all m ≡ Ok g) (lies : (m : Node) (g : Given) → met m ≡ Ok g → IsCounted all m.path g) (here : Trail) where
-  rest_counts : (i c : ℕ) (place : Place) → last here ≡ Some (steps.Index i) → IsRest d met here bytes (Some (steps.Index i)) c place → Counts all (parent here) i c place
+module _ (d : Description) (bytes : List ℕ) (met all : Node → Result Given Fault) (same : (m : Node) (g : Given) → met m ≡ Ok g → all m ≡ Ok g)
+    (lies : (m : Node) (g : Given) → met m ≡ Ok g → IsCounted all m.path g) (here : Trail) where
+  rest_counts : (i c : ℕ) (place : Place) → last here ≡ Some (steps.Index i) → IsRest d met here bytes (Some (steps.Index i)) c place
+      → Counts all (parent here) i c place
   rest_counts i c place step is = elim is [
     | inl whole ↦ let e = whole.1 in inl (whole.0, record { list = e.list; answered = same _ _ e.answered; empty = e.empty; none = e.none; start = e.start })
     | inr from ↦ inr (elim from [
-      | inl one ↦ subst (λ n. AreElements all (parent here) i n place) one.0 (last_one all (parent here) here i place (own_part here (steps.Index i) step) (same _ _ one.1))
+      | inl one ↦ subst (λ n. AreElements all (parent here) i n place) one.0
+          (last_one all (parent here) here i place (own_part here (steps.Index i) step) (same _ _ one.1))
       | inr more ↦
           let r = more.2 in
           let up = part_of (parent here) r.path (steps.Index (i + 1)) r.is in
           let later : Counts all (parent r.path) (i + 1) c place = lies (rest_node r.path) (givens.Rest c place) r.rested (i + 1) up.1 in
           elim later [
             | inl none ↦ let zero_is = none.0 in absurd (omega arith)
-            | inr elements ↦ one_more all (parent here) here i more.0 c place (own_part here (steps.Index i) step) (same _ _ more.1) (subst (λ l. AreElements all l (i + 1) c place) up.0 elements)
+            | inr elements ↦ one_more all (parent here) here i more.0 c place (own_part here (steps.Index i) step) (same _ _ more.1)
+                (subst (λ l. AreElements all l (i + 1) c place) up.0 elements)
           ]
     ])
   ]
@@ -102,11 +147,13 @@ module _ (d : Description) (bytes : List ℕ) (met all : Node → Result Given F
   answer_counts nodes.End (givens.Rest c place) is = absurd is
   answer_counts _ _ is = tt
 
-first_counts : (d : Description) (bytes : List ℕ) (opened : List Node) (p : Trail) (c : ℕ) (place : Place) → last p ≡ Some (steps.Index 0) → from_nothing d bytes opened (rest_node p) ≡ Ok (givens.Rest c place)
+first_counts : (d : Description) (bytes : List ℕ) (opened : List Node) (p : Trail) (c : ℕ) (place : Place) → last p ≡ Some (steps.Index 0)
+    → from_nothing d bytes opened (rest_node p) ≡ Ok (givens.Rest c place)
     → IsEmptyList (from_nothing d bytes opened) (parent p) c place ⊎ AreElements (from_nothing d bytes opened) (parent p) 0 c place
 first_counts d bytes opened p c place is e =
     let all = from_nothing d bytes opened in
-    let so : IsCounted all p (givens.Rest c place) = by_shapes d bytes opened (λ n g. IsCounted all n.path g) (λ met same lies n g z. answer_counts d bytes met all same lies n.path n.kind g z) (rest_node p) (givens.Rest c place) e in
+    let so : IsCounted all p (givens.Rest c place) = by_shapes d bytes opened (λ n g. IsCounted all n.path g)
+    (λ met same lies n g z. answer_counts d bytes met all same lies n.path n.kind g z) (rest_node p) (givens.Rest c place) e in
     elim (so 0 is) [
       | inl empty ↦ inl empty.1
       | inr elements ↦ inr elements
@@ -121,13 +168,15 @@ list_of_given : (a b : lists.List) → ◌≡◌ {A = Result Given Fault} (Ok (g
 list_of_given a b e = cc
 
 -- the last element has the number that the list's count tells
-told : (d : Description) (bytes : List ℕ) (met : Node → Result Given Fault) (p : Trail) (i n : ℕ) (place : Place) (so : Bool) (g : lists.List) (f : Field) (c : Tree) → IsLastOf d met p bytes i place so
+told : (d : Description) (bytes : List ℕ) (met : Node → Result Given Fault) (p : Trail) (i n : ℕ) (place : Place) (so : Bool) (g : lists.List) (f : Field)
+    (c : Tree) → IsLastOf d met p bytes i place so
     → met (head_node (parent p)) ≡ Ok (givens.Head (heads.List g)) → IsFieldOf d g.origin.member f → f.repeat ≡ Expr c → g.count ≡ Some n → so ≡ (n == i + 1)
 unfolding is_last
 told d bytes met p i n place so g f c l holder own repeat count =
     let list : l.list ≡ g = list_of_given l.list g (sym l.asked ∙ holder) in
     let field : l.field ≡ f = same_field d g.origin.member l.field f (subst (λ (y : lists.List). IsFieldOf d y.origin.member l.field) list l.read) own in
-    let says : is_counted l.list.count i ≡ so = ok_is (is_counted l.list.count i) so (sym (ap (λ r. answer_of met p bytes (is_last (parent (parent p)) l.list p i place r)) (ap (λ (y : Field). y.repeat) field ∙ repeat)) ∙ l.says) in
+    let says : is_counted l.list.count i ≡ so = ok_is (is_counted l.list.count i) so
+    (sym (ap (λ r. answer_of met p bytes (is_last (parent (parent p)) l.list p i place r)) (ap (λ (y : Field). y.repeat) field ∙ repeat)) ∙ l.says) in
     sym says ∙ ap (λ o. is_counted o i) (ap (λ (y : lists.List). y.count) list ∙ count)
 
 pub told_counts : ToldCounts

@@ -1,5 +1,31 @@
 -- What is read lies in the stream of the object or list that holds it.
-use Rattle.std.proofs.Common.{◌≡◌, ◌∙◌, ℕ, ◌+◌, ◌==◌, ◌≤◌, Bool, true, false, if◌then◌else◌, List, [], ◌∷◌, Option, Some, None, Result, Ok, refl, sym, ap, subst, arith, inl, inr}
+use Rattle.std.proofs.Common.{
+  ◌≡◌,
+  ◌∙◌,
+  ℕ,
+  ◌+◌,
+  ◌==◌,
+  ◌≤◌,
+  Bool,
+  true,
+  false,
+  if◌then◌else◌,
+  List,
+  [],
+  ◌∷◌,
+  Option,
+  Some,
+  None,
+  Result,
+  Ok,
+  refl,
+  sym,
+  ap,
+  subst,
+  arith,
+  inl,
+  inr,
+}
 use Rattle.std.specs.Prelude.{◌⊎◌}
 use Rattle.std.specs.List.{AllByRecursion}
 use Rattle.std.proofs.lemmas.Bool.Decides.{nat_tests}
@@ -34,9 +60,38 @@ use Rattle.ksv_rule_meaning.specs.Fields.{members_of, is_attribute, behind, Soug
 use Rattle.ksv_rule_meaning.specs.Heads.{origin_of, instance_setting, calc, within}
 use Rattle.ksv_rule_meaning.specs.Ends.{is_last}
 use Rattle.ksv_rule_meaning.specs.FromNothing.{from_nothing}
-use Rattle.ksv_rule_laws.specs.Laws.{IsBetween, LiesIn, IsStreamFor, IsReadIn, IsHeld, AreNamesDistinct, HasDistinctNames, HeadsLieInStreams, EndsLieInStreams, IsUnmet, IsUnmetAt, IsLeftOut, EndsAt}
+use Rattle.ksv_rule_laws.specs.Laws.{
+  IsBetween,
+  LiesIn,
+  IsStreamFor,
+  IsReadIn,
+  IsHeld,
+  AreNamesDistinct,
+  HasDistinctNames,
+  HeadsLieInStreams,
+  EndsLieInStreams,
+  IsUnmet,
+  IsUnmetAt,
+  IsLeftOut,
+  EndsAt,
+}
 use Rattle.ksv_rule_laws.proofs.Answering.{ok_is, goes_on, same_answer}
-use Rattle.ksv_rule_laws.proofs.Shapes.{IsHeadAt, IsStart, IsOut, IsMember, IsMemberOf, IsElementOf, IsHead, IsFieldsEnd, IsObjectEnd, RestsAt, IsEnd, IsEndOf, IsRest, IsAnswer}
+use Rattle.ksv_rule_laws.proofs.Shapes.{
+  IsHeadAt,
+  IsStart,
+  IsOut,
+  IsMember,
+  IsMemberOf,
+  IsElementOf,
+  IsHead,
+  IsFieldsEnd,
+  IsObjectEnd,
+  RestsAt,
+  IsEnd,
+  IsEndOf,
+  IsRest,
+  IsAnswer,
+}
 use Rattle.ksv_rule_laws.proofs.Shaping.{part_of, by_shapes}
 
 -- ---- streams
@@ -78,7 +133,8 @@ no_io (Attribute f) a io = io
 no_io _ a io = absurd (cc)
 
 -- other members are read in the stream of their object
-for_own : (met : Node → Result Given Fault) (bytes : List ℕ) (p : Trail) (o : Object) (k : MemberKind) (w : Stream) → (HasIo k → ⊥) → IsStreamFor met bytes p o k w → o.stream ≡ w
+for_own : (met : Node → Result Given Fault) (bytes : List ℕ) (p : Trail) (o : Object) (k : MemberKind) (w : Stream) → (HasIo k → ⊥)
+    → IsStreamFor met bytes p o k w → o.stream ≡ w
 for_own met bytes p o Parameter w own is = is
 for_own met bytes p o (Attribute f) w own is = is
 for_own met bytes p o (ParseInstance e None f) w own is = is
@@ -86,7 +142,8 @@ for_own met bytes p o (ParseInstance e (Some io) f) w own is = absurd (own tt)
 for_own met bytes p o (ValueInstance v) w own is = is
 
 -- what isn't read in another stream is read in that of its holder
-read_own : (d : Description) (met : Node → Result Given Fault) (bytes : List ℕ) (p : Trail) (k : Head) (step : Step) (w : Stream) → (IsElsewhere d k (Some step) → ⊥) → IsReadIn d met bytes p k (Some step) w → IsStreamOf k w
+read_own : (d : Description) (met : Node → Result Given Fault) (bytes : List ℕ) (p : Trail) (k : Head) (step : Step) (w : Stream)
+    → (IsElsewhere d k (Some step) → ⊥) → IsReadIn d met bytes p k (Some step) w → IsStreamOf k w
 read_own d met bytes p (heads.Object o) (steps.Name x) w apart is = for_own met bytes p o is.0.kind w (λ io. apart (is.0, is.1, io)) is.2
 read_own d met bytes p (heads.Object o) (steps.Index i) w apart is = absurd is
 read_own d met bytes p (heads.List g) (steps.Name x) w apart is = absurd is
@@ -96,7 +153,8 @@ read_own d met bytes p (heads.Calc c) step w apart is = absurd is
 read_own d met bytes p (heads.Leaf l) step w apart is = absurd is
 
 -- all elements of a list are read in one stream
-read_beside : (d : Description) (met : Node → Result Given Fault) (bytes : List ℕ) (r p : Trail) (k : Head) (i j : ℕ) (w : Stream) → IsReadIn d met bytes r k (Some (steps.Index i)) w → IsReadIn d met bytes p k (Some (steps.Index j)) w
+read_beside : (d : Description) (met : Node → Result Given Fault) (bytes : List ℕ) (r p : Trail) (k : Head) (i j : ℕ) (w : Stream)
+    → IsReadIn d met bytes r k (Some (steps.Index i)) w → IsReadIn d met bytes p k (Some (steps.Index j)) w
 read_beside d met bytes r p (heads.Object o) i j w is = absurd is
 read_beside d met bytes r p (heads.List g) i j w is = is
 read_beside d met bytes r p (heads.Absent at) i j w is = absurd is
@@ -117,16 +175,20 @@ no_other z (m ∷ ms) apart named = elim named [
 ]
 
 -- where no two members have one name, the member of an attribute's name is that attribute
-named_attribute : (z i : ℕ) (before : Option ℕ) (ms : List MemberOfType) (s : Sought) → AreNamesDistinct ms → IsOfAttribute z ms → sought z i before ms ≡ Some s → is_attribute s.kind ≡ true
+named_attribute : (z i : ℕ) (before : Option ℕ) (ms : List MemberOfType) (s : Sought) → AreNamesDistinct ms → IsOfAttribute z ms
+    → sought z i before ms ≡ Some s → is_attribute s.kind ≡ true
 unfolding sought
 named_attribute z i before [] s distinct named e = absurd named
-named_attribute z i before (m ∷ ms) s distinct named e = by_test (m.name == z) refl e (λ later h. named_attribute z (i + 1) (behind before m) ms s distinct.1 later h)
+named_attribute z i before (m ∷ ms) s distinct named e =
+    by_test (m.name == z) refl e (λ later h. named_attribute z (i + 1) (behind before m) ms s distinct.1 later h)
   where
-    by_test : (b : Bool) → (m.name == z) ≡ b → (if b then Some (record { member = i; before = before; kind = m.kind }) else sought z (i + 1) (behind before m) ms) ≡ Some s
+    by_test : (b : Bool) → (m.name == z) ≡ b → (if b then Some (record { member = i; before = before; kind = m.kind }) else sought z (i + 1)
+        (behind before m) ms) ≡ Some s
         → (IsOfAttribute z ms → sought z (i + 1) (behind before m) ms ≡ Some s → is_attribute s.kind ≡ true) → is_attribute s.kind ≡ true
     by_test true is h further = elim named [
       | inl first ↦ sym (ap (λ (t : Sought). is_attribute t.kind) (some_is (record { member = i; before = before; kind = m.kind }) s h)) ∙ first.1
-      | inr later ↦ let same : m.name ≡ z = grind (arith, nat_tests) in absurd (no_other m.name ms distinct.0 (subst (λ n. IsOfAttribute n ms) (sym same) later))
+      | inr later ↦ let same : m.name ≡ z = grind (arith, nat_tests) in
+          absurd (no_other m.name ms distinct.0 (subst (λ n. IsOfAttribute n ms) (sym same) later))
     ]
     by_test false is h further = elim named [
       | inl first ↦ let same = first.0 in absurd (grind (arith, nat_tests))
@@ -137,11 +199,13 @@ named_attribute z i before (m ∷ ms) s distinct named e = by_test (m.name == z)
 behind_is : (before : Option ℕ) (m : MemberOfType) (z : ℕ) → behind before m ≡ Some z → (before ≡ Some z) ⊎ ((m.name ≡ z) × (is_attribute m.kind ≡ true))
 behind_is before m z e = by_test (is_attribute m.kind) refl e
   where
-    by_test : (b : Bool) → is_attribute m.kind ≡ b → (if b then Some m.name else before) ≡ Some z → (before ≡ Some z) ⊎ ((m.name ≡ z) × (is_attribute m.kind ≡ true))
+    by_test : (b : Bool) → is_attribute m.kind ≡ b → (if b then Some m.name else before) ≡ Some z → (before ≡ Some z)
+        ⊎ ((m.name ≡ z) × (is_attribute m.kind ≡ true))
     by_test true is h = inr (some_is m.name z h, is)
     by_test false is h = inl h
 
-one_more : (before : Option ℕ) (m : MemberOfType) (ms : List MemberOfType) (z : ℕ) → (behind before m ≡ Some z) ⊎ IsOfAttribute z ms → (before ≡ Some z) ⊎ IsOfAttribute z (m ∷ ms)
+one_more : (before : Option ℕ) (m : MemberOfType) (ms : List MemberOfType) (z : ℕ) → (behind before m ≡ Some z) ⊎ IsOfAttribute z ms → (before ≡ Some z)
+    ⊎ IsOfAttribute z (m ∷ ms)
 one_more before m ms z (inl e) = elim (behind_is before m z e) [
   | inl old ↦ inl old
   | inr first ↦ inr (inl first)
@@ -153,7 +217,8 @@ last_named : (before : Option ℕ) (ms : List MemberOfType) (z : ℕ) → last_a
 last_named before [] z e = inl e
 last_named before (m ∷ ms) z e = one_more before m ms z (last_named (behind before m) ms z e)
 
-before_named : (x i : ℕ) (before : Option ℕ) (ms : List MemberOfType) (s : Sought) (y : ℕ) → sought x i before ms ≡ Some s → s.before ≡ Some y → (before ≡ Some y) ⊎ IsOfAttribute y ms
+before_named : (x i : ℕ) (before : Option ℕ) (ms : List MemberOfType) (s : Sought) (y : ℕ) → sought x i before ms ≡ Some s → s.before ≡ Some y
+    → (before ≡ Some y) ⊎ IsOfAttribute y ms
 unfolding sought
 before_named x i before [] s y e is = absurd (cc)
 before_named x i before (m ∷ ms) s y e is = by_test (m.name == x) e (λ h. before_named x (i + 1) (behind before m) ms s y h is)
@@ -217,7 +282,8 @@ module _ (d : Description) (bytes : List ℕ) where
   head_begins met p (Some step) h (inr is) = begins_in bytes is.stream h is.lies
 
 -- what the nodes that are asked answer lies so; all of it is what they answer in the end
-module _ (d : Description) (distinct : HasDistinctNames d) (bytes : List ℕ) (met all : Node → Result Given Fault) (same : (m : Node) (g : Given) → met m ≡ Ok g → all m ≡ Ok g)
+module _ (d : Description) (distinct : HasDistinctNames d) (bytes : List ℕ) (met all : Node → Result Given Fault)
+    (same : (m : Node) (g : Given) → met m ≡ Ok g → all m ≡ Ok g)
     (lies : (m : Node) (g : Given) → met m ≡ Ok g → Lies d bytes all m.kind m.path g) (here : Trail) where
   abbrev Between : Stream → ℕ → Type 0
   Between w n = IsBetween bytes w n
@@ -225,13 +291,16 @@ module _ (d : Description) (distinct : HasDistinctNames d) (bytes : List ℕ) (m
   -- ---- what is asked
 
   -- what holds a part that isn't read in another stream is known where its head was asked
-  held_at : (P : Stream → Type 0) (r q : Trail) (step : Step) (k : Head) (w : Stream) → (parent r ≡ q) × (last r ≡ Some step) → (IsElsewhere d k (Some step) → ⊥) → all (head_node q) ≡ Ok (givens.Head k) → IsStreamOf k w → IsHeld d bytes all r P → P w
+  held_at : (P : Stream → Type 0) (r q : Trail) (step : Step) (k : Head) (w : Stream) → (parent r ≡ q) × (last r ≡ Some step)
+      → (IsElsewhere d k (Some step) → ⊥) → all (head_node q) ≡ Ok (givens.Head k) → IsStreamOf k w → IsHeld d bytes all r P → P w
   held_at P r q step k w up apart asked own held =
       let one : held.holder ≡ k = head_of_given held.holder k (sym held.answered ∙ ap (λ p. all (head_node p)) up.0 ∙ asked) in
-      let read : IsReadIn d all bytes r k (Some step) held.stream = subst (λ x. IsReadIn d all bytes r x (Some step) held.stream) one (subst (λ o. IsReadIn d all bytes r held.holder o held.stream) up.1 held.read) in
+      let read : IsReadIn d all bytes r k (Some step) held.stream =
+      subst (λ x. IsReadIn d all bytes r x (Some step) held.stream) one (subst (λ o. IsReadIn d all bytes r held.holder o held.stream) up.1 held.read) in
       subst P (same_stream k held.stream w (read_own d all bytes r k step held.stream apart read) own) held.lies
 
-  ends_in : (q : Trail) (step : Step) (e : Place) (k : Head) (w : Stream) → (IsElsewhere d k (Some step) → ⊥) → all (head_node q) ≡ Ok (givens.Head k) → IsStreamOf k w → EndsAt met q step e → Between w (byte_of e)
+  ends_in : (q : Trail) (step : Step) (e : Place) (k : Head) (w : Stream) → (IsElsewhere d k (Some step) → ⊥) → all (head_node q) ≡ Ok (givens.Head k)
+      → IsStreamOf k w → EndsAt met q step e → Between w (byte_of e)
   ends_in q step e k w apart asked own is =
       let up = part_of q is.path step is.is in
       let held = lies (end_node is.path) (givens.End e is.is_last) is.ended in
@@ -244,18 +313,28 @@ module _ (d : Description) (distinct : HasDistinctNames d) (bytes : List ℕ) (m
   at_in origin w s f (heads.Calc c) begins is = absurd is
   at_in origin w s f (heads.Leaf l) begins is =
       let to = is.to.after begins.1 in
-      let end = is.end.after begins.1 in
-      (subst (λ (p : Place). Between w (byte_of p)) (sym is.from) begins, (omega (arith, to, begins.0), is.to.inside), (omega (arith, end, begins.0), is.end.inside), subst (λ (p : Place). byte_of p ≤ byte_of l.to) (sym is.from) to)
+      let end = is.end.after begins.1 in (
+        subst (λ (p : Place). Between w (byte_of p)) (sym is.from) begins,
+        (omega (arith, to, begins.0), is.to.inside),
+        (omega (arith, end, begins.0), is.end.inside),
+        subst (λ (p : Place). byte_of p ≤ byte_of l.to) (sym is.from) to,
+      )
   at_in origin w s f (heads.Object o) begins is =
       let to = is.to.after begins.1 in
       let from : (w.from ≤ o.stream.from) × (o.stream.from ≤ byte_of s) = elim is.from [
         | inl own ↦ (omega (arith, own), omega (arith, own, begins.0))
         | inr at ↦ (omega (arith, at, begins.0), omega (arith, at))
-      ] in
-      (subst (λ (p : Place). Between w (byte_of p)) (sym is.start) begins, (from.0, omega (arith, from.1, begins.1)), is.to.inside, subst (λ (p : Place). Between o.stream (byte_of p)) (sym is.start) (from.1, to))
+      ] in (
+        subst (λ (p : Place). Between w (byte_of p)) (sym is.start) begins,
+        (from.0, omega (arith, from.1, begins.1)),
+        is.to.inside,
+        subst (λ (p : Place). Between o.stream (byte_of p)) (sym is.start) (from.1, to),
+      )
   at_in origin w s f (heads.List g) begins is = (subst (λ (p : Place). Between w (byte_of p)) (sym is.start) begins, is.stream)
 
-  start_in : (o : Object) (before : Option ℕ) (c : Choice) (s : Place) → IsHere d o before → all (head_node (parent here)) ≡ Ok (givens.Head (heads.Object o)) → Between o.stream (byte_of o.start) → IsStart d met here bytes o before c s → Between o.stream (byte_of s)
+  start_in : (o : Object) (before : Option ℕ) (c : Choice) (s : Place) → IsHere d o before
+      → all (head_node (parent here)) ≡ Ok (givens.Head (heads.Object o)) → Between o.stream (byte_of o.start) → IsStart d met here bytes o before c s
+      → Between o.stream (byte_of s)
   start_in o None c s apart asked begins is = subst (λ n. Between o.stream (byte_of n)) is begins
   start_in o (Some y) c s apart asked begins is =
       let ends = ends_in (parent here) (steps.Name y) is.0 (heads.Object o) o.stream apart asked refl is.1 in
@@ -265,7 +344,8 @@ module _ (d : Description) (distinct : HasDistinctNames d) (bytes : List ℕ) (m
   abbrev LiesFor : Object → MemberKind → Head → Type 0
   LiesFor o k h = ((h ≡ heads.Absent None) × IsUnmet all bytes here o k) ⊎ ((w : Stream) × IsStreamFor all bytes here o k w × LiesIn bytes w h)
 
-  unmet : (o : Object) (condition : Option Tree) (h : Head) → IsOut d met here bytes o condition h → (h ≡ heads.Absent None) × (answer_of all here bytes (holds (instance_setting here (parent here) o) condition) ≡ Ok false)
+  unmet : (o : Object) (condition : Option Tree) (h : Head) → IsOut d met here bytes o condition h → (h ≡ heads.Absent None)
+      × (answer_of all here bytes (holds (instance_setting here (parent here) o) condition) ≡ Ok false)
   unmet o condition h out = (sym out.1, same_answer met all here bytes same (holds (instance_setting here (parent here) o) condition) false out.0)
 
   -- the value of an `io` is its stream
@@ -273,7 +353,8 @@ module _ (d : Description) (distinct : HasDistinctNames d) (bytes : List ℕ) (m
   stream_is (values.Stream s) w z = ap values.Stream (ok_is s w z)
   stream_is _ w z = absurd (cc)
 
-  own_or_io : (o : Object) (e : Tree) (io : Option Tree) (f : Field) (w : Stream) → answer_of all here bytes (stream_for (instance_setting here (parent here) o) io) ≡ Ok w → IsStreamFor all bytes here o (ParseInstance e io f) w
+  own_or_io : (o : Object) (e : Tree) (io : Option Tree) (f : Field) (w : Stream)
+      → answer_of all here bytes (stream_for (instance_setting here (parent here) o) io) ≡ Ok w → IsStreamFor all bytes here o (ParseInstance e io f) w
   unfolding stream_for
   own_or_io o e None f w z = ok_is o.stream w z
   own_or_io o e (Some io) f w z =
@@ -283,14 +364,22 @@ module _ (d : Description) (distinct : HasDistinctNames d) (bytes : List ℕ) (m
   calc_in : (o : Object) (m : Sought) (h : Head) → calc o m ≡ h → LiesIn bytes o.stream h
   calc_in o m h is = subst (LiesIn bytes o.stream) is tt
 
-  member_in : (o : Object) (m : Sought) (k : MemberKind) (h : Head) → IsHere d o m.before → all (head_node (parent here)) ≡ Ok (givens.Head (heads.Object o)) → Between o.stream (byte_of o.start) → IsMember d met here bytes o m k h → LiesFor o k h
+  member_in : (o : Object) (m : Sought) (k : MemberKind) (h : Head) → IsHere d o m.before → all (head_node (parent here)) ≡ Ok (givens.Head (heads.Object o))
+      → Between o.stream (byte_of o.start) → IsMember d met here bytes o m k h → LiesFor o k h
   member_in o m Parameter h apart asked begins is = inr (o.stream, refl, calc_in o m h is)
-  member_in o m (Attribute f) h apart asked begins is = inr (o.stream, refl, at_in (origin_of o m) o.stream is.0 f h (start_in o m.before f.choice is.0 apart asked begins is.1) is.2)
+  member_in o m (Attribute f) h apart asked begins is =
+      inr (o.stream, refl, at_in (origin_of o m) o.stream is.0 f h (start_in o m.before f.choice is.0 apart asked begins is.1) is.2)
   member_in o m (ParseInstance e io f) h apart asked begins is = elim is [
     | inl out ↦ inl (unmet o f.condition h out)
     | inr at ↦
-        let named = own_or_io o e io f at.stream (same_answer met all here bytes same (stream_for (instance_setting here (parent here) o) io) at.stream at.named) in
-        inr (at.stream, named, at_in (origin_of o m) at.stream (at_byte at.byte) f h (at_least at.byte at.stream.from at.behind, at_most at.byte _ at.inside) at.is)
+        let named = own_or_io o e io f at.stream (same_answer met all here bytes same
+        (stream_for (instance_setting here (parent here) o) io) at.stream at.named) in
+        inr (
+          at.stream,
+          named,
+          at_in (origin_of o m) at.stream (at_byte at.byte) f h
+              (at_least at.byte at.stream.from at.behind, at_most at.byte _ at.inside) at.is,
+        )
   ]
   member_in o m (ValueInstance v) h apart asked begins is = elim is [
     | inl out ↦ inl (unmet o v.condition h out)
@@ -301,12 +390,20 @@ module _ (d : Description) (distinct : HasDistinctNames d) (bytes : List ℕ) (m
   holder_begins : (k : Head) → met (head_node (parent here)) ≡ Ok (givens.Head k) → BeginsIn bytes k
   holder_begins k asked = head_begins d bytes all (parent here) (last (parent here)) k (lies (head_node (parent here)) (givens.Head k) asked)
 
-  member_head_in : (x : ℕ) (h : Head) → last here ≡ Some (steps.Name x) → IsMemberOf d met here bytes x h → IsLeftOut d bytes all here h ⊎ IsHeld d bytes all here (λ w. LiesIn bytes w h)
+  member_head_in : (x : ℕ) (h : Head) → last here ≡ Some (steps.Name x) → IsMemberOf d met here bytes x h → IsLeftOut d bytes all here h
+      ⊎ IsHeld d bytes all here (λ w. LiesIn bytes w h)
   member_head_in x h step is =
       let o = is.object in
       let now = same _ _ is.asked in
-      elim (member_in o is.member is.member.kind h (before_here d distinct o x is.member is.member.before is.found refl) now (holder_begins (heads.Object o) is.asked) is.is) [
-        | inl none ↦ inl (record { nowhere = none.0; object = o; answered = now; unmet = subst (λ z. IsUnmetAt d all bytes here o z) (sym step) (is.member, is.found, none.1) })
+      elim (member_in o is.member is.member.kind h (before_here d distinct o x is.member is.member.before is.found refl) now
+      (holder_begins (heads.Object o) is.asked) is.is) [
+        | inl none ↦ inl (record {
+          nowhere = none.0;
+          object = o;
+          answered = now;
+          unmet =
+              subst (λ z. IsUnmetAt d all bytes here o z) (sym step) (is.member, is.found, none.1);
+        })
         | inr there ↦ inr (record {
           holder = heads.Object o;
           answered = now;
@@ -322,7 +419,8 @@ module _ (d : Description) (distinct : HasDistinctNames d) (bytes : List ℕ) (m
       let now = same _ _ is.asked in
       let begins : Between g.stream (byte_of is.start) = elim is.begins [
         | inl first ↦ subst (λ n. Between g.stream (byte_of n)) first.1 (holder_begins (heads.List g) is.asked)
-        | inr later ↦ ends_in (parent here) (steps.Index later.before) is.start (heads.List g) g.stream (λ x. x) now refl (record { path = later.path; is = later.is; is_last = false; ended = later.ended })
+        | inr later ↦ ends_in (parent here) (steps.Index later.before) is.start (heads.List g) g.stream (λ x. x) now refl
+            (record { path = later.path; is = later.is; is_last = false; ended = later.ended })
       ] in
       record {
         holder = heads.List g;
@@ -339,7 +437,8 @@ module _ (d : Description) (distinct : HasDistinctNames d) (bytes : List ℕ) (m
 
   -- ---- ends
 
-  object_end_in : (o : Object) (x : ObjectEnd) (w : Stream) (e : Place) → all (head_node here) ≡ Ok (givens.Head (heads.Object o)) → LiesIn bytes w (heads.Object o) → IsObjectEnd d met here bytes o x e → Between w (byte_of e)
+  object_end_in : (o : Object) (x : ObjectEnd) (w : Stream) (e : Place) → all (head_node here) ≡ Ok (givens.Head (heads.Object o))
+      → LiesIn bytes w (heads.Object o) → IsObjectEnd d met here bytes o x e → Between w (byte_of e)
   object_end_in o endings.OfStream w e asked within is =
       let end = end_in bytes o.stream.to in
       subst (λ n. Between w (byte_of n)) is (at_least end w.from (omega (arith, within.1.0, within.3.0, within.3.1)), at_most end _ within.2)
@@ -352,7 +451,8 @@ module _ (d : Description) (distinct : HasDistinctNames d) (bytes : List ℕ) (m
           let end = of_aligned is'.0 in
           subst (λ n. IsBetween bytes w (byte_of n)) is'.2 (omega (arith, end, i.0, within.1.0), omega (arith, end, i.1, within.2))
 
-  place_in : (h : Head) (w : Stream) (e : Place) → all (head_node here) ≡ Ok (givens.Head h) → LiesIn bytes w h → IsEnd d met here bytes h e → Between w (byte_of e)
+  place_in : (h : Head) (w : Stream) (e : Place) → all (head_node here) ≡ Ok (givens.Head h) → LiesIn bytes w h → IsEnd d met here bytes h e
+      → Between w (byte_of e)
   place_in (heads.Absent None) w e asked within is = absurd is
   place_in (heads.Absent (Some s)) w e asked within is = subst (λ n. Between w (byte_of n)) is within
   place_in (heads.Calc c) w e asked within is = absurd is
@@ -360,7 +460,8 @@ module _ (d : Description) (distinct : HasDistinctNames d) (bytes : List ℕ) (m
   place_in (heads.Object o) w e asked within is = object_end_in o o.ending w e asked within is
   place_in (heads.List g) w e asked within is =
       let r = is.1 in
-      held_at (λ v. Between v (byte_of e)) r.path here (steps.Index 0) (heads.List g) w (part_of here r.path (steps.Index 0) r.is) (λ x. x) asked within.1 (lies (rest_node r.path) (givens.Rest is.0 e) r.rested)
+      held_at (λ v. Between v (byte_of e)) r.path here (steps.Index 0) (heads.List g) w (part_of here r.path (steps.Index 0) r.is) (λ x. x) asked within.1
+      (lies (rest_node r.path) (givens.Rest is.0 e) r.rested)
 
   end_of_in : (e : Place) (so : Bool) → IsEndOf d met here bytes e so → EndLies d bytes all here (last here) e
   end_of_in e so is = by_step (last here) (lies (head_node here) (givens.Head is.head) is.asked)
@@ -368,19 +469,29 @@ module _ (d : Description) (distinct : HasDistinctNames d) (bytes : List ℕ) (m
       by_step : (o : Option Step) → HeadLies d bytes all here o is.head → EndLies d bytes all here o e
       by_step None held = tt
       by_step (Some step) (inl out) = absurd (subst (λ k. IsEnd d met here bytes k e) out.nowhere is.is)
-      by_step (Some step) (inr held) = record { holder = held.holder; answered = held.answered; stream = held.stream; read = held.read; lies = place_in is.head held.stream e (same _ _ is.asked) held.lies is.is }
+      by_step (Some step) (inr held) = record {
+        holder = held.holder;
+        answered = held.answered;
+        stream = held.stream;
+        read = held.read;
+        lies =
+            place_in is.head held.stream e (same _ _ is.asked) held.lies is.is;
+      }
 
   -- ---- rests
 
-  rest_of_part : (i j count : ℕ) (place : Place) → last here ≡ Some (steps.Index j) → RestsAt met (parent here) (steps.Index i) count place → IsHeld d bytes all here (λ w. Between w (byte_of place))
+  rest_of_part : (i j count : ℕ) (place : Place) → last here ≡ Some (steps.Index j) → RestsAt met (parent here) (steps.Index i) count place
+      → IsHeld d bytes all here (λ w. Between w (byte_of place))
   rest_of_part i j count place is r =
       let up = part_of (parent here) r.path (steps.Index i) r.is in
       let a : IsHeld d bytes all r.path (λ w. Between w (byte_of place)) = lies (rest_node r.path) (givens.Rest count place) r.rested in
       let read : IsReadIn d all bytes here a.holder (last here) a.stream =
-      subst (λ o. IsReadIn d all bytes here a.holder o a.stream) (sym is) (read_beside d all bytes r.path here a.holder i j a.stream (subst (λ o. IsReadIn d all bytes r.path a.holder o a.stream) up.1 a.read)) in
+      subst (λ o. IsReadIn d all bytes here a.holder o a.stream) (sym is)
+      (read_beside d all bytes r.path here a.holder i j a.stream (subst (λ o. IsReadIn d all bytes r.path a.holder o a.stream) up.1 a.read)) in
       record { holder = a.holder; answered = ap (λ q. all (head_node q)) (sym up.0) ∙ a.answered; stream = a.stream; read = read; lies = a.lies }
 
-  rest_in : (o : Option Step) (count : ℕ) (place : Place) → last here ≡ o → IsRest d met here bytes o count place → IsHeld d bytes all here (λ w. Between w (byte_of place))
+  rest_in : (o : Option Step) (count : ℕ) (place : Place) → last here ≡ o → IsRest d met here bytes o count place
+      → IsHeld d bytes all here (λ w. Between w (byte_of place))
   rest_in (Some (steps.Index i)) count place step is = elim is [
     | inl whole ↦
         let l = whole.1 in
@@ -408,13 +519,17 @@ module _ (d : Description) (distinct : HasDistinctNames d) (bytes : List ℕ) (m
   answer_in nodes.Value (givens.Value v) is = tt
   answer_in _ _ is = absurd is
 
-all_lie : (d : Description) (bytes : List ℕ) (opened : List Node) → HasDistinctNames d → (n : Node) (g : Given) → from_nothing d bytes opened n ≡ Ok g → Lies d bytes (from_nothing d bytes opened) n.kind n.path g
+all_lie : (d : Description) (bytes : List ℕ) (opened : List Node) → HasDistinctNames d → (n : Node) (g : Given) → from_nothing d bytes opened n ≡ Ok g
+    → Lies d bytes (from_nothing d bytes opened) n.kind n.path g
 all_lie d bytes opened distinct n g h =
     let all = from_nothing d bytes opened in
-    by_shapes d bytes opened (λ m g'. Lies d bytes all m.kind m.path g') (λ met same lies m g' is. answer_in d distinct bytes met all same lies m.path m.kind g' is) n g h
+    by_shapes d bytes opened (λ m g'. Lies d bytes all m.kind m.path g')
+    (λ met same lies m g' is. answer_in d distinct bytes met all same lies m.path m.kind g' is) n g h
 
 pub heads_lie_in_streams : HeadsLieInStreams
-heads_lie_in_streams d bytes opened p step h distinct is e = subst (λ o. HeadLies d bytes (from_nothing d bytes opened) p o h) is (all_lie d bytes opened distinct (head_node p) (givens.Head h) e)
+heads_lie_in_streams d bytes opened p step h distinct is e =
+    subst (λ o. HeadLies d bytes (from_nothing d bytes opened) p o h) is (all_lie d bytes opened distinct (head_node p) (givens.Head h) e)
 
 pub ends_lie_in_streams : EndsLieInStreams
-ends_lie_in_streams d bytes opened p step place is_last distinct is e = subst (λ o. EndLies d bytes (from_nothing d bytes opened) p o place) is (all_lie d bytes opened distinct (end_node p) (givens.End place is_last) e)
+ends_lie_in_streams d bytes opened p step place is_last distinct is e =
+    subst (λ o. EndLies d bytes (from_nothing d bytes opened) p o place) is (all_lie d bytes opened distinct (end_node p) (givens.End place is_last) e)

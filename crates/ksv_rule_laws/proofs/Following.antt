@@ -1,12 +1,54 @@
 -- An attribute begins after the one before it in its type, and the first where its object does.
-use Rattle.std.proofs.Common.{◌≡◌, ◌∙◌, ℕ, ◌+◌, ◌*◌, ◌/◌, ◌==◌, true, false, if◌then◌else◌, List, [], ◌∷◌, ◌++◌, Option, Some, None, Result, Ok, refl, sym, ap, subst, arith}
+use Rattle.std.proofs.Common.{
+  ◌≡◌,
+  ◌∙◌,
+  ℕ,
+  ◌+◌,
+  ◌*◌,
+  ◌/◌,
+  ◌==◌,
+  true,
+  false,
+  if◌then◌else◌,
+  List,
+  [],
+  ◌∷◌,
+  ◌++◌,
+  Option,
+  Some,
+  None,
+  Result,
+  Ok,
+  refl,
+  sym,
+  ap,
+  subst,
+  arith,
+}
 use Rattle.std.specs.List.{AllByRecursion}
 use Rattle.std.proofs.lemmas.Bool.Decides.{nat_tests}
 use Rattle.ksv_expr_value.specs.Places.{Place, at_byte, byte_of, aligned}
 use Rattle.ksv_expr_value.specs.Trail.{Trail, parent, last}
 use Rattle.ksv_expr_value.specs.declared.fault.Fault.{Fault}
 use Rattle.ksv_expr_value.specs.declared.step.Step.TheVariants.{Name}
-use Rattle.ksv_desc.specs.Description.{Description, MemberOfType, MemberKind, Parameter, Attribute, ParseInstance, ValueInstance, Field, Choice, Always, Switch, Repeat, Once, Eos, Expr, Until}
+use Rattle.ksv_desc.specs.Description.{
+  Description,
+  MemberOfType,
+  MemberKind,
+  Parameter,
+  Attribute,
+  ParseInstance,
+  ValueInstance,
+  Field,
+  Choice,
+  Always,
+  Switch,
+  Repeat,
+  Once,
+  Eos,
+  Expr,
+  Until,
+}
 use Rattle.ksv_desc.specs.Description as contents
 use Rattle.ksv_nodes.specs.declared.node.Node.{Node}
 use Rattle.ksv_nodes.specs.declared.given.Given.{Given}
@@ -27,15 +69,19 @@ use Rattle.ksv_rule_laws.proofs.Touching.{begins_at}
 -- ---- the attribute before
 
 -- the member that is found has the last attribute in front of it
-sought_is : (x i : ℕ) (before : Option ℕ) (front : List MemberOfType) (m : MemberOfType) (rest : List MemberOfType) → m.name ≡ x → AllByRecursion (λ k. (k.name == x) ≡ false) front
+sought_is : (x i : ℕ) (before : Option ℕ) (front : List MemberOfType) (m : MemberOfType) (rest : List MemberOfType) → m.name ≡ x
+    → AllByRecursion (λ k. (k.name == x) ≡ false) front
     → (member : ℕ) × (sought x i before (front ++ m ∷ rest) ≡ Some (record { member = member; before = last_attribute before front; kind = m.kind }))
 unfolding sought
 sought_is x i before [] m rest is apart =
     let same : (m.name == x) ≡ true = grind (arith, nat_tests) in
     (i, ap (λ b. if b then Some (record { member = i; before = before; kind = m.kind }) else sought x (i + 1) (behind before m) rest) same)
 sought_is x i before (k ∷ front) m rest is apart =
-    let later = sought_is x (i + 1) (behind before k) front m rest is apart.1 in
-    (later.0, ap (λ b. if b then Some (record { member = i; before = before; kind = k.kind }) else sought x (i + 1) (behind before k) (front ++ m ∷ rest)) apart.0 ∙ later.1)
+    let later = sought_is x (i + 1) (behind before k) front m rest is apart.1 in (
+      later.0,
+      ap (λ b. if b then Some (record { member = i; before = before; kind = k.kind }) else sought x (i + 1) (behind before k)
+          (front ++ m ∷ rest)) apart.0 ∙ later.1,
+    )
 
 last_of_both : (before : Option ℕ) (front rest : List MemberOfType) → last_attribute before (front ++ rest) ≡ last_attribute (last_attribute before front) rest
 last_of_both before [] rest = refl
@@ -45,7 +91,8 @@ last_of_none : (before : Option ℕ) (ms : List MemberOfType) → AllByRecursion
 last_of_none before [] none = refl
 last_of_none before (m ∷ ms) none = ap (λ b. last_attribute (if b then Some m.name else before) ms) none.0 ∙ last_of_none before ms none.1
 
-last_is : (front : List MemberOfType) (m : MemberOfType) (between : List MemberOfType) (y : ℕ) → m.name ≡ y → is_attribute m.kind ≡ true → AllByRecursion (λ k. is_attribute k.kind ≡ false) between
+last_is : (front : List MemberOfType) (m : MemberOfType) (between : List MemberOfType) (y : ℕ) → m.name ≡ y → is_attribute m.kind ≡ true
+    → AllByRecursion (λ k. is_attribute k.kind ≡ false) between
     → last_attribute None (front ++ m ∷ between) ≡ Some y
 last_is front m between y is attribute none =
     last_of_both None front (m ∷ between)
@@ -84,7 +131,8 @@ module _ (d : Description) (bytes : List ℕ) (met : Node → Result Given Fault
   abbrev Starts : Object → Option ℕ → Choice → Place → Type 0
   Starts o before c s = IsStart d met p bytes o before c s
 
-  member_starts : (o : Object) (m : Sought) (k : MemberKind) (h : Head) → is_attribute k ≡ true → IsMember d met p bytes o m k h → Starts o m.before (choice_of k) (start_of h)
+  member_starts : (o : Object) (m : Sought) (k : MemberKind) (h : Head) → is_attribute k ≡ true → IsMember d met p bytes o m k h
+      → Starts o m.before (choice_of k) (start_of h)
   member_starts o m (Attribute f) h attribute is = subst (Starts o m.before f.choice) (sym (begins_at bytes (origin_of o m) o.stream is.0 f h is.2)) is.1
   member_starts o m _ h attribute is = absurd (cc)
 
@@ -97,28 +145,37 @@ module _ (d : Description) (bytes : List ℕ) (met : Node → Result Given Fault
 
   -- the object at the holder's path is the one that the rule asked for
   begun : (x : ℕ) (h : Head) (o : Object) → IsMemberOf d met p bytes x h → met (head_node (parent p)) ≡ Ok (givens.Head (heads.Object o))
-      → (before : Option ℕ) (front : List MemberOfType) (m : MemberOfType) (rest : List MemberOfType) → members_of d o.type_number ≡ front ++ m ∷ rest → m.name ≡ x → is_attribute m.kind ≡ true
+      → (before : Option ℕ) (front : List MemberOfType) (m : MemberOfType) (rest : List MemberOfType) → members_of d o.type_number ≡ front ++ m ∷ rest
+      → m.name ≡ x → is_attribute m.kind ≡ true
       → AllByRecursion (λ k. (k.name == x) ≡ false) front → last_attribute None front ≡ before → Starts o before (choice_of m.kind) (start_of h)
   begun x h o i holder before front m rest members named attribute apart last_one =
       let object : i.object ≡ o = one_object i.object o (sym i.asked ∙ holder) in
       let found = sought_is x 0 None front m rest named apart in
-      let here : sought x 0 None (members_of d i.object.type_number) ≡ Some (record { member = found.0; before = last_attribute None front; kind = m.kind }) = ap (λ (k : Object). sought x 0 None (members_of d k.type_number)) object ∙ ap (sought x 0 None) members ∙ found.1 in
+      let here : sought x 0 None (members_of d i.object.type_number) ≡ Some
+      (record { member = found.0; before = last_attribute None front; kind = m.kind }) =
+      ap (λ (k : Object). sought x 0 None (members_of d k.type_number)) object ∙ ap (sought x 0 None) members ∙ found.1 in
       let member : record { member = found.0; before = last_attribute None front; kind = m.kind } ≡ i.member = one_member _ i.member (sym here ∙ i.found) in
       let front_is : i.member.before ≡ before = ap (λ (k : Sought). k.before) (sym member) ∙ last_one in
       let own = member_starts i.object i.member i.member.kind h (ap (λ (k : Sought). is_attribute k.kind) (sym member) ∙ attribute) i.is in
       let kind : i.member.kind ≡ m.kind = ap (λ (k : Sought). k.kind) (sym member) in
       let read = subst (λ k. Starts i.object i.member.before (choice_of k) (start_of h)) kind own in
-      subst (λ (k : Object). Starts k before (choice_of m.kind) (start_of h)) object (subst (λ c. Starts i.object c (choice_of m.kind) (start_of h)) front_is read)
+      subst (λ (k : Object). Starts k before (choice_of m.kind) (start_of h)) object
+      (subst (λ c. Starts i.object c (choice_of m.kind) (start_of h)) front_is read)
 
-head_begun : (d : Description) (bytes : List ℕ) (opened : List Node) (p : Trail) (x : ℕ) (h : Head) → last p ≡ Some (Name x) → from_nothing d bytes opened (head_node p) ≡ Ok (givens.Head h) → IsMemberOf d (from_nothing d bytes opened) p bytes x h
-head_begun d bytes opened p x h is e = subst (λ o. IsHead d (from_nothing d bytes opened) p bytes o h) is (by_shape d bytes opened (head_node p) (givens.Head h) e)
+head_begun : (d : Description) (bytes : List ℕ) (opened : List Node) (p : Trail) (x : ℕ) (h : Head) → last p ≡ Some (Name x)
+    → from_nothing d bytes opened (head_node p) ≡ Ok (givens.Head h) → IsMemberOf d (from_nothing d bytes opened) p bytes x h
+head_begun d bytes opened p x h is e = subst (λ o. IsHead d (from_nothing d bytes opened) p bytes o h) is
+    (by_shape d bytes opened (head_node p) (givens.Head h) e)
 
 pub first_attributes_begin : FirstAttributesBegin
 first_attributes_begin d bytes opened p x h o is e holder one =
-    sym (begun d bytes (from_nothing d bytes opened) p x h o (head_begun d bytes opened p x h is e) holder None one.front one.member one.rest one.is one.named one.attribute one.apart (last_of_none None one.front one.none))
+    sym (begun d bytes (from_nothing d bytes opened) p x h o
+    (head_begun d bytes opened p x h is e) holder None one.front one.member one.rest one.is one.named one.attribute one.apart
+    (last_of_none None one.front one.none))
 
 pub attributes_touch : AttributesTouch
 attributes_touch d bytes opened p x y h o is e holder two =
-    let starts = begun d bytes (from_nothing d bytes opened) p x h o (head_begun d bytes opened p x h is e) holder (Some y) (two.front ++ two.first ∷ two.between) two.second two.rest two.is two.named two.second_attribute two.apart
+    let starts = begun d bytes (from_nothing d bytes opened) p x h o (head_begun d bytes opened p x h is e) holder (Some y)
+    (two.front ++ two.first ∷ two.between) two.second two.rest two.is two.named two.second_attribute two.apart
     (last_is two.front two.first two.between y two.first_named two.attribute two.none) in
     record { place = starts.0; ends = starts.1; begins = begins_after two.second.kind starts.0 (start_of h) two.second_attribute starts.2 }

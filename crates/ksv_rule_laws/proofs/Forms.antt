@@ -48,7 +48,12 @@ no_stream p h _ fits = tt
 module _ (d : Description) (bytes : List ℕ) (opened : List Node) where
   -- the head of a value
   value_is : (p : Trail) (v : Value) → IsMadeOf d (from_nothing d bytes opened) p bytes v → HasHead d bytes opened p v
-  value_is p v m = record { head = m.head; answered = m.asked; fits = value_fits d (from_nothing d bytes opened) p bytes m.head v (heads_are_read d bytes opened p m.head m.asked) m.is }
+  value_is p v m = record {
+    head = m.head;
+    answered = m.asked;
+    fits =
+        value_fits d (from_nothing d bytes opened) p bytes m.head v (heads_are_read d bytes opened p m.head m.asked) m.is;
+  }
 
   form_is : (k : NodeKind) (p : Trail) (g : Given) → IsAnswer d (from_nothing d bytes opened) p bytes k g → HasForm k g
   form_is nodes.Head p (givens.Head h) is = tt

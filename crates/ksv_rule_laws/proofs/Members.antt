@@ -1,5 +1,28 @@
 -- How the members of a description read: the member of a place or a name, and the case that a switch chose.
-use Rattle.std.proofs.Common.{◌≡◌, ◌∙◌, ℕ, suc, ◌+◌, Bool, true, false, if◌then◌else◌, List, [], ◌∷◌, slice_get, Option, Some, None, Result, refl, sym, ap, subst, arith}
+use Rattle.std.proofs.Common.{
+  ◌≡◌,
+  ◌∙◌,
+  ℕ,
+  suc,
+  ◌+◌,
+  Bool,
+  true,
+  false,
+  if◌then◌else◌,
+  List,
+  [],
+  ◌∷◌,
+  slice_get,
+  Option,
+  Some,
+  None,
+  Result,
+  refl,
+  sym,
+  ap,
+  subst,
+  arith,
+}
 use Rattle.ksv_expr_tree.specs.Tree.{Tree}
 use Rattle.ksv_expr_value.specs.Setting.{Setting}
 use Rattle.ksv_expr_value.specs.Trail.{Trail}
@@ -39,7 +62,8 @@ first_there is_right i (k ∷ cases) c e = by_right (is_right k) e (first_there 
     found : Chosen
     found = record { case = Some i; content = k.content }
 
-    by_right : (b : Bool) → (if b then Some found else first_case is_right (i + 1) cases) ≡ Some c → (first_case is_right (i + 1) cases ≡ Some c → IsOneOf cases (i + 1) c) → IsOneOf (k ∷ cases) i c
+    by_right : (b : Bool) → (if b then Some found else first_case is_right (i + 1) cases) ≡ Some c
+        → (first_case is_right (i + 1) cases ≡ Some c → IsOneOf cases (i + 1) c) → IsOneOf (k ∷ cases) i c
     by_right true h later =
         let same : found ≡ c = one_chosen found c h in
         let at : i ≡ i + 0 = omega arith in
@@ -76,7 +100,8 @@ module _ (met : Node → Result Given Fault) (here : Trail) (bytes : List ℕ) w
   pub choice_is : (at : Setting) (choice : Choice) → Says (λ o. IsChosen choice o) (choose at choice)
   unfolding choose switched
   choice_is at (Always c) = refl
-  choice_is at (Switch on cases) = join met here bytes _ _ (expression at on) _ (expression_is met here bytes at on) (λ v is. switch_is on cases v (case_for v cases) refl)
+  choice_is at (Switch on cases) = join met here bytes _ _ (expression at on) _ (expression_is met here bytes at on)
+      (λ v is. switch_is on cases v (case_for v cases) refl)
 
   -- the content of a case is the one by which something is read
   pub content_found : (choice : Choice) (case : Option ℕ) → Says (λ c. (k : Content) → IsContentOf choice case k → k ≡ c) (content_of choice case)
@@ -91,7 +116,8 @@ module _ (met : Node → Result Given Fault) (here : Trail) (bytes : List ℕ) w
       by_case (Some c) = λ k is. sym is.2 ∙ sym (ap (λ (x : Case). x.content) (one_case c is.0 is.1))
 
   -- what the member of a place is, and how it reads
-  pub kind_found : (d : Description) (r : MemberRef) → Says (λ k. (m : MemberOfType) × (slice_get (members_of d r.type_number) r.member ≡ Some m) × (m.kind ≡ k)) (kind_of d r)
+  pub kind_found : (d : Description) (r : MemberRef)
+      → Says (λ k. (m : MemberOfType) × (slice_get (members_of d r.type_number) r.member ≡ Some m) × (m.kind ≡ k)) (kind_of d r)
   unfolding kind_of
   kind_found d r = by_member (slice_get (members_of d r.type_number) r.member)
     where
@@ -103,7 +129,8 @@ module _ (met : Node → Result Given Fault) (here : Trail) (bytes : List ℕ) w
   unfolding field_of
   field_found d r = join met here bytes _ _ (kind_of d r) (λ k. read_by k) (kind_found d r) (λ k is. by_kind k is.0 is.1 is.2)
     where
-      by_kind : (k : MemberKind) (m : MemberOfType) → slice_get (members_of d r.type_number) r.member ≡ Some m → m.kind ≡ k → Answers met here bytes (λ f. IsFieldOf d r f) (read_by k)
+      by_kind : (k : MemberKind) (m : MemberOfType) → slice_get (members_of d r.type_number) r.member ≡ Some m → m.kind ≡ k
+          → Answers met here bytes (λ f. IsFieldOf d r f) (read_by k)
       by_kind (Attribute f) m is kind = (m, is, subst (λ k. Reads k f) (sym kind) refl)
       by_kind (ParseInstance at io f) m is kind = (m, is, subst (λ k. Reads k f) (sym kind) refl)
       by_kind _ m is kind = tt

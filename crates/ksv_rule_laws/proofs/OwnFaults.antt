@@ -1,9 +1,51 @@
 -- No expression fails as a circle: that is a fault of nodes alone.
-use Rattle.std.proofs.Common.{codes, bytes_eq, ℕ, ◌-◌, ◌+◌, Bool, true, false, ◌==◌, nat_lt, if◌then◌else◌, ℤ, pos, negsuc, List, [], ◌∷◌, Option, Some, None, Result, Ok, Err}
+use Rattle.std.proofs.Common.{
+  codes,
+  bytes_eq,
+  ℕ,
+  ◌-◌,
+  ◌+◌,
+  Bool,
+  true,
+  false,
+  ◌==◌,
+  nat_lt,
+  if◌then◌else◌,
+  ℤ,
+  pos,
+  negsuc,
+  List,
+  [],
+  ◌∷◌,
+  Option,
+  Some,
+  None,
+  Result,
+  Ok,
+  Err,
+}
 use Rattle.std.specs.Ordering.{int_eq}
 use Rattle.std.specs.declared.cmp.Ordering.{Ordering}
 use Rattle.ksv_basics.specs.Plan.{Plan, Answer, Fail, Ask, bind, translate}
-use Rattle.ksv_expr_tree.specs.Tree.{Tree, Word, no_arguments, argument, literal, named, special, member, unary, binary, logical, choice, field, special_field, call, index, cast}
+use Rattle.ksv_expr_tree.specs.Tree.{
+  Tree,
+  Word,
+  no_arguments,
+  argument,
+  literal,
+  named,
+  special,
+  member,
+  unary,
+  binary,
+  logical,
+  choice,
+  field,
+  special_field,
+  call,
+  index,
+  cast,
+}
 use Rattle.ksv_expr_tree.specs.declared.tree.UnaryOperator.{UnaryOperator}
 use Rattle.ksv_expr_tree.specs.declared.tree.UnaryOperator.TheVariants as signs
 use Rattle.ksv_expr_tree.specs.declared.tree.BinaryOperator.{BinaryOperator}
@@ -27,11 +69,80 @@ use Rattle.ksv_expr_meaning.specs.declared.want.Want.TheVariants as wants
 use Rattle.ksv_expr_meaning.specs.Methods.{method_named}
 use Rattle.ksv_expr_meaning.specs.Integers.{floored_quotient, floored_remainder, shifted_left, shifted_right, places}
 use Rattle.ksv_expr_meaning.specs.Texts.{joined, substring, exact, number_of, text_number, written_in}
-use Rattle.ksv_expr_meaning.specs.Operators.{exactly, shifted_left_by, shifted_right_by, matched, ordered, integers_of, same_truth, joined_text, texts_of, members_of, unary_of, as_value, substring_of}
+use Rattle.ksv_expr_meaning.specs.Operators.{
+  exactly,
+  shifted_left_by,
+  shifted_right_by,
+  matched,
+  ordered,
+  integers_of,
+  same_truth,
+  joined_text,
+  texts_of,
+  members_of,
+  unary_of,
+  as_value,
+  substring_of,
+}
 use Rattle.ksv_expr_meaning.specs.Heard.{Valued, Opened, Numbered, Decided, Read}
 use Rattle.ksv_expr_value.specs.Setting.{Setting, Element, NoElement, ElementAt, Made}
 use Rattle.ksv_expr_meaning.specs.Asked.{Eval, raise, given, value_for, opened_for, number_for, truth_for, bytes_for}
-use Rattle.ksv_expr_meaning.specs.Meaning.{in_path, member_path, member_value, element_path, element_value, element_count, holder_of, stream_of, index_value, element_read, special_value, ranged_member, enum_member, in_truth_value, truth_value, decides, same_bytes, bytes_with, integer_and, truth_and, text_and, bytes_and, member_and, binary_of, distance, size_to, stream_size, at_end, stream_method, list_size, last_element, list_method, method_of, method_by, field_of, is_own_stream, object_special, special_of, decoded_text, decoded_by, text_in, bytes_call, call_one, call_two, first_byte, byte_from, byte_at, list_at, bytes_at, item_at, object_of_type, object_as, cast_to, value_of}
+use Rattle.ksv_expr_meaning.specs.Meaning.{
+  in_path,
+  member_path,
+  member_value,
+  element_path,
+  element_value,
+  element_count,
+  holder_of,
+  stream_of,
+  index_value,
+  element_read,
+  special_value,
+  ranged_member,
+  enum_member,
+  in_truth_value,
+  truth_value,
+  decides,
+  same_bytes,
+  bytes_with,
+  integer_and,
+  truth_and,
+  text_and,
+  bytes_and,
+  member_and,
+  binary_of,
+  distance,
+  size_to,
+  stream_size,
+  at_end,
+  stream_method,
+  list_size,
+  last_element,
+  list_method,
+  method_of,
+  method_by,
+  field_of,
+  is_own_stream,
+  object_special,
+  special_of,
+  decoded_text,
+  decoded_by,
+  text_in,
+  bytes_call,
+  call_one,
+  call_two,
+  first_byte,
+  byte_from,
+  byte_at,
+  list_at,
+  bytes_at,
+  item_at,
+  object_of_type,
+  object_as,
+  cast_to,
+  value_of,
+}
 
 -- ---- plans
 
@@ -41,21 +152,25 @@ FailsAs P (Answer a) = Unit {0}
 FailsAs P (Fail e) = P e
 FailsAs {R = R} P (Ask q k) = (r : R q) → FailsAs P (k r)
 
-pub fails_bind : {Q : Type 0} {R : Q → Type 0} {F A B : Type 0} (P : F → Type 0) (p : Plan Q R F A) (f : A → Plan Q R F B) → FailsAs P p → ((a : A) → FailsAs P (f a)) → FailsAs P (bind p f)
+pub fails_bind : {Q : Type 0} {R : Q → Type 0} {F A B : Type 0} (P : F → Type 0) (p : Plan Q R F A) (f : A → Plan Q R F B) → FailsAs P p
+    → ((a : A) → FailsAs P (f a)) → FailsAs P (bind p f)
 unfolding bind
 fails_bind P (Answer a) f h g = g a
 fails_bind P (Fail e) f h g = h
 fails_bind P (Ask q k) f h g = λ r. fails_bind P (k r) f (h r) g
 
-pub fails_if : {Q : Type 0} {R : Q → Type 0} {F A : Type 0} (P : F → Type 0) (b : Bool) (p q : Plan Q R F A) → FailsAs P p → FailsAs P q → FailsAs P (if b then p else q)
+pub fails_if : {Q : Type 0} {R : Q → Type 0} {F A : Type 0} (P : F → Type 0) (b : Bool) (p q : Plan Q R F A) → FailsAs P p → FailsAs P q
+    → FailsAs P (if b then p else q)
 fails_if P true p q g h = g
 fails_if P false p q g h = h
 
-pub fails_translate : {Q Q' : Type 0} {R : Q → Type 0} {R' : Q' → Type 0} {F F' A : Type 0} (P : F → Type 0) (P' : F' → Type 0) (t : (q : Q) → Plan Q' R' F' (R q)) (raise : F → F') (p : Plan Q R F A)
+pub fails_translate : {Q Q' : Type 0} {R : Q → Type 0} {R' : Q' → Type 0} {F F' A : Type 0} (P : F → Type 0) (P' : F' → Type 0)
+    (t : (q : Q) → Plan Q' R' F' (R q)) (raise : F → F') (p : Plan Q R F A)
     → ((q : Q) → FailsAs P' (t q)) → ((e : F) → P e → P' (raise e)) → FailsAs P p → FailsAs P' (translate t raise p)
 fails_translate P P' t raise (Answer a) each so h = tt
 fails_translate P P' t raise (Fail e) each so h = so e h
-fails_translate P P' t raise (Ask q k) each so h = fails_bind P' (t q) (λ r. translate t raise (k r)) (each q) (λ r. fails_translate P P' t raise (k r) each so (h r))
+fails_translate P P' t raise (Ask q k) each so h =
+    fails_bind P' (t q) (λ r. translate t raise (k r)) (each q) (λ r. fails_translate P P' t raise (k r) each so (h r))
 
 -- ---- kinds
 
@@ -265,7 +380,8 @@ truth_value_own v = join _ _ (truth_own v) (λ b. tt)
 
 same_bytes_own : (f t f' t' : ℕ) → Own (same_bytes f t f' t')
 unfolding same_bytes
-same_bytes_own f t f' t' = choose ((t - f) == (t' - f')) _ _ (join _ _ (bytes_for_own (wants.Bytes f t)) (λ a. join _ _ (bytes_for_own (wants.Bytes f' t')) (λ b. tt))) tt
+same_bytes_own f t f' t' = choose ((t - f) == (t' - f')) _ _
+    (join _ _ (bytes_for_own (wants.Bytes f t)) (λ a. join _ _ (bytes_for_own (wants.Bytes f' t')) (λ b. tt))) tt
 
 bytes_with_own : (op : BinaryOperator) (f t f' t' : ℕ) → Own (bytes_with op f t f' t')
 unfolding bytes_with
@@ -333,11 +449,15 @@ unfolding last_element
 last_own l = join _ _ (count_own l) (λ n. element_own l _)
 
 -- what holds of no method and of each, by their names, holds of the method of any name
-pub by_method : (P : Option _ → Type 0) (name : List ℕ) → P None → P (method_named (codes "first")) → P (method_named (codes "last")) → P (method_named (codes "size")) → P (method_named (codes "length")) → P (method_named (codes "reverse"))
-    → P (method_named (codes "substring")) → P (method_named (codes "to_i")) → P (method_named (codes "to_s")) → P (method_named (codes "pos")) → P (method_named (codes "eof")) → P (method_named name)
+pub by_method : (P : Option _ → Type 0) (name : List ℕ) → P None → P (method_named (codes "first")) → P (method_named (codes "last"))
+    → P (method_named (codes "size")) → P (method_named (codes "length")) → P (method_named (codes "reverse"))
+    → P (method_named (codes "substring")) → P (method_named (codes "to_i")) → P (method_named (codes "to_s")) → P (method_named (codes "pos"))
+    → P (method_named (codes "eof")) → P (method_named name)
 by_method P name none first last size length reverse part integer text place end =
-    pick (bytes_eq name (codes "first")) _ _ first (pick (bytes_eq name (codes "last")) _ _ last (pick (bytes_eq name (codes "size")) _ _ size (pick (bytes_eq name (codes "length")) _ _ length
-    (pick (bytes_eq name (codes "reverse")) _ _ reverse (pick (bytes_eq name (codes "substring")) _ _ part (pick (bytes_eq name (codes "to_i")) _ _ integer (pick (bytes_eq name (codes "to_s")) _ _ text
+    pick (bytes_eq name (codes "first")) _ _ first (pick (bytes_eq name (codes "last")) _ _ last
+    (pick (bytes_eq name (codes "size")) _ _ size (pick (bytes_eq name (codes "length")) _ _ length
+    (pick (bytes_eq name (codes "reverse")) _ _ reverse
+    (pick (bytes_eq name (codes "substring")) _ _ part (pick (bytes_eq name (codes "to_i")) _ _ integer (pick (bytes_eq name (codes "to_s")) _ _ text
     (pick (bytes_eq name (codes "pos")) _ _ place (pick (bytes_eq name (codes "eof")) _ _ end none)))))))))
   where
     pick : (b : Bool) (x y : Option _) → P x → P y → P (if b then x else y)
@@ -348,12 +468,15 @@ method_own : (s : Setting) (own : Bool) (v : Value) (name : List ℕ) → Own (m
 unfolding method_of list_method stream_method
 method_own s own (values.Int a) name = by_method (λ m. Own (method_by s own (values.Int a) m)) name tt tt tt tt tt tt tt tt tt tt tt
 method_own s own (values.Bool b) name = by_method (λ m. Own (method_by s own (values.Bool b) m)) name tt tt tt tt tt tt tt tt tt tt tt
-method_own s own (values.Text t) name = by_method (λ m. Own (method_by s own (values.Text t) m)) name tt tt tt tt tt tt tt (given_own _ (number_own (pos 10) t)) tt tt tt
+method_own s own (values.Text t) name = by_method (λ m. Own (method_by s own (values.Text t) m)) name tt tt tt tt tt tt tt
+    (given_own _ (number_own (pos 10) t)) tt tt tt
 method_own s own (values.Bytes f t) name = by_method (λ m. Own (method_by s own (values.Bytes f t) m)) name tt tt tt tt tt tt tt tt tt tt tt
 method_own s own (values.Member e n) name = by_method (λ m. Own (method_by s own (values.Member e n) m)) name tt tt tt tt tt tt tt tt tt tt tt
 method_own s own (values.Object q) name = by_method (λ m. Own (method_by s own (values.Object q) m)) name tt tt tt tt tt tt tt tt tt tt tt
-method_own s own (values.List l) name = by_method (λ m. Own (method_by s own (values.List l) m)) name tt (element_own l (pos 0)) (last_own l) (list_size_own l) tt tt tt tt tt tt tt
-method_own s own (values.Stream w) name = by_method (λ m. Own (method_by s own (values.Stream w) m)) name tt tt tt (stream_size_own w) tt tt tt tt tt (choose own _ _ (distance_own (byte_of s.place) w.from) tt) (choose own _ _ end_own tt)
+method_own s own (values.List l) name = by_method (λ m. Own (method_by s own (values.List l) m)) name tt (element_own l (pos 0)) (last_own l)
+    (list_size_own l) tt tt tt tt tt tt tt
+method_own s own (values.Stream w) name = by_method (λ m. Own (method_by s own (values.Stream w) m)) name tt tt tt (stream_size_own w) tt tt tt tt tt
+    (choose own _ _ (distance_own (byte_of s.place) w.from) tt) (choose own _ _ end_own tt)
 
 field_own : (s : Setting) (own : Bool) (v : Value) (n : Word) → Own (field_of s own v n)
 unfolding field_of
@@ -468,13 +591,15 @@ value_own s (special n) = special_own s n
 value_own s (member m) = enum_own m.given
 value_own s (unary op e) = join _ _ (value_own s e) (λ v. given_own _ (unary_own op v))
 value_own s (binary op l r) = join _ _ (value_own s l) (λ v. join _ _ (value_own s r) (λ w. binary_own op v w))
-value_own s (logical op l r) = join _ _ (value_own s l) (λ v. join _ _ (truth_own v) (λ b. choose (decides op b) _ _ tt (join _ _ (value_own s r) (λ w. truth_value_own w))))
+value_own s (logical op l r) = join _ _ (value_own s l)
+    (λ v. join _ _ (truth_own v) (λ b. choose (decides op b) _ _ tt (join _ _ (value_own s r) (λ w. truth_value_own w))))
 value_own s (choice c y n) = join _ _ (value_own s c) (λ v. join _ _ (truth_own v) (λ b. choose b _ _ (value_own s y) (value_own s n)))
 value_own s (field e n) = join _ _ (value_own s e) (λ v. field_own s (is_own_stream e) v n)
 value_own s (special_field e n) = join _ _ (value_own s e) (λ v. special_of_own v n)
 value_own s (call e m no_arguments) = tt
 value_own s (call e m (argument a no_arguments)) = join _ _ (value_own s e) (λ v. join _ _ (value_own s a) (λ x. call_one_own v m x))
-value_own s (call e m (argument a (argument b no_arguments))) = join _ _ (value_own s e) (λ v. join _ _ (value_own s a) (λ x. join _ _ (value_own s b) (λ y. call_two_own v m x y)))
+value_own s (call e m (argument a (argument b no_arguments))) =
+    join _ _ (value_own s e) (λ v. join _ _ (value_own s a) (λ x. join _ _ (value_own s b) (λ y. call_two_own v m x y)))
 value_own s (call e m (argument a (argument b (argument c more)))) = tt
 value_own s (index e i) = join _ _ (value_own s e) (λ v. join _ _ (value_own s i) (λ w. item_own v w))
 value_own s (cast e t) = join _ _ (value_own s e) (λ v. cast_own v t.number)

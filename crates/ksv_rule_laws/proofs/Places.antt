@@ -28,16 +28,46 @@ use Rattle.ksv_nodes.specs.Rule.{head_node, end_node, rest_node}
 use Rattle.ksv_rule_meaning.specs.Fields.{members_of, Sought, last_attribute}
 use Rattle.ksv_rule_meaning.specs.Heads.{origin_of, instance_setting}
 use Rattle.ksv_rule_meaning.specs.FromNothing.{from_nothing}
-use Rattle.ksv_rule_laws.specs.Laws.{IsOfLeaf, IsOfHead, IsEndIn, IsPlaceIn, IsStreamIn, IsHomeIn, IsHolderIn, IsHeadIn, IsValueIn, IsIn, PlacesAreInFile, EndsAt}
+use Rattle.ksv_rule_laws.specs.Laws.{
+  IsOfLeaf,
+  IsOfHead,
+  IsEndIn,
+  IsPlaceIn,
+  IsStreamIn,
+  IsHomeIn,
+  IsHolderIn,
+  IsHeadIn,
+  IsValueIn,
+  IsIn,
+  PlacesAreInFile,
+  EndsAt,
+}
 use Rattle.ksv_rule_laws.proofs.Starts.{of_start, at_most}
 use Rattle.ksv_rule_laws.proofs.Forms.{value_fits, no_stream}
 use Rattle.ksv_rule_laws.proofs.Sources.{heads_are_read}
 use Rattle.ksv_rule_laws.proofs.Ranges.{IsRanged, IsElementIn, IsKnown, expression_in, stream_in}
-use Rattle.ksv_rule_laws.proofs.Shapes.{IsHeadAt, IsStart, IsMember, IsElementOf, IsHead, IsPlain, IsCalculatedIn, IsValueAt, IsMadeOf, IsFieldsEnd, IsObjectEnd, IsEnd, IsRest, IsAnswer}
+use Rattle.ksv_rule_laws.proofs.Shapes.{
+  IsHeadAt,
+  IsStart,
+  IsMember,
+  IsElementOf,
+  IsHead,
+  IsPlain,
+  IsCalculatedIn,
+  IsValueAt,
+  IsMadeOf,
+  IsFieldsEnd,
+  IsObjectEnd,
+  IsEnd,
+  IsRest,
+  IsAnswer,
+}
 use Rattle.ksv_rule_laws.proofs.Shaping.{by_shapes}
 
 -- what the nodes that are asked answer lies in the file
-module _ (d : Description) (bytes : List ℕ) (opened : List Node) (met : Node → Result Given Fault) (same : (m : Node) (g : Given) → met m ≡ Ok g → from_nothing d bytes opened m ≡ Ok g) (lies : (m : Node) (g : Given) → met m ≡ Ok g → IsKnown (length bytes) g) (here : Trail) where
+module _ (d : Description) (bytes : List ℕ) (opened : List Node) (met : Node → Result Given Fault)
+    (same : (m : Node) (g : Given) → met m ≡ Ok g → from_nothing d bytes opened m ≡ Ok g)
+    (lies : (m : Node) (g : Given) → met m ≡ Ok g → IsKnown (length bytes) g) (here : Trail) where
   abbrev size : ℕ
   size = length bytes
 
@@ -52,21 +82,32 @@ module _ (d : Description) (bytes : List ℕ) (opened : List Node) (met : Node �
 
   -- ---- heads
 
-  at_in : (origin : Origin) (w : Stream) (s : Place) (f : Field) (h : Head) → IsStreamIn size origin.home → IsStreamIn size w → byte_of s ≤ size → IsHeadAt bytes origin w s f h → IsHeadIn size h
+  at_in : (origin : Origin) (w : Stream) (s : Place) (f : Field) (h : Head) → IsStreamIn size origin.home → IsStreamIn size w → byte_of s ≤ size
+      → IsHeadAt bytes origin w s f h → IsHeadIn size h
   at_in origin w s f (heads.Absent at) home within begins is = subst (IsPlaceIn size) (sym is) begins
   at_in origin w s f (heads.Calc c) home within begins is = absurd is
   at_in origin w s f (heads.Leaf l) home within begins is =
-      let end = end_is_in w.to within.1 in
-      (subst (λ (p : Place). byte_of p ≤ size) (sym is.from) begins, omega (arith, is.to.inside, end), omega (arith, is.end.inside, end), subst (IsStreamIn size) (sym is.home) home)
+      let end = end_is_in w.to within.1 in (
+        subst (λ (p : Place). byte_of p ≤ size) (sym is.from) begins,
+        omega (arith, is.to.inside, end),
+        omega (arith, is.end.inside, end),
+        subst (IsStreamIn size) (sym is.home) home,
+      )
   at_in origin w s f (heads.Object o) home within begins is =
       let end = end_is_in w.to within.1 in
       let from : o.stream.from ≤ size = elim is.from [
         | inl own ↦ subst (λ n. n ≤ size) (sym own) within.0
         | inr at ↦ subst (λ n. n ≤ size) (sym at) begins
-      ] in
-      (subst (λ (p : Place). byte_of p ≤ size) (sym is.start) begins, (from, is_end_in o.stream.to (omega (arith, is.to.inside, end))), subst (IsHomeIn size) (sym is.read_by) (subst (IsStreamIn size) (sym is.home) home))
-  at_in origin w s f (heads.List g) home within begins is =
-      (subst (λ (p : Place). byte_of p ≤ size) (sym is.start) begins, subst (IsStreamIn size) (sym is.stream) within, subst (λ (o : Origin). IsStreamIn size o.home) (sym is.is) home)
+      ] in (
+        subst (λ (p : Place). byte_of p ≤ size) (sym is.start) begins,
+        (from, is_end_in o.stream.to (omega (arith, is.to.inside, end))),
+        subst (IsHomeIn size) (sym is.read_by) (subst (IsStreamIn size) (sym is.home) home),
+      )
+  at_in origin w s f (heads.List g) home within begins is = (
+    subst (λ (p : Place). byte_of p ≤ size) (sym is.start) begins,
+    subst (IsStreamIn size) (sym is.stream) within,
+    subst (λ (o : Origin). IsStreamIn size o.home) (sym is.is) home,
+  )
 
   abbrev IsObjectIn : Object → Type 0
   IsObjectIn o = IsHeadIn size (heads.Object o)
@@ -85,7 +126,8 @@ module _ (d : Description) (bytes : List ℕ) (opened : List Node) (met : Node �
     | inl out ↦ subst (IsHeadIn size) out.1 tt
     | inr at ↦
         let stream = stream_in met here bytes lies (instance_setting here (parent here) o) io at.stream (within.1, tt) at.named in
-        at_in (origin_of o m) at.stream (at_byte at.byte) f h within.1 stream (at_most at.byte size (omega (arith, at.inside, end_is_in at.stream.to stream.1))) at.is
+        at_in (origin_of o m) at.stream (at_byte at.byte) f h within.1 stream
+        (at_most at.byte size (omega (arith, at.inside, end_is_in at.stream.to stream.1))) at.is
   ]
   member_in o m (ValueInstance v) h within is = elim is [
     | inl out ↦ subst (IsHeadIn size) out.1 tt
@@ -103,7 +145,8 @@ module _ (d : Description) (bytes : List ℕ) (opened : List Node) (met : Node �
 
   head_in : (step : Option Step) (h : Head) → IsHead d met here bytes step h → IsHeadIn size h
   head_in None h is = subst (IsHeadIn size) is (at_most 0 size (omega arith), (omega arith, tt), tt)
-  head_in (Some (steps.Name x)) h is = member_in is.object is.member is.member.kind h (lies (head_node (parent here)) (givens.Head (heads.Object is.object)) is.asked) is.is
+  head_in (Some (steps.Name x)) h is = member_in is.object is.member is.member.kind h
+      (lies (head_node (parent here)) (givens.Head (heads.Object is.object)) is.asked) is.is
   head_in (Some (steps.Index i)) h is = element_in i h is
 
   -- ---- ends
@@ -113,7 +156,8 @@ module _ (d : Description) (bytes : List ℕ) (opened : List Node) (met : Node �
   fields_end_in start (Some z) e begins is = subst (λ (n : Place). byte_of n ≤ size) is.2 (rw (of_aligned is.0) (ends_in here (steps.Name z) is.0 is.1))
 
   object_end_in : (o : Object) (x : ObjectEnd) (e : Place) → IsObjectIn o → IsObjectEnd d met here bytes o x e → byte_of e ≤ size
-  object_end_in o endings.OfStream e within is = subst (λ (n : Place). byte_of n ≤ size) is (at_most (end_in bytes o.stream.to) size (end_is_in o.stream.to within.1.1))
+  object_end_in o endings.OfStream e within is = subst (λ (n : Place). byte_of n ≤ size) is
+      (at_most (end_in bytes o.stream.to) size (end_is_in o.stream.to within.1.1))
   object_end_in o endings.ByFields e within is = fields_end_in o.start (last_attribute None (members_of d o.type_number)) e within.0 is
 
   end_in_file : (h : Head) (e : Place) → IsHeadIn size h → IsEnd d met here bytes h e → byte_of e ≤ size
@@ -128,7 +172,8 @@ module _ (d : Description) (bytes : List ℕ) (opened : List Node) (met : Node �
 
   rest_in : (step : Option Step) (count : ℕ) (place : Place) → IsRest d met here bytes step count place → byte_of place ≤ size
   rest_in (Some (steps.Index i)) count place is = elim is [
-    | inl whole ↦ let list : IsHeadIn size (heads.List whole.1.list) = lies _ (givens.Head (heads.List whole.1.list)) whole.1.answered in subst (λ (n : Place). byte_of n ≤ size) whole.1.start list.0
+    | inl whole ↦ let list : IsHeadIn size (heads.List whole.1.list) = lies _ (givens.Head (heads.List whole.1.list)) whole.1.answered in
+        subst (λ (n : Place). byte_of n ≤ size) whole.1.start list.0
     | inr from ↦ elim from [
       | inl one ↦ lies (end_node here) (givens.End place true) one.1
       | inr more ↦ lies (rest_node more.2.path) (givens.Rest count place) more.2.rested
@@ -190,4 +235,5 @@ known_is_in n (givens.Rest count place) known = known
 
 pub places_are_in_file : PlacesAreInFile
 places_are_in_file d bytes opened n g h =
-    known_is_in (length bytes) g (by_shapes d bytes opened (λ n' g'. IsKnown (length bytes) g') (λ met same lies n' g' is. answer_in d bytes opened met same lies n'.path n'.kind g' is) n g h)
+    known_is_in (length bytes) g (by_shapes d bytes opened (λ n' g'. IsKnown (length bytes) g')
+    (λ met same lies n' g' is. answer_in d bytes opened met same lies n'.path n'.kind g' is) n g h)

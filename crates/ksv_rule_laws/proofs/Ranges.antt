@@ -1,8 +1,58 @@
 -- The value of an expression lies in the file, where its stream does and all that it is told.
-use Rattle.std.proofs.Common.{◌≡◌, codes, ℕ, ◌+◌, ◌-◌, ◌==◌, ◌≤◌, Bool, true, false, nat_lt, if◌then◌else◌, ℤ, pos, negsuc, List, [], ◌∷◌, Option, Some, None, Result, Ok, Err, refl, subst, length}
+use Rattle.std.proofs.Common.{
+  ◌≡◌,
+  codes,
+  ℕ,
+  ◌+◌,
+  ◌-◌,
+  ◌==◌,
+  ◌≤◌,
+  Bool,
+  true,
+  false,
+  nat_lt,
+  if◌then◌else◌,
+  ℤ,
+  pos,
+  negsuc,
+  List,
+  [],
+  ◌∷◌,
+  Option,
+  Some,
+  None,
+  Result,
+  Ok,
+  Err,
+  refl,
+  subst,
+  length,
+}
 use Rattle.std.specs.Ordering.{int_eq}
 use Rattle.ksv_basics.specs.Plan.{Plan, Answer, Fail, Ask, bind, translate}
-use Rattle.ksv_expr_tree.specs.Tree.{Tree, Word, Constant, integer, truth, string, no_arguments, argument, literal, named, special, member, unary, binary, logical, choice, field, special_field, call, index, cast}
+use Rattle.ksv_expr_tree.specs.Tree.{
+  Tree,
+  Word,
+  Constant,
+  integer,
+  truth,
+  string,
+  no_arguments,
+  argument,
+  literal,
+  named,
+  special,
+  member,
+  unary,
+  binary,
+  logical,
+  choice,
+  field,
+  special_field,
+  call,
+  index,
+  cast,
+}
 use Rattle.ksv_expr_tree.specs.declared.tree.UnaryOperator.{UnaryOperator}
 use Rattle.ksv_expr_tree.specs.declared.tree.UnaryOperator.TheVariants as signs
 use Rattle.ksv_expr_tree.specs.declared.tree.BinaryOperator.{BinaryOperator}
@@ -26,10 +76,73 @@ use Rattle.ksv_expr_meaning.specs.declared.want.Want.TheVariants as wants
 use Rattle.ksv_expr_meaning.specs.Integers.{floored_quotient, floored_remainder, shifted_left, shifted_right, places}
 use Rattle.ksv_expr_meaning.specs.Methods.{method_named}
 use Rattle.ksv_expr_meaning.specs.Texts.{joined, substring, text_number}
-use Rattle.ksv_expr_meaning.specs.Operators.{exactly, shifted_left_by, shifted_right_by, matched, integers_of, same_truth, joined_text, texts_of, members_of, unary_of, as_value, substring_of}
+use Rattle.ksv_expr_meaning.specs.Operators.{
+  exactly,
+  shifted_left_by,
+  shifted_right_by,
+  matched,
+  integers_of,
+  same_truth,
+  joined_text,
+  texts_of,
+  members_of,
+  unary_of,
+  as_value,
+  substring_of,
+}
 use Rattle.ksv_expr_meaning.specs.Heard.{Heard, Valued, Opened, Numbered, Decided, Read}
 use Rattle.ksv_expr_meaning.specs.Asked.{Eval, given, in_opened, value_for, opened_for}
-use Rattle.ksv_expr_meaning.specs.Meaning.{member_value, element_value, holder_of, stream_of, index_value, element_read, special_value, literal_value, ranged_member, enum_member, truth_value, decides, bytes_with, integer_and, truth_and, text_and, bytes_and, member_and, binary_of, distance, size_to, stream_size, at_end, stream_method, list_size, last_element, list_method, method_of, method_by, field_of, is_own_stream, object_special, special_of, decoded_text, decoded_by, text_in, bytes_call, call_one, call_two, first_byte, byte_from, byte_at, list_at, bytes_at, item_at, object_of_type, object_as, cast_to, value_of}
+use Rattle.ksv_expr_meaning.specs.Meaning.{
+  member_value,
+  element_value,
+  holder_of,
+  stream_of,
+  index_value,
+  element_read,
+  special_value,
+  literal_value,
+  ranged_member,
+  enum_member,
+  truth_value,
+  decides,
+  bytes_with,
+  integer_and,
+  truth_and,
+  text_and,
+  bytes_and,
+  member_and,
+  binary_of,
+  distance,
+  size_to,
+  stream_size,
+  at_end,
+  stream_method,
+  list_size,
+  last_element,
+  list_method,
+  method_of,
+  method_by,
+  field_of,
+  is_own_stream,
+  object_special,
+  special_of,
+  decoded_text,
+  decoded_by,
+  text_in,
+  bytes_call,
+  call_one,
+  call_two,
+  first_byte,
+  byte_from,
+  byte_at,
+  list_at,
+  bytes_at,
+  item_at,
+  object_of_type,
+  object_as,
+  cast_to,
+  value_of,
+}
 use Rattle.ksv_nodes.specs.declared.node.Node.{Node}
 use Rattle.ksv_nodes.specs.declared.given.Given.{Given}
 use Rattle.ksv_nodes.specs.declared.given.Given.TheVariants as givens
@@ -51,7 +164,8 @@ GivesIn K P (Answer a) = P a
 GivesIn K P (Fail e) = Unit {0}
 GivesIn {R = R} K P (Ask q k) = (r : R q) → K q r → GivesIn K P (k r)
 
-gives_bind : {Q : Type 0} {R : Q → Type 0} {F A B : Type 0} (K : (q : Q) → R q → Type 0) (P : A → Type 0) (S : B → Type 0) (p : Plan Q R F A) (f : A → Plan Q R F B) → GivesIn K P p → ((a : A) → P a → GivesIn K S (f a)) → GivesIn K S (bind p f)
+gives_bind : {Q : Type 0} {R : Q → Type 0} {F A B : Type 0} (K : (q : Q) → R q → Type 0) (P : A → Type 0) (S : B → Type 0) (p : Plan Q R F A)
+    (f : A → Plan Q R F B) → GivesIn K P p → ((a : A) → P a → GivesIn K S (f a)) → GivesIn K S (bind p f)
 unfolding bind
 gives_bind K P S (Answer a) f h g = g a h
 gives_bind K P S (Fail e) f h g = tt
@@ -200,7 +314,8 @@ module _ (size : ℕ) where
 
   stream_ranges : (q : Trail) → Ranges (stream_of q)
   unfolding stream_of
-  stream_ranges q = gives_bind (λ (w : Want). IsHeardIn size) (λ o. IsStreamIn size o.stream) (IsRanged size) (opened_for (wants.Head q)) _ opened (λ o known. known)
+  stream_ranges q = gives_bind (λ (w : Want). IsHeardIn size) (λ o. IsStreamIn size o.stream) (IsRanged size) (opened_for (wants.Head q)) _ opened
+      (λ o known. known)
     where
       opened : (h : Heard) → IsHeardIn size h → GivesIn (λ (w : Want). IsHeardIn size) (λ o. IsStreamIn size o.stream) (in_opened h)
       opened (Opened t w) known = known
@@ -303,12 +418,15 @@ module _ (size : ℕ) where
   unfolding method_of list_method stream_method
   method_ranges s own (values.Int a) name = by_method (λ m. Ranges (method_by s own (values.Int a) m)) name tt tt tt tt tt tt tt tt tt tt tt
   method_ranges s own (values.Bool b) name = by_method (λ m. Ranges (method_by s own (values.Bool b) m)) name tt tt tt tt tt tt tt tt tt tt tt
-  method_ranges s own (values.Text t) name = by_method (λ m. Ranges (method_by s own (values.Text t) m)) name tt tt tt tt tt tt tt (given_ranges _ (number_ranges (text_number (pos 10) t))) tt tt tt
+  method_ranges s own (values.Text t) name = by_method (λ m. Ranges (method_by s own (values.Text t) m)) name tt tt tt tt tt tt tt
+      (given_ranges _ (number_ranges (text_number (pos 10) t))) tt tt tt
   method_ranges s own (values.Bytes f t) name = by_method (λ m. Ranges (method_by s own (values.Bytes f t) m)) name tt tt tt tt tt tt tt tt tt tt tt
   method_ranges s own (values.Member e n) name = by_method (λ m. Ranges (method_by s own (values.Member e n) m)) name tt tt tt tt tt tt tt tt tt tt tt
   method_ranges s own (values.Object q) name = by_method (λ m. Ranges (method_by s own (values.Object q) m)) name tt tt tt tt tt tt tt tt tt tt tt
-  method_ranges s own (values.List l) name = by_method (λ m. Ranges (method_by s own (values.List l) m)) name tt (element_ranges l (pos 0)) (last_ranges l) (list_size_ranges l) tt tt tt tt tt tt tt
-  method_ranges s own (values.Stream w) name = by_method (λ m. Ranges (method_by s own (values.Stream w) m)) name tt tt tt (stream_size_ranges w) tt tt tt tt tt (choose own _ _ (distance_ranges (byte_of s.place) w.from) tt) (choose own _ _ end_ranges tt)
+  method_ranges s own (values.List l) name = by_method (λ m. Ranges (method_by s own (values.List l) m)) name tt (element_ranges l (pos 0)) (last_ranges l)
+      (list_size_ranges l) tt tt tt tt tt tt tt
+  method_ranges s own (values.Stream w) name = by_method (λ m. Ranges (method_by s own (values.Stream w) m)) name tt tt tt
+      (stream_size_ranges w) tt tt tt tt tt (choose own _ _ (distance_ranges (byte_of s.place) w.from) tt) (choose own _ _ end_ranges tt)
 
   field_ranges : (s : Setting) (own : Bool) (v : Value) (n : Word) → Ranges (field_of s own v n)
   unfolding field_of
@@ -363,7 +481,8 @@ module _ (size : ℕ) where
   call_one_ranges : (v : Value) (name : List ℕ) (a : Value) → Ranges (call_one v (method_named name) a)
   unfolding call_one bytes_call
   call_one_ranges (values.Text t) name a = by_method (λ m. Ranges (call_one (values.Text t) m a)) name tt tt tt tt tt tt tt (to_integer_ranges t a) tt tt tt
-  call_one_ranges (values.Bytes f t) name a = by_method (λ m. Ranges (call_one (values.Bytes f t) m a)) name tt tt tt tt tt tt tt tt (to_text_ranges f t a) tt tt
+  call_one_ranges (values.Bytes f t) name a = by_method (λ m. Ranges (call_one (values.Bytes f t) m a)) name tt tt tt tt tt tt tt tt
+      (to_text_ranges f t a) tt tt
   call_one_ranges v name a = by_method (λ m. Ranges (call_one v m a)) name tt tt tt tt tt tt tt tt tt tt tt
 
   call_two_ranges : (v : Value) (name : List ℕ) (a b : Value) → Ranges (call_two v (method_named name) a b)
@@ -463,7 +582,8 @@ module _ (met : Node → Result Given Fault) (here : Trail) (bytes : List ℕ) (
   asked_value : (p : Trail) (v : Value) → answer_of met here bytes (ask_value p) ≡ Ok v → IsRanged size v
   asked_value p v e = by_given (met (value_node p)) refl e
     where
-      by_given : (r : Result Given Fault) → met (value_node p) ≡ r → with_given r (λ g. answer_of met here bytes (in_value g)) ≡ Ok v → IsRanged (length bytes) v
+      by_given : (r : Result Given Fault) → met (value_node p) ≡ r → with_given r (λ g. answer_of met here bytes (in_value g)) ≡ Ok v
+          → IsRanged (length bytes) v
       by_given (Ok (givens.Value v')) is e' = subst (IsRanged (length bytes)) (ok_is v' v e') (value_told v' (lies (value_node p) (givens.Value v') is))
       by_given (Ok _) is e' = absurd (cc)
       by_given (Err f) is e' = absurd (cc)
@@ -483,12 +603,17 @@ module _ (met : Node → Result Given Fault) (here : Trail) (bytes : List ℕ) (
       let o = goes_on met here bytes (in_object p k.first) (λ x. Answer (Opened x.type_number x.stream)) h k.gave in
       let known = object_told p k.first o.first (lies _ _ (asked_head met here bytes p k.first k.was)) o.was in
       subst (IsHeardIn size) (ok_is (Opened o.first.type_number o.first.stream) h o.gave) known.1
-  wanted_in s (wants.Rest p) h e = let b = goes_on met here bytes (ask_rest p) (λ r. Answer (Numbered r.count)) h e in subst (IsHeardIn size) (ok_is (Numbered b.first.count) h b.gave) tt
-  wanted_in s wants.Size h e = let b = goes_on met here bytes (finish whole) (λ n. Answer (Numbered n)) h e in subst (IsHeardIn size) (ok_is (Numbered b.first) h b.gave) tt
-  wanted_in s wants.Done h e = let b = goes_on met here bytes (done s.stream s.place) (λ x. Answer (Decided x)) h e in subst (IsHeardIn size) (ok_is (Decided b.first) h b.gave) tt
-  wanted_in s (wants.Bytes f t) h e = let b = goes_on met here bytes (peek f t) (λ bs. Answer (Read bs)) h e in subst (IsHeardIn size) (ok_is (Read b.first) h b.gave) tt
+  wanted_in s (wants.Rest p) h e = let b = goes_on met here bytes (ask_rest p) (λ r. Answer (Numbered r.count)) h e in
+      subst (IsHeardIn size) (ok_is (Numbered b.first.count) h b.gave) tt
+  wanted_in s wants.Size h e = let b = goes_on met here bytes (finish whole) (λ n. Answer (Numbered n)) h e in
+      subst (IsHeardIn size) (ok_is (Numbered b.first) h b.gave) tt
+  wanted_in s wants.Done h e = let b = goes_on met here bytes (done s.stream s.place) (λ x. Answer (Decided x)) h e in
+      subst (IsHeardIn size) (ok_is (Decided b.first) h b.gave) tt
+  wanted_in s (wants.Bytes f t) h e = let b = goes_on met here bytes (peek f t) (λ bs. Answer (Read bs)) h e in
+      subst (IsHeardIn size) (ok_is (Read b.first) h b.gave) tt
 
-  plan_in : {A : Type 0} (P : A → Type 0) (s : Setting) (p : Eval A) → GivesIn (λ (w : Want). IsHeardIn size) P p → (a : A) → answer_of met here bytes (translate (wanted s) Here p) ≡ Ok a → P a
+  plan_in : {A : Type 0} (P : A → Type 0) (s : Setting) (p : Eval A) → GivesIn (λ (w : Want). IsHeardIn size) P p → (a : A)
+      → answer_of met here bytes (translate (wanted s) Here p) ≡ Ok a → P a
   plan_in P s (Answer x) known a e = subst P (ok_is x a e) known
   plan_in P s (Fail k) known a e = absurd (cc)
   plan_in P s (Ask w k) known a e =

@@ -20,9 +20,44 @@ use Rattle.ksv_nodes.specs.declared.given.Head.TheVariants as heads
 use Rattle.ksv_nodes.specs.declared.given.Ended.{Ended}
 use Rattle.ksv_nodes.specs.declared.given.Rested.{Rested}
 use Rattle.ksv_nodes.specs.Reading.{Seen, look}
-use Rattle.ksv_nodes.specs.Rule.{Rule, Raised, Here, There, Of, See, in_path, in_head, in_value, in_rest, ask_head, ask_value, ask_end, ask_rest, head_node, end_node, rest_node, finish, done, peek}
+use Rattle.ksv_nodes.specs.Rule.{
+  Rule,
+  Raised,
+  Here,
+  There,
+  Of,
+  See,
+  in_path,
+  in_head,
+  in_value,
+  in_rest,
+  ask_head,
+  ask_value,
+  ask_end,
+  ask_rest,
+  head_node,
+  end_node,
+  rest_node,
+  finish,
+  done,
+  peek,
+}
 use Rattle.ksv_nodes.specs.Truth.{answer_of, with_given, with_seen}
-use Rattle.ksv_rule_meaning.specs.Wanted.{whole, in_object, wanted, expression, in_integer, in_truth, integer_of, truth_of, holds, in_size, size_of, in_stream, stream_for}
+use Rattle.ksv_rule_meaning.specs.Wanted.{
+  whole,
+  in_object,
+  wanted,
+  expression,
+  in_integer,
+  in_truth,
+  integer_of,
+  truth_of,
+  holds,
+  in_size,
+  size_of,
+  in_stream,
+  stream_for,
+}
 use Rattle.ksv_rule_laws.proofs.Answering.{ok_is}
 use Rattle.ksv_rule_laws.proofs.OwnFaults.{FailsAs, fails_bind, fails_translate, IsOwn, value_own}
 
@@ -76,7 +111,8 @@ module _ (met : Node → Result Given Fault) (here : Trail) (bytes : List ℕ) w
   Answers P (Ask (See r) k) = (x : Seen r) → (look r bytes).seen ≡ Some x → Answers P (k x)
 
   -- one rule, and then another; a test; and what follows from what is so
-  pub join : {A B : Type 0} (P : A → Type 0) (S : B → Type 0) (p : Rule A) (f : A → Rule B) → Answers P p → ((a : A) → P a → Answers S (f a)) → Answers S (bind p f)
+  pub join : {A B : Type 0} (P : A → Type 0) (S : B → Type 0) (p : Rule A) (f : A → Rule B) → Answers P p → ((a : A) → P a → Answers S (f a))
+      → Answers S (bind p f)
   unfolding bind
   join P S (Answer a) f h g = g a h
   join P S (Fail e) f h g = h
@@ -99,12 +135,14 @@ module _ (met : Node → Result Given Fault) (here : Trail) (bytes : List ℕ) w
   answered P (Fail x) a h e = absurd (cc)
   answered P (Ask (Of n) k) a h e = by_given (met n) refl e (λ g is. answered P (k g) a (h g is))
     where
-      by_given : (r : Result Given Fault) → met n ≡ r → with_given r (λ g. answer_of met here bytes (k g)) ≡ Ok a → ((g : Given) → met n ≡ Ok g → answer_of met here bytes (k g) ≡ Ok a → P a) → P a
+      by_given : (r : Result Given Fault) → met n ≡ r → with_given r (λ g. answer_of met here bytes (k g)) ≡ Ok a
+          → ((g : Given) → met n ≡ Ok g → answer_of met here bytes (k g) ≡ Ok a → P a) → P a
       by_given (Ok g) is e' later = later g is e'
       by_given (Err f) is e' later = absurd (cc)
   answered P (Ask (See r) k) a h e = by_seen (look r bytes).seen refl e (λ x is. answered P (k x) a (h x is))
     where
-      by_seen : (o : Option (Seen r)) → (look r bytes).seen ≡ o → with_seen here o (λ x. answer_of met here bytes (k x)) ≡ Ok a → ((x : Seen r) → (look r bytes).seen ≡ Some x → answer_of met here bytes (k x) ≡ Ok a → P a) → P a
+      by_seen : (o : Option (Seen r)) → (look r bytes).seen ≡ o → with_seen here o (λ x. answer_of met here bytes (k x)) ≡ Ok a
+          → ((x : Seen r) → (look r bytes).seen ≡ Some x → answer_of met here bytes (k x) ≡ Ok a → P a) → P a
       by_seen (Some x) is e' later = later x is e'
       by_seen None is e' later = absurd (cc)
 
@@ -142,7 +180,8 @@ module _ (met : Node → Result Given Fault) (here : Trail) (bytes : List ℕ) w
   unfolding truth_of
   truth_is s e = join _ _ (expression s e) (λ v. in_truth v) (expression_is s e) (λ v is. by_value v is)
     where
-      by_value : (v : Value) → answer_of met here bytes (expression s e) ≡ Ok v → Answers (λ b. answer_of met here bytes (expression s e) ≡ Ok (values.Bool b)) (in_truth v)
+      by_value : (v : Value) → answer_of met here bytes (expression s e) ≡ Ok v
+          → Answers (λ b. answer_of met here bytes (expression s e) ≡ Ok (values.Bool b)) (in_truth v)
       by_value (values.Bool b) is = is
       by_value _ is = tt
 

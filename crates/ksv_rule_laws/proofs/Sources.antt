@@ -1,5 +1,32 @@
 -- What is at a path is read by a member of the description, by the case of its switch, and a list has the count of its `repeat`.
-use Rattle.std.proofs.Common.{◌≡◌, ◌∙◌, ℕ, suc, ◌+◌, ◌==◌, Bool, true, false, if◌then◌else◌, List, [], ◌∷◌, slice_get, Option, Some, None, Result, Ok, refl, sym, ap, subst, arith, inl, inr}
+use Rattle.std.proofs.Common.{
+  ◌≡◌,
+  ◌∙◌,
+  ℕ,
+  suc,
+  ◌+◌,
+  ◌==◌,
+  Bool,
+  true,
+  false,
+  if◌then◌else◌,
+  List,
+  [],
+  ◌∷◌,
+  slice_get,
+  Option,
+  Some,
+  None,
+  Result,
+  Ok,
+  refl,
+  sym,
+  ap,
+  subst,
+  arith,
+  inl,
+  inr,
+}
 use Rattle.ksv_expr_value.specs.Places.{Place, at_byte}
 use Rattle.ksv_expr_value.specs.Trail.{Trail, parent, last}
 use Rattle.ksv_expr_value.specs.declared.fault.Fault.{Fault}
@@ -44,7 +71,8 @@ sought_there x i before (m ∷ ms) s e = by_name (m.name == x) e (sought_there x
     some_is : (a b : Sought) → Some a ≡ Some b → a ≡ b
     some_is a b h = cc
 
-    by_name : (b : Bool) → (if b then Some found else sought x (i + 1) (behind before m) ms) ≡ Some s → (sought x (i + 1) (behind before m) ms ≡ Some s → IsThere ms (i + 1) s) → IsThere (m ∷ ms) i s
+    by_name : (b : Bool) → (if b then Some found else sought x (i + 1) (behind before m) ms) ≡ Some s
+        → (sought x (i + 1) (behind before m) ms ≡ Some s → IsThere ms (i + 1) s) → IsThere (m ∷ ms) i s
     by_name true h later =
         let same : found ≡ s = some_is found s h in
         let at : s.member ≡ i = ap (λ (k : Sought). k.member) (sym same) in
@@ -71,7 +99,8 @@ IsSo d _ = Unit {0}
 
 -- what the nodes that are asked answer is read so
 module _ (d : Description) (bytes : List ℕ) (met : Node → Result Given Fault) (lies : (m : Node) (g : Given) → met m ≡ Ok g → IsSo d g) (here : Trail) where
-  at_read : (origin : Origin) (w : Stream) (s : Place) (f : Field) (h : Head) → IsFieldOf d origin.member f → origin.case ≡ None → IsHeadAt bytes origin w s f h → IsReadSo d h
+  at_read : (origin : Origin) (w : Stream) (s : Place) (f : Field) (h : Head) → IsFieldOf d origin.member f → origin.case ≡ None
+      → IsHeadAt bytes origin w s f h → IsReadSo d h
   at_read origin w s f (heads.Absent at) own none is = (tt, tt)
   at_read origin w s f (heads.Calc c) own none is = absurd is
   at_read origin w s f (heads.Leaf l) own none is = (record { field = f; is = subst (λ r. IsFieldOf d r f) (sym is.member) own; so = is.read none }, tt)
@@ -81,7 +110,8 @@ module _ (d : Description) (bytes : List ℕ) (met : Node → Result Given Fault
   at_read origin w s f (heads.List g) own none is =
       (record { field = f; is = subst (λ (o : Origin). IsFieldOf d o.member f) (sym is.is) own; so = is.read }, ap (λ (o : Origin). o.case) is.is ∙ none)
 
-  member_read : (o : Object) (m : Sought) (k : MemberKind) (h : Head) → m.kind ≡ k → IsThere (members_of d o.type_number) 0 m → IsObjectRead d o.origin o.type_number → IsMember d met here bytes o m k h → IsReadSo d h
+  member_read : (o : Object) (m : Sought) (k : MemberKind) (h : Head) → m.kind ≡ k → IsThere (members_of d o.type_number) 0 m
+      → IsObjectRead d o.origin o.type_number → IsMember d met here bytes o m k h → IsReadSo d h
   member_read o m k h is there object at = by_kind k is at
     where
       found_member : slice_get (members_of d o.type_number) m.member ≡ Some there.member
@@ -126,5 +156,6 @@ module _ (d : Description) (bytes : List ℕ) (met : Node → Result Given Fault
 
 pub heads_are_read : HeadsAreRead
 heads_are_read d bytes opened p h e =
-    let so : IsReadSo d h = by_shapes d bytes opened (λ n g. IsSo d g) (λ met same lies n g is. answer_read d bytes met lies n.path n.kind g is) (head_node p) (givens.Head h) e in
+    let so : IsReadSo d h = by_shapes d bytes opened (λ n g. IsSo d g) (λ met same lies n g is. answer_read d bytes met lies n.path n.kind g is)
+    (head_node p) (givens.Head h) e in
     so.0

@@ -1,5 +1,34 @@
 -- What rules of values answer, one lemma a rule: a value of a leaf that is read fits the leaf, and what is calculated is an expression's value.
-use Rattle.std.proofs.Common.{zero, suc, pos, ◌≡◌, ◌∙◌, ℕ, ◌+◌, ◌≤◌, Bool, true, false, if◌then◌else◌, ℤ, List, length, slice_get, Option, Some, None, Result, refl, sym, ap, subst, arith, inl, inr, suc}
+use Rattle.std.proofs.Common.{
+  zero,
+  suc,
+  pos,
+  ◌≡◌,
+  ◌∙◌,
+  ℕ,
+  ◌+◌,
+  ◌≤◌,
+  Bool,
+  true,
+  false,
+  if◌then◌else◌,
+  ℤ,
+  List,
+  length,
+  slice_get,
+  Option,
+  Some,
+  None,
+  Result,
+  refl,
+  sym,
+  ap,
+  subst,
+  arith,
+  inl,
+  inr,
+  suc,
+}
 use Rattle.std.specs.Prelude.{nat_le}
 use Rattle.std.specs.Str.{bytes_eq}
 use Rattle.std.proofs.lemmas.Bool.Decides.{nat_tests}
@@ -24,7 +53,22 @@ use Rattle.ksv_expr_value.specs.declared.fault.Fault.{Fault}
 use Rattle.ksv_expr_value.specs.declared.value.Value.{Value}
 use Rattle.ksv_expr_value.specs.declared.value.Value.TheVariants as values
 use Rattle.ksv_desc.specs.declared.order.ByteOrder.{ByteOrder}
-use Rattle.ksv_desc.specs.Description.{is_truth, Description, MemberOfType, MemberKind, Parameter, Attribute, ParseInstance, ValueInstance, Field, Choice, Always, Switch, Content, Terminator}
+use Rattle.ksv_desc.specs.Description.{
+  is_truth,
+  Description,
+  MemberOfType,
+  MemberKind,
+  Parameter,
+  Attribute,
+  ParseInstance,
+  ValueInstance,
+  Field,
+  Choice,
+  Always,
+  Switch,
+  Content,
+  Terminator,
+}
 use Rattle.ksv_desc.specs.Description as contents
 use Rattle.ksv_nodes.specs.declared.node.Node.{Node}
 use Rattle.ksv_nodes.specs.declared.given.Given.{Given}
@@ -38,7 +82,36 @@ use Rattle.ksv_nodes.proofs.First.{first_at_below}
 use Rattle.ksv_rule_meaning.specs.Choosing.{content_of}
 use Rattle.ksv_rule_meaning.specs.Fields.{members_of, field_of, kind_of}
 use Rattle.ksv_rule_meaning.specs.Integers.{integer_value}
-use Rattle.ksv_rule_meaning.specs.Values.{in_number, number_value, of_bits, bits_value, fixed_value, cut_by, kept_of, kept, cut_bytes, bytes_value, in_text, cut_text, text_value, content_value, leaf_value, value_at, given_by, arguments_for, in_no_stream, plain_value, parameter_value, instance_value, value_of, calculated, in_enum, argument_at, calc_value, argument_value}
+use Rattle.ksv_rule_meaning.specs.Values.{
+  in_number,
+  number_value,
+  of_bits,
+  bits_value,
+  fixed_value,
+  cut_by,
+  kept_of,
+  kept,
+  cut_bytes,
+  bytes_value,
+  in_text,
+  cut_text,
+  text_value,
+  content_value,
+  leaf_value,
+  value_at,
+  given_by,
+  arguments_for,
+  in_no_stream,
+  plain_value,
+  parameter_value,
+  instance_value,
+  value_of,
+  calculated,
+  in_enum,
+  argument_at,
+  calc_value,
+  argument_value,
+}
 use Rattle.ksv_rule_laws.proofs.Rules.{Answers, join, either, so, asked_head, expression_is}
 use Rattle.ksv_rule_laws.proofs.Members.{field_found, kind_found, content_found}
 use Rattle.ksv_rule_laws.proofs.Checking.{value_meets}
@@ -90,7 +163,8 @@ module _ (met : Node → Result Given Fault) (here : Trail) (bytes : List ℕ) w
     number_fits : (signed : Bool) (order : ByteOrder) (enum : Option ℕ) → Says (IsOfLeaf l) (number_value l signed order enum)
     unfolding number_value
     number_fits signed order enum =
-        after _ _ (peek (byte_of l.from) (byte_of l.to)) _ (peeked (byte_of l.from) (byte_of l.to)) (λ bs is. test _ (nat_le (length bs) 8) _ _ (λ e. in_number_fits enum (ranged (integer_value signed order bs))) (λ e. tt))
+        after _ _ (peek (byte_of l.from) (byte_of l.to)) _ (peeked (byte_of l.from) (byte_of l.to))
+        (λ bs is. test _ (nat_le (length bs) 8) _ _ (λ e. in_number_fits enum (ranged (integer_value signed order bs))) (λ e. tt))
 
     -- a truth value is of one bit
     one_bit : (width : ℕ) (enum : Option ℕ) → l.to ≡ further l.from width → is_truth width enum ≡ true → l.to.bits ≡ l.from.bits + 1
@@ -100,16 +174,19 @@ module _ (met : Node → Result Given Fault) (here : Trail) (bytes : List ℕ) w
 
     of_bits_fits : (width : ℕ) (enum : Option ℕ) (n : ℕ) → Says (λ v. l.to ≡ further l.from width → IsOfLeaf l v) (of_bits width enum n)
     of_bits_fits width enum n =
-        test _ (is_truth width enum) _ _ (λ e wide. one_bit width enum wide e) (λ e. hence _ _ (in_number enum (ranged (pos n))) (in_number_fits enum (ranged (pos n))) (λ v fits wide. fits))
+        test _ (is_truth width enum) _ _ (λ e wide. one_bit width enum wide e)
+        (λ e. hence _ _ (in_number enum (ranged (pos n))) (in_number_fits enum (ranged (pos n))) (λ v fits wide. fits))
 
     bits_fit : (width : ℕ) (enum : Option ℕ) → Says (λ v. l.to ≡ further l.from width → IsOfLeaf l v) (bits_value l width enum)
     unfolding bits_value
     bits_fit width enum =
-        after _ _ (peek (byte_in l.from) (byte_of l.to)) _ (peeked (byte_in l.from) (byte_of l.to)) (λ bs is. test _ (nat_le (length bs) 9) _ _ (λ e. of_bits_fits width enum (number_of (bits_from l.from l.to bs))) (λ e. tt))
+        after _ _ (peek (byte_in l.from) (byte_of l.to)) _ (peeked (byte_in l.from) (byte_of l.to))
+        (λ bs is. test _ (nat_le (length bs) 9) _ _ (λ e. of_bits_fits width enum (number_of (bits_from l.from l.to bs))) (λ e. tt))
 
     fixed_fits : (wanted : List ℕ) → Says (IsOfLeaf l) (fixed_value l wanted)
     unfolding fixed_value
-    fixed_fits wanted = after _ _ (peek (byte_of l.from) (byte_of l.to)) _ (peeked (byte_of l.from) (byte_of l.to)) (λ bs is. test _ (bytes_eq bs wanted) _ _ (λ e. (refl, omega arith)) (λ e. tt))
+    fixed_fits wanted = after _ _ (peek (byte_of l.from) (byte_of l.to)) _ (peeked (byte_of l.from) (byte_of l.to))
+        (λ bs is. test _ (bytes_eq bs wanted) _ _ (λ e. (refl, omega arith)) (λ e. tt))
 
     kept_below : (t : Terminator) (bs : List ℕ) → kept t bs ≤ length bs
     unfolding kept
@@ -123,7 +200,8 @@ module _ (met : Node → Result Given Fault) (here : Trail) (bytes : List ℕ) w
     bytes_fit : (t : Option Terminator) → Says (IsOfLeaf l) (bytes_value l t)
     unfolding bytes_value cut_bytes
     bytes_fit None = (refl, omega arith)
-    bytes_fit (Some t) = after _ _ (peek (byte_of l.from) (byte_of l.to)) _ (peeked (byte_of l.from) (byte_of l.to)) (λ bs is. (refl, omega (arith, kept_below t bs, is)))
+    bytes_fit (Some t) = after _ _ (peek (byte_of l.from) (byte_of l.to)) _ (peeked (byte_of l.from) (byte_of l.to))
+        (λ bs is. (refl, omega (arith, kept_below t bs, is)))
 
     in_text_fits : (t : Option (List ℕ)) → Says (IsOfLeaf l) (in_text t)
     in_text_fits None = tt
@@ -131,7 +209,8 @@ module _ (met : Node → Result Given Fault) (here : Trail) (bytes : List ℕ) w
 
     text_fits : (encoding : Encoding) (t : Option Terminator) → Says (IsOfLeaf l) (text_value l encoding t)
     unfolding text_value
-    text_fits encoding t = after _ _ (peek (byte_of l.from) (byte_of l.to)) _ (peeked (byte_of l.from) (byte_of l.to)) (λ bs is. in_text_fits (decoded encoding (cut_text t bs)))
+    text_fits encoding t = after _ _ (peek (byte_of l.from) (byte_of l.to)) _ (peeked (byte_of l.from) (byte_of l.to))
+        (λ bs is. in_text_fits (decoded encoding (cut_text t bs)))
 
     any_width : (c : Content) (p : Rule Value) → Says (IsOfLeaf l) p → Says (λ v. IsAsWide c l → IsOfLeaf l v) p
     any_width c p h = hence _ _ p h (λ v fits wide. fits)
@@ -140,14 +219,17 @@ module _ (met : Node → Result Given Fault) (here : Trail) (bytes : List ℕ) w
     unfolding content_value
     content_fits f contents.Bytes = any_width contents.Bytes (bytes_value l (cut_by f.extent f.terminator)) (bytes_fit (cut_by f.extent f.terminator))
     content_fits f (contents.Fixed bs) = any_width (contents.Fixed bs) (fixed_value l bs) (fixed_fits bs)
-    content_fits f (contents.Number signed size order enum) = any_width (contents.Number signed size order enum) (number_value l signed order enum) (number_fits signed order enum)
+    content_fits f (contents.Number signed size order enum) =
+        any_width (contents.Number signed size order enum) (number_value l signed order enum) (number_fits signed order enum)
     content_fits f (contents.Bits width enum) = bits_fit width enum
-    content_fits f (contents.Characters encoding) = any_width (contents.Characters encoding) (text_value l encoding (cut_by f.extent f.terminator)) (text_fits encoding (cut_by f.extent f.terminator))
+    content_fits f (contents.Characters encoding) = any_width (contents.Characters encoding) (text_value l encoding (cut_by f.extent f.terminator))
+        (text_fits encoding (cut_by f.extent f.terminator))
     content_fits f (contents.Object t given) = tt
 
   module _ (d : Description) where
     -- the content by which a leaf is read is as wide as it
-    as_wide : (l : Leaf) (f : Field) (c : Content) → IsFieldOf d l.origin.member f → ((k : Content) → IsContentOf f.choice l.origin.case k → k ≡ c) → IsReadBy d l.origin.member (IsLeafOf l) → IsAsWide c l
+    as_wide : (l : Leaf) (f : Field) (c : Content) → IsFieldOf d l.origin.member f → ((k : Content) → IsContentOf f.choice l.origin.case k → k ≡ c)
+        → IsReadBy d l.origin.member (IsLeafOf l) → IsAsWide c l
     as_wide l f c is one read =
         let so : IsLeafOf l f = subst (IsLeafOf l) (same_field d l.origin.member read.field f read.is is) read.so in
         subst (λ (k : Content). IsAsWide k l) (one so.0 so.1) so.3
@@ -170,20 +252,35 @@ module _ (met : Node → Result Given Fault) (here : Trail) (bytes : List ℕ) w
     enum_is (Some e) (values.Int n) = inr (e, n, refl)
     enum_is (Some e) _ = tt
 
-    instance_is : (q : Trail) (o : Holder) (e : Tree) (enum : Option ℕ) → Says (λ v. IsCalculatedIn d met here bytes o v) (instance_value (holder_setting here q o) e enum)
+    instance_is : (q : Trail) (o : Holder) (e : Tree) (enum : Option ℕ)
+        → Says (λ v. IsCalculatedIn d met here bytes o v) (instance_value (holder_setting here q o) e enum)
     unfolding instance_value
     instance_is q o e enum =
         after _ _ (expression (holder_setting here q o) e) _ (expression_is met here bytes (holder_setting here q o) e) (λ w was.
-        hence _ _ (in_enum enum w) (enum_is enum w) (λ v plain. record { setting = holder_setting here q o; tree = e; first = w; was = was; stream = inl refl; element = refl; plain = plain }))
+        hence _ _ (in_enum enum w) (enum_is enum w) (λ v plain. record {
+          setting = holder_setting here q o;
+          tree = e;
+          first = w;
+          was = was;
+          stream =
+              inl refl;
+          element = refl;
+          plain = plain;
+        }))
 
-    argument_is : (q : Trail) (step : Option Step) (o : Holder) (g : Origin) (e : Tree) → o.origin ≡ Some g → Says (λ v. IsCalculatedIn d met here bytes o v) (plain_value (member_setting here q step g o.start) e)
+    argument_is : (q : Trail) (step : Option Step) (o : Holder) (g : Origin) (e : Tree) → o.origin ≡ Some g
+        → Says (λ v. IsCalculatedIn d met here bytes o v) (plain_value (member_setting here q step g o.start) e)
     unfolding plain_value
     argument_is q (Some (steps.Index i)) o g e is =
         let at = element_setting here (parent (parent q)) g o.start i in
-        after _ _ (expression at e) _ (expression_is met here bytes at e) (λ w was. hence _ _ (in_no_stream w) (plain_is w) (λ v plain. record { setting = at; tree = e; first = w; was = was; stream = inr (g, is, refl); element = refl; plain = plain }))
+        after _ _ (expression at e) _ (expression_is met here bytes at e)
+        (λ w was. hence _ _ (in_no_stream w) (plain_is w)
+        (λ v plain. record { setting = at; tree = e; first = w; was = was; stream = inr (g, is, refl); element = refl; plain = plain }))
     argument_is q _ o g e is =
         let at = attribute_setting here (parent q) g o.start in
-        after _ _ (expression at e) _ (expression_is met here bytes at e) (λ w was. hence _ _ (in_no_stream w) (plain_is w) (λ v plain. record { setting = at; tree = e; first = w; was = was; stream = inr (g, is, refl); element = refl; plain = plain }))
+        after _ _ (expression at e) _ (expression_is met here bytes at e)
+        (λ w was. hence _ _ (in_no_stream w) (plain_is w)
+        (λ v plain. record { setting = at; tree = e; first = w; was = was; stream = inr (g, is, refl); element = refl; plain = plain }))
 
     given_is : (c : Content) → Says (λ es. Unit {0}) (given_by c)
     given_is (contents.Object t given) = tt
@@ -197,12 +294,15 @@ module _ (met : Node → Result Given Fault) (here : Trail) (bytes : List ℕ) w
 
     arguments_are : (g : Origin) → Says (λ es. Unit {0}) (arguments_for d g)
     unfolding arguments_for
-    arguments_are g = after _ _ (field_of d g.member) _ (field_found met here bytes d g.member) (λ f is. after _ _ (content_of f.choice g.case) _ (content_found met here bytes f.choice g.case) (λ c one. given_is c))
+    arguments_are g = after _ _ (field_of d g.member) _ (field_found met here bytes d g.member)
+        (λ f is. after _ _ (content_of f.choice g.case) _ (content_found met here bytes f.choice g.case) (λ c one. given_is c))
 
-    parameter_is : (q : Trail) (member : ℕ) (o : Holder) (g : Option Origin) → o.origin ≡ g → Says (λ v. IsCalculatedIn d met here bytes o v) (parameter_value d here q member o g)
+    parameter_is : (q : Trail) (member : ℕ) (o : Holder) (g : Option Origin) → o.origin ≡ g
+        → Says (λ v. IsCalculatedIn d met here bytes o v) (parameter_value d here q member o g)
     unfolding parameter_value argument_value
     parameter_is q member o None is = tt
-    parameter_is q member o (Some g) is = after _ _ (arguments_for d g) _ (arguments_are g) (λ es any. after _ _ (argument_at es _) _ (argument_at_is es _) (λ e any'. argument_is q (last q) o g e is))
+    parameter_is q member o (Some g) is = after _ _ (arguments_for d g) _ (arguments_are g)
+        (λ es any. after _ _ (argument_at es _) _ (argument_at_is es _) (λ e any'. argument_is q (last q) o g e is))
 
     calc_is : (q : Trail) (c : Calc) (k : MemberKind) → Says (λ v. IsCalculatedIn d met here bytes c.object v) (calc_value d here q c k)
     unfolding calc_value
@@ -212,7 +312,8 @@ module _ (met : Node → Result Given Fault) (here : Trail) (bytes : List ℕ) w
 
     calculated_is : (q : Trail) (c : Calc) → Says (λ v. IsCalculatedIn d met here bytes c.object v) (calculated d here q c)
     unfolding calculated
-    calculated_is q c = after _ _ (kind_of d (record { type_number = c.object.type_number; member = c.member })) _ (kind_found met here bytes d (record { type_number = c.object.type_number; member = c.member })) (λ k found. calc_is q c k)
+    calculated_is q c = after _ _ (kind_of d (record { type_number = c.object.type_number; member = c.member })) _
+        (kind_found met here bytes d (record { type_number = c.object.type_number; member = c.member })) (λ k found. calc_is q c k)
 
     -- ---- values
 
