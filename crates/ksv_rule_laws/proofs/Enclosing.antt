@@ -1,31 +1,6 @@
 -- What is read lies in the stream of the object or list that holds it.
-use Rattle.std.proofs.Common.{
-  ◌≡◌,
-  ◌∙◌,
-  ℕ,
-  ◌+◌,
-  ◌==◌,
-  ◌≤◌,
-  Bool,
-  true,
-  false,
-  if◌then◌else◌,
-  List,
-  [],
-  ◌∷◌,
-  Option,
-  Some,
-  None,
-  Result,
-  Ok,
-  refl,
-  sym,
-  ap,
-  subst,
-  arith,
-  inl,
-  inr,
-}
+use Rattle.std.proofs.Common.{◌≡◌, ◌∙◌, ℕ, ◌+◌, ◌==◌, ◌≤◌, Bool, true, false, if◌then◌else◌, List, [], ◌∷◌, Option, Some, None, Result, Ok, refl, sym, ap}
+use Rattle.std.proofs.Common.{subst, arith, inl, inr}
 use Rattle.std.specs.Prelude.{◌⊎◌}
 use Rattle.std.specs.List.{AllByRecursion}
 use Rattle.std.proofs.lemmas.Bool.Decides.{nat_tests}
@@ -60,38 +35,11 @@ use Rattle.ksv_rule_meaning.specs.Fields.{members_of, is_attribute, behind, Soug
 use Rattle.ksv_rule_meaning.specs.Heads.{origin_of, instance_setting, calc, within}
 use Rattle.ksv_rule_meaning.specs.Ends.{is_last}
 use Rattle.ksv_rule_meaning.specs.FromNothing.{from_nothing}
-use Rattle.ksv_rule_laws.specs.Laws.{
-  IsBetween,
-  LiesIn,
-  IsStreamFor,
-  IsReadIn,
-  IsHeld,
-  AreNamesDistinct,
-  HasDistinctNames,
-  HeadsLieInStreams,
-  EndsLieInStreams,
-  IsUnmet,
-  IsUnmetAt,
-  IsLeftOut,
-  EndsAt,
-}
+use Rattle.ksv_rule_laws.specs.Laws.{IsBetween, LiesIn, IsStreamFor, IsReadIn, IsHeld, AreNamesDistinct, HasDistinctNames, HeadsLieInStreams, EndsLieInStreams}
+use Rattle.ksv_rule_laws.specs.Laws.{IsUnmet, IsUnmetAt, IsLeftOut, EndsAt}
 use Rattle.ksv_rule_laws.proofs.Answering.{ok_is, goes_on, same_answer}
-use Rattle.ksv_rule_laws.proofs.Shapes.{
-  IsHeadAt,
-  IsStart,
-  IsOut,
-  IsMember,
-  IsMemberOf,
-  IsElementOf,
-  IsHead,
-  IsFieldsEnd,
-  IsObjectEnd,
-  RestsAt,
-  IsEnd,
-  IsEndOf,
-  IsRest,
-  IsAnswer,
-}
+use Rattle.ksv_rule_laws.proofs.Shapes.{IsHeadAt, IsStart, IsOut, IsMember, IsMemberOf, IsElementOf, IsHead, IsFieldsEnd, IsObjectEnd, RestsAt, IsEnd, IsEndOf}
+use Rattle.ksv_rule_laws.proofs.Shapes.{IsRest, IsAnswer}
 use Rattle.ksv_rule_laws.proofs.Shaping.{part_of, by_shapes}
 
 -- ---- streams

@@ -1,51 +1,11 @@
 -- No expression fails as a circle: that is a fault of nodes alone.
-use Rattle.std.proofs.Common.{
-  codes,
-  bytes_eq,
-  ℕ,
-  ◌-◌,
-  ◌+◌,
-  Bool,
-  true,
-  false,
-  ◌==◌,
-  nat_lt,
-  if◌then◌else◌,
-  ℤ,
-  pos,
-  negsuc,
-  List,
-  [],
-  ◌∷◌,
-  Option,
-  Some,
-  None,
-  Result,
-  Ok,
-  Err,
-}
+use Rattle.std.proofs.Common.{codes, bytes_eq, ℕ, ◌-◌, ◌+◌, Bool, true, false, ◌==◌, nat_lt, if◌then◌else◌, ℤ, pos, negsuc, List, [], ◌∷◌, Option, Some, None}
+use Rattle.std.proofs.Common.{Result, Ok, Err}
 use Rattle.std.specs.Ordering.{int_eq}
 use Rattle.std.specs.declared.cmp.Ordering.{Ordering}
 use Rattle.ksv_basics.specs.Plan.{Plan, Answer, Fail, Ask, bind, translate}
-use Rattle.ksv_expr_tree.specs.Tree.{
-  Tree,
-  Word,
-  no_arguments,
-  argument,
-  literal,
-  named,
-  special,
-  member,
-  unary,
-  binary,
-  logical,
-  choice,
-  field,
-  special_field,
-  call,
-  index,
-  cast,
-}
+use Rattle.ksv_expr_tree.specs.Tree.{Tree, Word, no_arguments, argument, literal, named, special, member, unary, binary, logical, choice, field, special_field}
+use Rattle.ksv_expr_tree.specs.Tree.{call, index, cast}
 use Rattle.ksv_expr_tree.specs.declared.tree.UnaryOperator.{UnaryOperator}
 use Rattle.ksv_expr_tree.specs.declared.tree.UnaryOperator.TheVariants as signs
 use Rattle.ksv_expr_tree.specs.declared.tree.BinaryOperator.{BinaryOperator}
@@ -69,80 +29,17 @@ use Rattle.ksv_expr_meaning.specs.declared.want.Want.TheVariants as wants
 use Rattle.ksv_expr_meaning.specs.Methods.{method_named}
 use Rattle.ksv_expr_meaning.specs.Integers.{floored_quotient, floored_remainder, shifted_left, shifted_right, places}
 use Rattle.ksv_expr_meaning.specs.Texts.{joined, substring, exact, number_of, text_number, written_in}
-use Rattle.ksv_expr_meaning.specs.Operators.{
-  exactly,
-  shifted_left_by,
-  shifted_right_by,
-  matched,
-  ordered,
-  integers_of,
-  same_truth,
-  joined_text,
-  texts_of,
-  members_of,
-  unary_of,
-  as_value,
-  substring_of,
-}
+use Rattle.ksv_expr_meaning.specs.Operators.{exactly, shifted_left_by, shifted_right_by, matched, ordered, integers_of, same_truth, joined_text, texts_of}
+use Rattle.ksv_expr_meaning.specs.Operators.{members_of, unary_of, as_value, substring_of}
 use Rattle.ksv_expr_meaning.specs.Heard.{Valued, Opened, Numbered, Decided, Read}
 use Rattle.ksv_expr_value.specs.Setting.{Setting, Element, NoElement, ElementAt, Made}
 use Rattle.ksv_expr_meaning.specs.Asked.{Eval, raise, given, value_for, opened_for, number_for, truth_for, bytes_for}
-use Rattle.ksv_expr_meaning.specs.Meaning.{
-  in_path,
-  member_path,
-  member_value,
-  element_path,
-  element_value,
-  element_count,
-  holder_of,
-  stream_of,
-  index_value,
-  element_read,
-  special_value,
-  ranged_member,
-  enum_member,
-  in_truth_value,
-  truth_value,
-  decides,
-  same_bytes,
-  bytes_with,
-  integer_and,
-  truth_and,
-  text_and,
-  bytes_and,
-  member_and,
-  binary_of,
-  distance,
-  size_to,
-  stream_size,
-  at_end,
-  stream_method,
-  list_size,
-  last_element,
-  list_method,
-  method_of,
-  method_by,
-  field_of,
-  is_own_stream,
-  object_special,
-  special_of,
-  decoded_text,
-  decoded_by,
-  text_in,
-  bytes_call,
-  call_one,
-  call_two,
-  first_byte,
-  byte_from,
-  byte_at,
-  list_at,
-  bytes_at,
-  item_at,
-  object_of_type,
-  object_as,
-  cast_to,
-  value_of,
-}
+use Rattle.ksv_expr_meaning.specs.Meaning.{in_path, member_path, member_value, element_path, element_value, element_count, holder_of, stream_of, index_value}
+use Rattle.ksv_expr_meaning.specs.Meaning.{element_read, special_value, ranged_member, enum_member, in_truth_value, truth_value, decides, same_bytes}
+use Rattle.ksv_expr_meaning.specs.Meaning.{bytes_with, integer_and, truth_and, text_and, bytes_and, member_and, binary_of, distance, size_to, stream_size}
+use Rattle.ksv_expr_meaning.specs.Meaning.{at_end, stream_method, list_size, last_element, list_method, method_of, method_by, field_of, is_own_stream}
+use Rattle.ksv_expr_meaning.specs.Meaning.{object_special, special_of, decoded_text, decoded_by, text_in, bytes_call, call_one, call_two, first_byte, byte_from}
+use Rattle.ksv_expr_meaning.specs.Meaning.{byte_at, list_at, bytes_at, item_at, object_of_type, object_as, cast_to, value_of}
 
 -- ---- plans
 

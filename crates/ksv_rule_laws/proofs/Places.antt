@@ -28,40 +28,14 @@ use Rattle.ksv_nodes.specs.Rule.{head_node, end_node, rest_node}
 use Rattle.ksv_rule_meaning.specs.Fields.{members_of, Sought, last_attribute}
 use Rattle.ksv_rule_meaning.specs.Heads.{origin_of, instance_setting}
 use Rattle.ksv_rule_meaning.specs.FromNothing.{from_nothing}
-use Rattle.ksv_rule_laws.specs.Laws.{
-  IsOfLeaf,
-  IsOfHead,
-  IsEndIn,
-  IsPlaceIn,
-  IsStreamIn,
-  IsHomeIn,
-  IsHolderIn,
-  IsHeadIn,
-  IsValueIn,
-  IsIn,
-  PlacesAreInFile,
-  EndsAt,
-}
+use Rattle.ksv_rule_laws.specs.Laws.{IsOfLeaf, IsOfHead, IsEndIn, IsPlaceIn, IsStreamIn, IsHomeIn, IsHolderIn, IsHeadIn, IsValueIn, IsIn, PlacesAreInFile}
+use Rattle.ksv_rule_laws.specs.Laws.{EndsAt}
 use Rattle.ksv_rule_laws.proofs.Starts.{of_start, at_most}
 use Rattle.ksv_rule_laws.proofs.Forms.{value_fits, no_stream}
 use Rattle.ksv_rule_laws.proofs.Sources.{heads_are_read}
 use Rattle.ksv_rule_laws.proofs.Ranges.{IsRanged, IsElementIn, IsKnown, expression_in, stream_in}
-use Rattle.ksv_rule_laws.proofs.Shapes.{
-  IsHeadAt,
-  IsStart,
-  IsMember,
-  IsElementOf,
-  IsHead,
-  IsPlain,
-  IsCalculatedIn,
-  IsValueAt,
-  IsMadeOf,
-  IsFieldsEnd,
-  IsObjectEnd,
-  IsEnd,
-  IsRest,
-  IsAnswer,
-}
+use Rattle.ksv_rule_laws.proofs.Shapes.{IsHeadAt, IsStart, IsMember, IsElementOf, IsHead, IsPlain, IsCalculatedIn, IsValueAt, IsMadeOf, IsFieldsEnd}
+use Rattle.ksv_rule_laws.proofs.Shapes.{IsObjectEnd, IsEnd, IsRest, IsAnswer}
 use Rattle.ksv_rule_laws.proofs.Shaping.{by_shapes}
 
 -- what the nodes that are asked answer lies in the file

@@ -1,58 +1,10 @@
 -- The value of an expression lies in the file, where its stream does and all that it is told.
-use Rattle.std.proofs.Common.{
-  ◌≡◌,
-  codes,
-  ℕ,
-  ◌+◌,
-  ◌-◌,
-  ◌==◌,
-  ◌≤◌,
-  Bool,
-  true,
-  false,
-  nat_lt,
-  if◌then◌else◌,
-  ℤ,
-  pos,
-  negsuc,
-  List,
-  [],
-  ◌∷◌,
-  Option,
-  Some,
-  None,
-  Result,
-  Ok,
-  Err,
-  refl,
-  subst,
-  length,
-}
+use Rattle.std.proofs.Common.{◌≡◌, codes, ℕ, ◌+◌, ◌-◌, ◌==◌, ◌≤◌, Bool, true, false, nat_lt, if◌then◌else◌, ℤ, pos, negsuc, List, [], ◌∷◌, Option, Some, None}
+use Rattle.std.proofs.Common.{Result, Ok, Err, refl, subst, length}
 use Rattle.std.specs.Ordering.{int_eq}
 use Rattle.ksv_basics.specs.Plan.{Plan, Answer, Fail, Ask, bind, translate}
-use Rattle.ksv_expr_tree.specs.Tree.{
-  Tree,
-  Word,
-  Constant,
-  integer,
-  truth,
-  string,
-  no_arguments,
-  argument,
-  literal,
-  named,
-  special,
-  member,
-  unary,
-  binary,
-  logical,
-  choice,
-  field,
-  special_field,
-  call,
-  index,
-  cast,
-}
+use Rattle.ksv_expr_tree.specs.Tree.{Tree, Word, Constant, integer, truth, string, no_arguments, argument, literal, named, special, member, unary, binary}
+use Rattle.ksv_expr_tree.specs.Tree.{logical, choice, field, special_field, call, index, cast}
 use Rattle.ksv_expr_tree.specs.declared.tree.UnaryOperator.{UnaryOperator}
 use Rattle.ksv_expr_tree.specs.declared.tree.UnaryOperator.TheVariants as signs
 use Rattle.ksv_expr_tree.specs.declared.tree.BinaryOperator.{BinaryOperator}
@@ -76,73 +28,16 @@ use Rattle.ksv_expr_meaning.specs.declared.want.Want.TheVariants as wants
 use Rattle.ksv_expr_meaning.specs.Integers.{floored_quotient, floored_remainder, shifted_left, shifted_right, places}
 use Rattle.ksv_expr_meaning.specs.Methods.{method_named}
 use Rattle.ksv_expr_meaning.specs.Texts.{joined, substring, text_number}
-use Rattle.ksv_expr_meaning.specs.Operators.{
-  exactly,
-  shifted_left_by,
-  shifted_right_by,
-  matched,
-  integers_of,
-  same_truth,
-  joined_text,
-  texts_of,
-  members_of,
-  unary_of,
-  as_value,
-  substring_of,
-}
+use Rattle.ksv_expr_meaning.specs.Operators.{exactly, shifted_left_by, shifted_right_by, matched, integers_of, same_truth, joined_text, texts_of, members_of}
+use Rattle.ksv_expr_meaning.specs.Operators.{unary_of, as_value, substring_of}
 use Rattle.ksv_expr_meaning.specs.Heard.{Heard, Valued, Opened, Numbered, Decided, Read}
 use Rattle.ksv_expr_meaning.specs.Asked.{Eval, given, in_opened, value_for, opened_for}
-use Rattle.ksv_expr_meaning.specs.Meaning.{
-  member_value,
-  element_value,
-  holder_of,
-  stream_of,
-  index_value,
-  element_read,
-  special_value,
-  literal_value,
-  ranged_member,
-  enum_member,
-  truth_value,
-  decides,
-  bytes_with,
-  integer_and,
-  truth_and,
-  text_and,
-  bytes_and,
-  member_and,
-  binary_of,
-  distance,
-  size_to,
-  stream_size,
-  at_end,
-  stream_method,
-  list_size,
-  last_element,
-  list_method,
-  method_of,
-  method_by,
-  field_of,
-  is_own_stream,
-  object_special,
-  special_of,
-  decoded_text,
-  decoded_by,
-  text_in,
-  bytes_call,
-  call_one,
-  call_two,
-  first_byte,
-  byte_from,
-  byte_at,
-  list_at,
-  bytes_at,
-  item_at,
-  object_of_type,
-  object_as,
-  cast_to,
-  value_of,
-}
+use Rattle.ksv_expr_meaning.specs.Meaning.{member_value, element_value, holder_of, stream_of, index_value, element_read, special_value, literal_value}
+use Rattle.ksv_expr_meaning.specs.Meaning.{ranged_member, enum_member, truth_value, decides, bytes_with, integer_and, truth_and, text_and, bytes_and}
+use Rattle.ksv_expr_meaning.specs.Meaning.{member_and, binary_of, distance, size_to, stream_size, at_end, stream_method, list_size, last_element, list_method}
+use Rattle.ksv_expr_meaning.specs.Meaning.{method_of, method_by, field_of, is_own_stream, object_special, special_of, decoded_text, decoded_by, text_in}
+use Rattle.ksv_expr_meaning.specs.Meaning.{bytes_call, call_one, call_two, first_byte, byte_from, byte_at, list_at, bytes_at, item_at, object_of_type}
+use Rattle.ksv_expr_meaning.specs.Meaning.{object_as, cast_to, value_of}
 use Rattle.ksv_nodes.specs.declared.node.Node.{Node}
 use Rattle.ksv_nodes.specs.declared.given.Given.{Given}
 use Rattle.ksv_nodes.specs.declared.given.Given.TheVariants as givens

@@ -20,44 +20,11 @@ use Rattle.ksv_nodes.specs.declared.given.Head.TheVariants as heads
 use Rattle.ksv_nodes.specs.declared.given.Ended.{Ended}
 use Rattle.ksv_nodes.specs.declared.given.Rested.{Rested}
 use Rattle.ksv_nodes.specs.Reading.{Seen, look}
-use Rattle.ksv_nodes.specs.Rule.{
-  Rule,
-  Raised,
-  Here,
-  There,
-  Of,
-  See,
-  in_path,
-  in_head,
-  in_value,
-  in_rest,
-  ask_head,
-  ask_value,
-  ask_end,
-  ask_rest,
-  head_node,
-  end_node,
-  rest_node,
-  finish,
-  done,
-  peek,
-}
+use Rattle.ksv_nodes.specs.Rule.{Rule, Raised, Here, There, Of, See, in_path, in_head, in_value, in_rest, ask_head, ask_value, ask_end, ask_rest, head_node}
+use Rattle.ksv_nodes.specs.Rule.{end_node, rest_node, finish, done, peek}
 use Rattle.ksv_nodes.specs.Truth.{answer_of, with_given, with_seen}
-use Rattle.ksv_rule_meaning.specs.Wanted.{
-  whole,
-  in_object,
-  wanted,
-  expression,
-  in_integer,
-  in_truth,
-  integer_of,
-  truth_of,
-  holds,
-  in_size,
-  size_of,
-  in_stream,
-  stream_for,
-}
+use Rattle.ksv_rule_meaning.specs.Wanted.{whole, in_object, wanted, expression, in_integer, in_truth, integer_of, truth_of, holds, in_size, size_of, in_stream}
+use Rattle.ksv_rule_meaning.specs.Wanted.{stream_for}
 use Rattle.ksv_rule_laws.proofs.Answering.{ok_is}
 use Rattle.ksv_rule_laws.proofs.OwnFaults.{FailsAs, fails_bind, fails_translate, IsOwn, value_own}
 

@@ -1,36 +1,6 @@
 -- What rules answer has a shape: one lemma a rule.
-use Rattle.std.proofs.Common.{
-  ◌≡◌,
-  ◌∙◌,
-  ℕ,
-  ◌+◌,
-  ◌-◌,
-  ◌==◌,
-  ◌≤◌,
-  ◌<◌,
-  Bool,
-  true,
-  false,
-  if◌then◌else◌,
-  ◌||◌,
-  List,
-  ◌∷◌,
-  length,
-  drop,
-  Option,
-  Some,
-  None,
-  Result,
-  Ok,
-  refl,
-  sym,
-  ap,
-  subst,
-  arith,
-  inl,
-  inr,
-  nat_lt,
-}
+use Rattle.std.proofs.Common.{◌≡◌, ◌∙◌, ℕ, ◌+◌, ◌-◌, ◌==◌, ◌≤◌, ◌<◌, Bool, true, false, if◌then◌else◌, ◌||◌, List, ◌∷◌, length, drop, Option, Some, None}
+use Rattle.std.proofs.Common.{Result, Ok, refl, sym, ap, subst, arith, inl, inr, nat_lt}
 use Rattle.std.specs.Prelude.{slice_range, ◌⊎◌}
 use Rattle.std.proofs.lemmas.List.{length-take}
 use Rattle.std.proofs.lemmas.Bool.Decides.{nat_tests}
@@ -45,28 +15,8 @@ use Rattle.ksv_expr_value.specs.declared.fault.Fault.{Fault}
 use Rattle.ksv_expr_value.specs.declared.step.Step.{Step}
 use Rattle.ksv_expr_value.specs.declared.step.Step.TheVariants as steps
 use Rattle.ksv_expr_value.specs.declared.value.Stream.{Stream}
-use Rattle.ksv_desc.specs.Description.{
-  Choice,
-  Description,
-  MemberOfType,
-  MemberKind,
-  Parameter,
-  Attribute,
-  ParseInstance,
-  ValueInstance,
-  Field,
-  Content,
-  Extent,
-  Sized,
-  SizeEos,
-  ByItself,
-  Repeat,
-  Once,
-  Eos,
-  Expr,
-  Until,
-  Terminator,
-}
+use Rattle.ksv_desc.specs.Description.{Choice, Description, MemberOfType, MemberKind, Parameter, Attribute, ParseInstance, ValueInstance, Field, Content}
+use Rattle.ksv_desc.specs.Description.{Extent, Sized, SizeEos, ByItself, Repeat, Once, Eos, Expr, Until, Terminator}
 use Rattle.ksv_desc.specs.Description as contents
 use Rattle.ksv_nodes.specs.declared.node.Node.{Node}
 use Rattle.ksv_nodes.specs.declared.node.NodeKind.{NodeKind}
@@ -92,115 +42,25 @@ use Rattle.ksv_nodes.proofs.First.{first_at_below}
 use Rattle.ksv_rule_meaning.specs.Choosing.{Chosen, choose}
 use Rattle.ksv_rule_meaning.specs.Wanted.{in_object, holds, size_of, stream_for}
 use Rattle.ksv_rule_meaning.specs.Fields.{members_of, Sought, sought, in_sought, member_named, last_attribute, field_of}
-use Rattle.ksv_rule_meaning.specs.Heads.{
-  leaf,
-  bits_leaf,
-  leaf_to_end,
-  terminated_at,
-  terminated,
-  run_of,
-  sized_leaf,
-  bytes_at,
-  sized_object,
-  object_at,
-  content_at,
-  unchosen_at,
-  chosen_at,
-  shape_at,
-  count_of,
-  counted,
-  until_eos,
-  repeated,
-  attribute_at,
-  part_end,
-  attribute_start,
-  attribute_setting,
-  element_setting,
-  origin_of,
-  attribute_head,
-  instance_setting,
-  positioned_in,
-  positioned,
-  instance_head,
-  value_head,
-  member_at,
-  member_head,
-  in_list,
-  is_past,
-  in_next,
-  next_start,
-  element_start,
-  element_head,
-  head_at,
-  head_of,
-}
+use Rattle.ksv_rule_meaning.specs.Heads.{leaf, bits_leaf, leaf_to_end, terminated_at, terminated, run_of, sized_leaf, bytes_at, sized_object, object_at}
+use Rattle.ksv_rule_meaning.specs.Heads.{content_at, unchosen_at, chosen_at, shape_at, count_of, counted, until_eos, repeated, attribute_at, part_end}
+use Rattle.ksv_rule_meaning.specs.Heads.{attribute_start, attribute_setting, element_setting, origin_of, attribute_head, instance_setting, positioned_in}
+use Rattle.ksv_rule_meaning.specs.Heads.{positioned, instance_head, value_head, member_at, member_head, in_list, is_past, in_next, next_start, element_start}
+use Rattle.ksv_rule_meaning.specs.Heads.{element_head, head_at, head_of}
 use Rattle.ksv_rule_meaning.specs.Values.{value_of}
-use Rattle.ksv_rule_meaning.specs.Ends.{
-  stream_end,
-  fields_end,
-  object_end,
-  part_rest,
-  list_end,
-  place_of,
-  is_last,
-  not_empty,
-  element_end,
-  end_at,
-  end_of,
-  next_rest,
-  rest_behind,
-  rest_from,
-  in_whole_list,
-  whole_rest,
-  rest_at,
-  rest_of,
-  behind_element,
-  is_by_bytes,
-  start_of,
-}
+use Rattle.ksv_rule_meaning.specs.Ends.{stream_end, fields_end, object_end, part_rest, list_end, place_of, is_last, not_empty, element_end, end_at, end_of}
+use Rattle.ksv_rule_meaning.specs.Ends.{next_rest, rest_behind, rest_from, in_whole_list, whole_rest, rest_at, rest_of, behind_element, is_by_bytes, start_of}
 use Rattle.ksv_rule_meaning.specs.Meaning.{meaning_of}
 use Rattle.ksv_rule_meaning.specs.FromNothing.{from_nothing}
 use Rattle.ksv_rule_laws.specs.Laws.{IsContentOf, IsLeafOf, IsCountedBy, EndsAt}
 use Rattle.ksv_rule_laws.proofs.Answering.{by_rule, by_rules}
-use Rattle.ksv_rule_laws.proofs.Rules.{
-  Answers,
-  join,
-  either,
-  so,
-  answered,
-  asked_head,
-  asked_end,
-  asked_rest,
-  path_is,
-  size_is,
-  holds_is,
-  stream_is,
-  done_is,
-  truth_said,
-}
+use Rattle.ksv_rule_laws.proofs.Rules.{Answers, join, either, so, answered, asked_head, asked_end, asked_rest, path_is, size_is, holds_is, stream_is, done_is}
+use Rattle.ksv_rule_laws.proofs.Rules.{truth_said}
 use Rattle.ksv_rule_laws.proofs.Members.{IsChosen, choice_is, field_found, sought_is}
 use Rattle.ksv_rule_laws.proofs.Values.{made_is}
 use Rattle.ksv_rule_laws.proofs.Starts.{at_most, at_least}
-use Rattle.ksv_rule_laws.proofs.Shapes.{
-  IsBehind,
-  IsHeadAt,
-  IsStart,
-  IsPlaced,
-  IsMember,
-  IsMemberOf,
-  EndsBefore,
-  IsElementOf,
-  IsHead,
-  IsFieldsEnd,
-  IsObjectEnd,
-  RestsAt,
-  IsEnd,
-  IsLast,
-  IsEndOf,
-  IsRestFrom,
-  IsRest,
-  IsAnswer,
-}
+use Rattle.ksv_rule_laws.proofs.Shapes.{IsBehind, IsHeadAt, IsStart, IsPlaced, IsMember, IsMemberOf, EndsBefore, IsElementOf, IsHead, IsFieldsEnd, IsObjectEnd}
+use Rattle.ksv_rule_laws.proofs.Shapes.{RestsAt, IsEnd, IsLast, IsEndOf, IsRestFrom, IsRest, IsAnswer}
 
 module _ (met : Node → Result Given Fault) (here : Trail) (bytes : List ℕ) where
   abbrev Says : {A : Type 0} → (A → Type 0) → Rule A → Type 0

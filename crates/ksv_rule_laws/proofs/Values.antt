@@ -1,34 +1,6 @@
 -- What rules of values answer, one lemma a rule: a value of a leaf that is read fits the leaf, and what is calculated is an expression's value.
-use Rattle.std.proofs.Common.{
-  zero,
-  suc,
-  pos,
-  ◌≡◌,
-  ◌∙◌,
-  ℕ,
-  ◌+◌,
-  ◌≤◌,
-  Bool,
-  true,
-  false,
-  if◌then◌else◌,
-  ℤ,
-  List,
-  length,
-  slice_get,
-  Option,
-  Some,
-  None,
-  Result,
-  refl,
-  sym,
-  ap,
-  subst,
-  arith,
-  inl,
-  inr,
-  suc,
-}
+use Rattle.std.proofs.Common.{zero, suc, pos, ◌≡◌, ◌∙◌, ℕ, ◌+◌, ◌≤◌, Bool, true, false, if◌then◌else◌, ℤ, List, length, slice_get, Option, Some, None, Result}
+use Rattle.std.proofs.Common.{refl, sym, ap, subst, arith, inl, inr, suc}
 use Rattle.std.specs.Prelude.{nat_le}
 use Rattle.std.specs.Str.{bytes_eq}
 use Rattle.std.proofs.lemmas.Bool.Decides.{nat_tests}
@@ -53,22 +25,8 @@ use Rattle.ksv_expr_value.specs.declared.fault.Fault.{Fault}
 use Rattle.ksv_expr_value.specs.declared.value.Value.{Value}
 use Rattle.ksv_expr_value.specs.declared.value.Value.TheVariants as values
 use Rattle.ksv_desc.specs.declared.order.ByteOrder.{ByteOrder}
-use Rattle.ksv_desc.specs.Description.{
-  is_truth,
-  Description,
-  MemberOfType,
-  MemberKind,
-  Parameter,
-  Attribute,
-  ParseInstance,
-  ValueInstance,
-  Field,
-  Choice,
-  Always,
-  Switch,
-  Content,
-  Terminator,
-}
+use Rattle.ksv_desc.specs.Description.{is_truth, Description, MemberOfType, MemberKind, Parameter, Attribute, ParseInstance, ValueInstance, Field, Choice}
+use Rattle.ksv_desc.specs.Description.{Always, Switch, Content, Terminator}
 use Rattle.ksv_desc.specs.Description as contents
 use Rattle.ksv_nodes.specs.declared.node.Node.{Node}
 use Rattle.ksv_nodes.specs.declared.given.Given.{Given}
@@ -82,36 +40,9 @@ use Rattle.ksv_nodes.proofs.First.{first_at_below}
 use Rattle.ksv_rule_meaning.specs.Choosing.{content_of}
 use Rattle.ksv_rule_meaning.specs.Fields.{members_of, field_of, kind_of}
 use Rattle.ksv_rule_meaning.specs.Integers.{integer_value}
-use Rattle.ksv_rule_meaning.specs.Values.{
-  in_number,
-  number_value,
-  of_bits,
-  bits_value,
-  fixed_value,
-  cut_by,
-  kept_of,
-  kept,
-  cut_bytes,
-  bytes_value,
-  in_text,
-  cut_text,
-  text_value,
-  content_value,
-  leaf_value,
-  value_at,
-  given_by,
-  arguments_for,
-  in_no_stream,
-  plain_value,
-  parameter_value,
-  instance_value,
-  value_of,
-  calculated,
-  in_enum,
-  argument_at,
-  calc_value,
-  argument_value,
-}
+use Rattle.ksv_rule_meaning.specs.Values.{in_number, number_value, of_bits, bits_value, fixed_value, cut_by, kept_of, kept, cut_bytes, bytes_value, in_text}
+use Rattle.ksv_rule_meaning.specs.Values.{cut_text, text_value, content_value, leaf_value, value_at, given_by, arguments_for, in_no_stream, plain_value}
+use Rattle.ksv_rule_meaning.specs.Values.{parameter_value, instance_value, value_of, calculated, in_enum, argument_at, calc_value, argument_value}
 use Rattle.ksv_rule_laws.proofs.Rules.{Answers, join, either, so, asked_head, expression_is}
 use Rattle.ksv_rule_laws.proofs.Members.{field_found, kind_found, content_found}
 use Rattle.ksv_rule_laws.proofs.Checking.{value_meets}
