@@ -25,7 +25,7 @@ use Rattle.ksv_rule_meaning.specs.Described.{described}
 use Rattle.ksv_rule_meaning.specs.Lemmas.Bounds.{settles}
 use Rattle.ksv_rule_laws.specs.Laws.{NoRuleMakesCircles, LeadsBack, CirclesLeadBack}
 use Rattle.ksv_rule_meaning.proofs.Direct.{answers_follow_rules}
-use Rattle.ksv_rule_laws.proofs.OwnFaults.{IsOwn}
+use Rattle.ksv_rule_laws.proofs.Expressions.{IsOwn}
 use Rattle.ksv_rule_laws.proofs.Rules.{Answers}
 use Rattle.ksv_rule_laws.proofs.Shaping.{answer_is}
 

@@ -2,7 +2,7 @@
 pub mod Meeting
 pub mod Starts
 pub mod Answering
-pub mod OwnFaults
+pub mod Expressions
 pub mod Rules
 pub mod Members
 pub mod Shapes

@@ -26,7 +26,7 @@ use Rattle.ksv_nodes.specs.Truth.{answer_of, with_given, with_seen}
 use Rattle.ksv_rule_meaning.specs.Wanted.{whole, in_object, wanted, expression, in_integer, in_truth, integer_of, truth_of, holds, in_size, size_of, in_stream}
 use Rattle.ksv_rule_meaning.specs.Wanted.{stream_for}
 use Rattle.ksv_rule_laws.proofs.Answering.{ok_is}
-use Rattle.ksv_rule_laws.proofs.OwnFaults.{FailsAs, fails_bind, fails_translate, IsOwn, value_own}
+use Rattle.ksv_rule_laws.proofs.Expressions.{FailsAs, fails_bind, fails_translate, IsOwn, value_own}
 
 -- ---- expressions fail as no circle
 
