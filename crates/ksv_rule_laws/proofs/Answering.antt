@@ -1,13 +1,10 @@
 -- What a rule that answers went through: each of its parts answered. With fewer nodes open, a node answers the same.
-use Rattle.std.proofs.Common.{◌≡◌, ◌∙◌, ℕ, zero, suc, ◌+◌, ◌≤◌, Bool, true, false, cond, if◌then◌else◌, ◌||◌, List, ◌∷◌, length, Option, Some, None, Result, Ok, Err, refl, sym, ap, subst, arith}
+use Rattle.std.proofs.Common.{◌≡◌, ◌∙◌, ℕ, zero, suc, ◌≤◌, Bool, true, false, cond, ◌||◌, List, ◌∷◌, Option, Some, None, Result, Ok, Err, refl, sym, ap, arith}
 use Rattle.std.specs.Prelude.{nat_eq}
-use Rattle.std.proofs.lemmas.Bool.Decides.{nat_tests}
-use Rattle.std.proofs.lemmas.Grind.{common_steps}
 use Rattle.ksv_basics.specs.Plan.{Answer, Fail, Ask, bind}
 use Rattle.ksv_basics.specs.Asking.{and_then}
 use Rattle.ksv_expr_value.specs.Trail.{Trail}
 use Rattle.ksv_expr_value.specs.declared.fault.Fault.{Fault}
-use Rattle.ksv_expr_value.specs.declared.fault.FaultKind.{FaultKind}
 use Rattle.ksv_desc.specs.Description.{Description}
 use Rattle.ksv_memo_rules.specs.Evaluation.{is_among}
 use Rattle.ksv_nodes.specs.declared.node.Node.{Node}
@@ -15,8 +12,8 @@ use Rattle.ksv_nodes.specs.declared.given.Given.{Given}
 use Rattle.ksv_nodes.specs.declared.given.Given.TheVariants as givens
 use Rattle.ksv_nodes.specs.declared.given.Head.{Head}
 use Rattle.ksv_nodes.specs.Numbers.{node_number, node_bound}
-use Rattle.ksv_nodes.specs.Reading.{Seen, look, peek_at}
-use Rattle.ksv_nodes.specs.Rule.{Rule, Of, See, raise, in_head, ask_head, head_node, peek}
+use Rattle.ksv_nodes.specs.Reading.{Seen, look}
+use Rattle.ksv_nodes.specs.Rule.{Rule, Of, See, in_head, ask_head, head_node}
 use Rattle.ksv_nodes.specs.Truth.{answer_of, with_given, with_seen}
 use Rattle.ksv_rule_meaning.specs.Meaning.{meaning_of, rule_of}
 use Rattle.ksv_rule_meaning.specs.FromNothing.{circle, answer_within, from_nothing}
@@ -41,41 +38,23 @@ before (Err e) f b h = absurd (cc)
 -- where each asked node has the answer that `met` gives
 module _ (met : Node → Result Given Fault) (here : Trail) (bytes : List ℕ) where
   -- what a rule answered before another went on from it
-  pub goes_on : {A B : Type 0} (p : Rule A) (f : A → Rule B) (b : B) → answer_of met here bytes (bind p f) ≡ Ok b → Before (answer_of met here bytes p) (λ a. answer_of met here bytes (f a)) b
+  pub goes_on : {A B : Type 0} (p : Rule A) (f : A → Rule B) (b : B) → answer_of met here bytes (bind p f) ≡ Ok b
+      → Before (answer_of met here bytes p) (λ a. answer_of met here bytes (f a)) b
   goes_on p f b h = before (answer_of met here bytes p) (λ a. answer_of met here bytes (f a)) b (sym (answer_bind met here bytes p f) ∙ h)
 
   -- the head that was asked for
   pub asked_head : (p : Trail) (h : Head) → answer_of met here bytes (ask_head p) ≡ Ok h → met (head_node p) ≡ Ok (givens.Head h)
   asked_head p h e = by_given (met (head_node p)) refl e
     where
-      by_given : (r : Result Given Fault) → met (head_node p) ≡ r → with_given r (λ g. answer_of met here bytes (in_head g)) ≡ Ok h → met (head_node p) ≡ Ok (givens.Head h)
+      by_given : (r : Result Given Fault) → met (head_node p) ≡ r → with_given r (λ g. answer_of met here bytes (in_head g)) ≡ Ok h
+          → met (head_node p) ≡ Ok (givens.Head h)
       by_given (Ok (givens.Head h')) is e' = is ∙ ap (λ (x : Head). Ok (givens.Head x)) (ok_is h' h e')
       by_given (Ok _) is e' = absurd (cc)
       by_given (Err f) is e' = absurd (cc)
 
-  -- how many bytes were read of a range
-  pub peeked : (from to : ℕ) (bs : List ℕ) → answer_of met here bytes (peek from to) ≡ Ok bs → from + length bs ≡ to
-  unfolding peek_at
-  peeked from to bs h = grind (arith, nat_tests, common_steps)
-
-  -- where a test failed there is no answer
-  pub passed : {A : Type 0} (b : Bool) (p : Rule A) (k : FaultKind) (a : A) → answer_of met here bytes (if b then p else raise k) ≡ Ok a → answer_of met here bytes p ≡ Ok a
-  passed true p k a h = h
-  passed false p k a h = absurd (cc)
-
-  -- where a test that held refuses, it did not hold
-  pub refused : {A : Type 0} (b : Bool) (p : Rule A) (k : FaultKind) (a : A) → answer_of met here bytes (if b then raise k else p) ≡ Ok a → answer_of met here bytes p ≡ Ok a
-  refused true p k a h = absurd (cc)
-  refused false p k a h = h
-
-  -- what a rule answered, put in a form
-  pub put_in : {A : Type 0} (p : Rule A) (put : A → Given) (P : Given → Type 0) (g : Given) → ((a : A) → answer_of met here bytes p ≡ Ok a → P (put a)) → answer_of met here bytes (bind p (λ a. Answer (put a))) ≡ Ok g → P g
-  put_in p put P g each h =
-      let b = goes_on p (λ a. Answer (put a)) g h in
-      subst P (ok_is (put b.first) g b.gave) (each b.first b.was)
-
   -- the rule of a node is the meaning of its kind
-  pub meaning_is : (d : Description) (n : Node) (g : Given) → answer_of met here bytes (rule_of d n) ≡ Ok g → answer_of met here bytes (meaning_of d n.kind n.path) ≡ Ok g
+  pub meaning_is : (d : Description) (n : Node) (g : Given) → answer_of met here bytes (rule_of d n) ≡ Ok g
+      → answer_of met here bytes (meaning_of d n.kind n.path) ≡ Ok g
   unfolding rule_of
   meaning_is d n g h = h
 
@@ -87,11 +66,13 @@ module _ (d : Description) (bytes : List ℕ) where
   below depth opened n = answer_within d bytes depth (n ∷ opened)
 
   -- an answer that is no fault is the rule's, and its node isn't open
-  pub ruled : (depth : ℕ) (opened : List Node) (n : Node) (g : Given) → answer_within d bytes (suc depth) opened n ≡ Ok g → (is_among node_number opened n ≡ false) × (answer_of (below depth opened n) n.path bytes (rule_of d n) ≡ Ok g)
+  pub ruled : (depth : ℕ) (opened : List Node) (n : Node) (g : Given) → answer_within d bytes (suc depth) opened n ≡ Ok g
+      → (is_among node_number opened n ≡ false) × (answer_of (below depth opened n) n.path bytes (rule_of d n) ≡ Ok g)
   unfolding answer_within
   ruled depth opened n g h = by_open (is_among node_number opened n) refl h
     where
-      by_open : (b : Bool) → is_among node_number opened n ≡ b → cond b (circle n) (answer_of (below depth opened n) n.path bytes (rule_of d n)) ≡ Ok g → (is_among node_number opened n ≡ false) × (answer_of (below depth opened n) n.path bytes (rule_of d n) ≡ Ok g)
+      by_open : (b : Bool) → is_among node_number opened n ≡ b → cond b (circle n) (answer_of (below depth opened n) n.path bytes (rule_of d n)) ≡ Ok g
+          → (is_among node_number opened n ≡ false) × (answer_of (below depth opened n) n.path bytes (rule_of d n) ≡ Ok g)
       by_open true e e' = absurd (cc)
       by_open false e e' = (e, e')
 
@@ -108,13 +89,15 @@ same_answer met met' here bytes same (Answer x) a h = h
 same_answer met met' here bytes same (Fail e) a h = absurd (cc)
 same_answer met met' here bytes same {A = A} (Ask (Of n) k) a h = by_given (met n) refl h (λ g. same_answer met met' here bytes same (k g) a)
   where
-    by_given : (r : Result Given Fault) → met n ≡ r → with_given r (λ g. answer_of met here bytes (k g)) ≡ Ok a → ((g : Given) → answer_of met here bytes (k g) ≡ Ok a → answer_of met' here bytes (k g) ≡ Ok a)
+    by_given : (r : Result Given Fault) → met n ≡ r → with_given r (λ g. answer_of met here bytes (k g)) ≡ Ok a
+        → ((g : Given) → answer_of met here bytes (k g) ≡ Ok a → answer_of met' here bytes (k g) ≡ Ok a)
         → with_given (met' n) (λ g. answer_of met' here bytes (k g)) ≡ Ok a
     by_given (Ok g) is e later = ap (λ r. with_given r (λ x. answer_of met' here bytes (k x))) (same n g is) ∙ later g e
     by_given (Err f) is e later = absurd (cc)
 same_answer met met' here bytes same {A = A} (Ask (See r) k) a h = by_seen (look r bytes).seen h (λ x. same_answer met met' here bytes same (k x) a)
   where
-    by_seen : (o : Option (Seen r)) → with_seen here o (λ x. answer_of met here bytes (k x)) ≡ Ok a → ((x : Seen r) → answer_of met here bytes (k x) ≡ Ok a → answer_of met' here bytes (k x) ≡ Ok a)
+    by_seen : (o : Option (Seen r)) → with_seen here o (λ x. answer_of met here bytes (k x)) ≡ Ok a
+        → ((x : Seen r) → answer_of met here bytes (k x) ≡ Ok a → answer_of met' here bytes (k x) ≡ Ok a)
         → with_seen here o (λ x. answer_of met' here bytes (k x)) ≡ Ok a
     by_seen (Some x) e later = later x e
     by_seen None e later = absurd (cc)
@@ -133,13 +116,15 @@ not_among false c f e = refl
 
 -- one node more on both sides, and one more among which others are
 among_both : (n : Node) (others opened : List Node) → AreAmong others opened → AreAmong (n ∷ others) (n ∷ opened)
-among_both n others opened among m h = or_more (nat_eq (node_number m) (node_number n)) (is_among node_number others m) (is_among node_number opened m) (among m) h
+among_both n others opened among m h = or_more (nat_eq (node_number m) (node_number n)) (is_among node_number others m) (is_among node_number opened m)
+    (among m) h
 
 pub among_more : (n : Node) (opened : List Node) → AreAmong opened (n ∷ opened)
 among_more n opened m h = or_right (nat_eq (node_number m) (node_number n)) (is_among node_number opened m) h
 
 module _ (d : Description) (bytes : List ℕ) where
-  pub stays_within : (depth depth' : ℕ) (opened others : List Node) (n : Node) (g : Given) → depth ≤ depth' → AreAmong others opened → answer_within d bytes depth opened n ≡ Ok g → answer_within d bytes depth' others n ≡ Ok g
+  pub stays_within : (depth depth' : ℕ) (opened others : List Node) (n : Node) (g : Given) → depth ≤ depth' → AreAmong others opened
+      → answer_within d bytes depth opened n ≡ Ok g → answer_within d bytes depth' others n ≡ Ok g
   unfolding answer_within
   stays_within zero depth' opened others n g le among h = absurd (no_depth d bytes opened n g h)
   stays_within (suc depth) zero opened others n g le among h = absurd (omega arith)
@@ -154,3 +139,41 @@ module _ (d : Description) (bytes : List ℕ) where
 pub answers_stay : AnswersStay
 unfolding from_nothing
 answers_stay d bytes opened others n g among h = stays_within d bytes node_bound node_bound opened others n g (omega arith) among h
+
+-- ---- by rules
+
+module _ (d : Description) (bytes : List ℕ) where
+  ruled_again : (depth : ℕ) (opened : List Node) (n : Node) (g : Given) → answer_within d bytes depth opened n ≡ Ok g
+      → answer_of (answer_within d bytes depth opened) n.path bytes (meaning_of d n.kind n.path) ≡ Ok g
+  ruled_again zero opened n g h = absurd (no_depth d bytes opened n g h)
+  ruled_again (suc depth) opened n g h =
+      let met = answer_within d bytes depth (n ∷ opened) in
+      same_answer met (answer_within d bytes (suc depth) opened) n.path bytes
+      (λ m g' e. stays_within d bytes depth (suc depth) (n ∷ opened) opened m g' (omega arith) (among_more n opened) e) (meaning_of d n.kind n.path) g
+      (meaning_is met n.path bytes d n g (ruled d bytes depth opened n g h).1)
+
+  -- an answer is the rule's where each node that it asks has its own
+  pub by_rule : (opened : List Node) (n : Node) (g : Given) → from_nothing d bytes opened n ≡ Ok g
+      → answer_of (from_nothing d bytes opened) n.path bytes (meaning_of d n.kind n.path) ≡ Ok g
+  unfolding from_nothing
+  by_rule opened n g h = ruled_again node_bound opened n g h
+
+  -- what is so of each answer of a rule, where it is so of all that the rule asks: these answers are the nodes' own
+  module _ (opened : List Node) (P : Node → Given → Type 0)
+      (each : (met : Node → Result Given Fault) → ((m : Node) (g : Given) → met m ≡ Ok g → from_nothing d bytes opened m ≡ Ok g)
+      → ((m : Node) (g : Given) → met m ≡ Ok g → P m g)
+      → (n : Node) (g : Given) → answer_of met n.path bytes (meaning_of d n.kind n.path) ≡ Ok g → P n g) where
+    rules_within : (depth : ℕ) (others : List Node) (n : Node) (g : Given) → depth ≤ node_bound → AreAmong opened others
+        → answer_within d bytes depth others n ≡ Ok g → P n g
+    unfolding from_nothing
+    rules_within zero others n g le among h = absurd (no_depth d bytes others n g h)
+    rules_within (suc depth) others n g le among h =
+        let met = answer_within d bytes depth (n ∷ others) in
+        let more : AreAmong opened (n ∷ others) = λ m e. among_more n others m (among m e) in
+        each met (λ m g' e. stays_within d bytes depth node_bound (n ∷ others) opened m g' (omega arith) more e)
+        (λ m g' e. rules_within depth (n ∷ others) m g' (omega arith) more e) n g (meaning_is met n.path bytes d n g (ruled d bytes depth others n g h).1)
+
+    -- so of each answer
+    pub by_rules : (n : Node) (g : Given) → from_nothing d bytes opened n ≡ Ok g → P n g
+    unfolding from_nothing
+    by_rules n g h = rules_within node_bound opened n g (omega arith) (λ m e. e) h

@@ -1,181 +1,103 @@
 -- A value that is answered meets what it must.
-use Rattle.std.proofs.Common.{◌≡◌, ◌∙◌, ℕ, zero, suc, Bool, true, false, if◌then◌else◌, List, [], ◌∷◌, slice_get, Option, Some, None, Result, Ok, refl, sym, ap, subst, arith}
+use Rattle.std.proofs.Common.{◌≡◌, ◌∙◌, ℕ, Bool, true, false, if◌then◌else◌, List, [], ◌∷◌, Option, Some, None, Result, refl, sym, ap, subst}
 use Rattle.std.specs.List.{AllByRecursion}
-use Rattle.ksv_basics.specs.Plan.{Answer}
+use Rattle.ksv_basics.specs.Plan.{Answer, bind}
 use Rattle.ksv_expr_tree.specs.Tree.{Tree}
 use Rattle.ksv_expr_value.specs.Setting.{Setting}
 use Rattle.ksv_expr_value.specs.Trail.{Trail, parent, last}
 use Rattle.ksv_expr_value.specs.declared.fault.Fault.{Fault}
-use Rattle.ksv_expr_value.specs.declared.fault.FaultKind.TheVariants as kinds
 use Rattle.ksv_expr_value.specs.declared.value.Value.{Value}
-use Rattle.ksv_expr_value.specs.declared.value.Value.TheVariants as values
 use Rattle.ksv_desc.specs.Description.{Description, MemberOfType, MemberKind, Valid, AnyOf, AllOf, valid_of}
 use Rattle.ksv_nodes.specs.declared.node.Node.{Node}
 use Rattle.ksv_nodes.specs.declared.given.Given.{Given}
-use Rattle.ksv_nodes.specs.declared.given.Given.TheVariants as givens
 use Rattle.ksv_nodes.specs.declared.given.Head.{Head}
 use Rattle.ksv_nodes.specs.declared.given.Head.TheVariants as heads
 use Rattle.ksv_nodes.specs.declared.given.MemberRef.{MemberRef}
 use Rattle.ksv_nodes.specs.declared.given.Object.{Object}
 use Rattle.ksv_nodes.specs.declared.given.Origin.{Origin}
-use Rattle.ksv_nodes.specs.Numbers.{node_bound}
-use Rattle.ksv_nodes.specs.Rule.{Rule, raise, head_node, value_node}
-use Rattle.ksv_nodes.specs.Truth.{answer_of}
+use Rattle.ksv_nodes.specs.Rule.{Rule}
 use Rattle.ksv_rule_meaning.specs.Checks.{meets_one, meets_each, meets, with_value, checked, checked_if, member_checked, object_checked, value_checked}
-use Rattle.ksv_rule_meaning.specs.Fields.{members_of, in_kind, kind_of}
-use Rattle.ksv_rule_meaning.specs.FromNothing.{answer_within, from_nothing}
+use Rattle.ksv_rule_meaning.specs.Fields.{kind_of}
 use Rattle.ksv_rule_meaning.specs.Heads.{member_setting, holder_setting}
-use Rattle.ksv_rule_meaning.specs.Meaning.{meaning_of}
-use Rattle.ksv_rule_meaning.specs.Values.{value_of}
-use Rattle.ksv_rule_meaning.specs.Wanted.{expression, in_truth, truth_of}
-use Rattle.ksv_rule_laws.specs.Laws.{Gives, HasTrue, IsMet, MeetsMember, ObjectMeets, ValueMeets, ValuesMeetChecks}
-use Rattle.ksv_rule_laws.proofs.Answering.{ok_is, goes_on, asked_head, meaning_is, ruled, no_depth, same_answer, stays_within, among_more}
-use Rattle.ksv_rule_laws.proofs.Forms.{made_of}
-
--- a value that doesn't meet what it must is a fault
-abbrev verdict : Bool → Rule (Unit {0})
-verdict b = if b then Answer tt else raise kinds.Invalid
+use Rattle.ksv_rule_meaning.specs.Wanted.{truth_of}
+use Rattle.ksv_rule_laws.specs.Laws.{Gives, HasTrue, IsMet, MeetsMember, ObjectMeets, ValueMeets}
+use Rattle.ksv_rule_laws.proofs.Rules.{Answers, join, either, so, truth_is}
+use Rattle.ksv_rule_laws.proofs.Members.{kind_found}
 
 -- where each asked node has the answer that `met` gives
 module _ (met : Node → Result Given Fault) (here : Trail) (bytes : List ℕ) where
-  abbrev answer : {A : Type 0} → Rule A → Result A Fault
-  answer p = answer_of met here bytes p
+  abbrev Says : {A : Type 0} → (A → Type 0) → Rule A → Type 0
+  Says P p = Answers met here bytes P p
 
-  truth_is : (s : Setting) (e : Tree) (b : Bool) → answer (truth_of s e) ≡ Ok b → Gives met here bytes s b e
-  unfolding truth_of
-  truth_is s e b h =
-      let x = goes_on met here bytes (expression s e) (λ v. in_truth v) b h in
-      by_value x.first x.was x.gave
-    where
-      by_value : (v : Value) → answer_of met here bytes (expression s e) ≡ Ok v → answer_of met here bytes (in_truth v) ≡ Ok b → answer_of met here bytes (expression s e) ≡ Ok (values.Bool b)
-      by_value (values.Bool c) is h' = is ∙ ap (λ (x : Bool). Ok (values.Bool x)) (ok_is c b h')
-      by_value _ is h' = absurd (cc)
+  after : {A B : Type 0} (P : A → Type 0) (S : B → Type 0) (p : Rule A) (f : A → Rule B) → Says P p → ((a : A) → P a → Says S (f a)) → Says S (bind p f)
+  after P S p f h g = join met here bytes P S p f h g
 
   -- ---- conditions
 
-  one_is : (s : Setting) (es : List Tree) → answer (meets_one s es) ≡ Ok true → HasTrue met here bytes s es
+  one_is : (s : Setting) (es : List Tree) → Says (λ b. b ≡ true → HasTrue met here bytes s es) (meets_one s es)
   unfolding meets_one
-  one_is s [] h = absurd (cc)
-  one_is s (e ∷ es) h =
-      let a = goes_on met here bytes (truth_of s e) _ true h in
-      by_truth a.first (truth_is s e a.first a.was) a.gave (λ h'. one_is s es h')
+  one_is s [] = λ e. absurd (cc)
+  one_is s (e ∷ es) = after _ _ (truth_of s e) _ (truth_is met here bytes s e) (λ b is. by_truth b is (one_is s es))
     where
-      by_truth : (b : Bool) → Gives met here bytes s b e → answer_of met here bytes (if b then Answer true else meets_one s es) ≡ Ok true
-          → (answer_of met here bytes (meets_one s es) ≡ Ok true → HasTrue met here bytes s es) → HasTrue met here bytes s (e ∷ es)
-      by_truth true is h' after = record { front = []; condition = e; rest = es; is = refl; before = tt; holds = is }
-      by_truth false is h' after =
-          let later = after h' in
-          record { front = e ∷ later.front; condition = later.condition; rest = later.rest; is = ap (λ (xs : List Tree). e ∷ xs) later.is; before = (is, later.before); holds = later.holds }
+      by_truth : (b : Bool) → Gives met here bytes s b e → Answers met here bytes (λ c. c ≡ true → HasTrue met here bytes s es) (meets_one s es)
+          → Answers met here bytes (λ c. c ≡ true → HasTrue met here bytes s (e ∷ es)) (if b then Answer true else meets_one s es)
+      by_truth true is later = λ t. record { front = []; condition = e; rest = es; is = refl; before = tt; holds = is }
+      by_truth false is later = so met here bytes _ _ (meets_one s es) later
+          (λ c one t. (let l = one t in record {
+            front = e ∷ l.front;
+            condition = l.condition;
+            rest = l.rest;
+            is = ap (λ (xs : List Tree). e ∷ xs) l.is;
+            before = (is, l.before);
+            holds = l.holds;
+          }))
 
-  each_is : (s : Setting) (es : List Tree) → answer (meets_each s es) ≡ Ok true → AllByRecursion (Gives met here bytes s true) es
+  each_is : (s : Setting) (es : List Tree) → Says (λ b. b ≡ true → AllByRecursion (Gives met here bytes s true) es) (meets_each s es)
   unfolding meets_each
-  each_is s [] h = tt
-  each_is s (e ∷ es) h =
-      let a = goes_on met here bytes (truth_of s e) _ true h in
-      by_truth a.first (truth_is s e a.first a.was) a.gave (λ h'. each_is s es h')
+  each_is s [] = λ e. tt
+  each_is s (e ∷ es) = after _ _ (truth_of s e) _ (truth_is met here bytes s e) (λ b is. by_truth b is (each_is s es))
     where
-      by_truth : (b : Bool) → Gives met here bytes s b e → answer_of met here bytes (if b then meets_each s es else Answer false) ≡ Ok true
-          → (answer_of met here bytes (meets_each s es) ≡ Ok true → AllByRecursion (Gives met here bytes s true) es) → AllByRecursion (Gives met here bytes s true) (e ∷ es)
-      by_truth true is h' after = (is, after h')
-      by_truth false is h' after = absurd (cc)
+      by_truth : (b : Bool) → Gives met here bytes s b e
+          → Answers met here bytes (λ c. c ≡ true → AllByRecursion (Gives met here bytes s true) es) (meets_each s es)
+          → Answers met here bytes (λ c. c ≡ true → AllByRecursion (Gives met here bytes s true) (e ∷ es)) (if b then meets_each s es else Answer false)
+      by_truth true is later = so met here bytes _ _ (meets_each s es) later (λ c all t. (is, all t))
+      by_truth false is later = λ t. absurd (cc)
 
-  meets_is : (s : Setting) (x : Valid) → answer (meets s x) ≡ Ok true → IsMet met here bytes s x
-  meets_is s (AnyOf es) h = one_is s es h
-  meets_is s (AllOf es) h = each_is s es h
+  meets_is : (s : Setting) (x : Valid) → Says (λ b. b ≡ true → IsMet met here bytes s x) (meets s x)
+  meets_is s (AnyOf es) = one_is s es
+  meets_is s (AllOf es) = each_is s es
 
   -- ---- values
 
-  checked_is : (s : Setting) (x : Valid) (v : Value) → answer (checked s x v) ≡ Ok tt → IsMet met here bytes (with_value s v) x
-  unfolding checked
-  checked_is s x v h =
-      let a = goes_on met here bytes (meets (with_value s v) x) (λ b. verdict b) tt h in
-      meets_is (with_value s v) x (by_truth a.first a.was a.gave)
-    where
-      by_truth : (b : Bool) → answer_of met here bytes (meets (with_value s v) x) ≡ Ok b → answer_of met here bytes (verdict b) ≡ Ok tt → answer_of met here bytes (meets (with_value s v) x) ≡ Ok true
-      by_truth true is h' = is
-      by_truth false is h' = absurd (cc)
-
   -- what a member must meet, once it is known
-  checked_if_is : (s : Setting) (o : Option Valid) (x : Valid) (v : Value) → o ≡ Some x → answer (checked_if s o v) ≡ Ok tt → IsMet met here bytes (with_value s v) x
-  checked_if_is s o x v is h = checked_is s x v (subst (λ (o' : Option Valid). answer_of met here bytes (checked_if s o' v) ≡ Ok tt) is h)
+  checked_is : (s : Setting) (o : Option Valid) (v : Value) → Says (λ u. (x : Valid) → o ≡ Some x → IsMet met here bytes (with_value s v) x) (checked_if s o v)
+  unfolding checked
+  checked_is s None v = λ x e. absurd (cc)
+  checked_is s (Some y) v =
+      after _ _ (meets (with_value s v) y) _ (meets_is (with_value s v) y) (λ b meets_so.
+      either met here bytes _ b _ _ (λ t x e. subst (λ z. IsMet met here bytes (with_value s v) z) (one_valid y x e) (meets_so t)) (λ f. tt))
+    where
+      one_valid : (a b : Valid) → Some a ≡ Some b → a ≡ b
+      one_valid a b e = cc
 
-  kind_is : (o : Option MemberOfType) (m : MemberOfType) (k : MemberKind) → o ≡ Some m → answer (in_kind o) ≡ Ok k → m.kind ≡ k
-  kind_is o m k is h = ok_is m.kind k (subst (λ (o' : Option MemberOfType). answer_of met here bytes (in_kind o') ≡ Ok k) is h)
+  member_is : (d : Description) (r : MemberRef) (s : Setting) (v : Value) → Says (λ u. MeetsMember met here bytes d r s v) (member_checked d r s v)
+  unfolding member_checked
+  member_is d r s v =
+      after _ _ (kind_of d r) _ (kind_found met here bytes d r) (λ k found.
+      so met here bytes _ _ (checked_if s (valid_of k) v) (checked_is s (valid_of k) v) (λ u meets_so m x is must.
+      meets_so x (ap (λ (j : MemberKind). valid_of j) (sym found.2 ∙ ap (λ (y : MemberOfType). y.kind) (one_member found.0 m (sym found.1 ∙ is))) ∙ must)))
+    where
+      one_member : (a b : MemberOfType) → Some a ≡ Some b → a ≡ b
+      one_member a b e = cc
 
-  member_is : (d : Description) (r : MemberRef) (s : Setting) (v : Value) → answer (member_checked d r s v) ≡ Ok tt → MeetsMember met here bytes d r s v
-  unfolding member_checked kind_of
-  member_is d r s v h m x is must =
-      let a = goes_on met here bytes (kind_of d r) _ tt h in
-      let same : m.kind ≡ a.first = kind_is (slice_get (members_of d r.type_number) r.member) m a.first is a.was in
-      checked_if_is s (valid_of a.first) x v (sym (ap (λ (k : MemberKind). valid_of k) same) ∙ must) a.gave
+  object_is : (d : Description) (o : Object) (g : Option Origin) (v : Value) → Says (λ u. ObjectMeets met bytes d here o g v) (object_checked d here o g v)
+  object_is d o None v = tt
+  object_is d o (Some g) v = member_is d g.member (member_setting here here (last here) g o.start) v
 
-module _ (met : Node → Result Given Fault) (p : Trail) (bytes : List ℕ) (d : Description) where
-  object_is : (o : Object) (g : Option Origin) (v : Value) → answer_of met p bytes (object_checked d p o g v) ≡ Ok tt → ObjectMeets met bytes d p o g v
-  object_is o None v h = tt
-  object_is o (Some g) v h = member_is met p bytes d g.member (member_setting p p (last p) g o.start) v h
-
-  head_is : (k : Head) (v : Value) → answer_of met p bytes (value_checked d p k v) ≡ Ok tt → ValueMeets met bytes d p k v
+  pub value_meets : (d : Description) (h : Head) (v : Value) → Says (λ u. ValueMeets met bytes d here h v) (value_checked d here h v)
   unfolding value_checked
-  head_is (heads.Absent at) v h = tt
-  head_is (heads.Calc c) v h = member_is met p bytes d (record { type_number = c.object.type_number; member = c.member }) (holder_setting p (parent p) c.object) v h
-  head_is (heads.Leaf l) v h = member_is met p bytes d l.origin.member (member_setting p p (last p) l.origin l.from) v h
-  head_is (heads.Object o) v h = object_is o o.origin v h
-  head_is (heads.List g) v h = tt
-
--- ---- fewer open nodes
-
--- what is met stays met where each node that answered still does
-module _ (met met' : Node → Result Given Fault) (p : Trail) (bytes : List ℕ) (same : (m : Node) (g : Given) → met m ≡ Ok g → met' m ≡ Ok g) where
-  gives_still : (s : Setting) (b : Bool) (e : Tree) → Gives met p bytes s b e → Gives met' p bytes s b e
-  gives_still s b e h = same_answer met met' p bytes same (expression s e) (values.Bool b) h
-
-  all_still : (s : Setting) (b : Bool) (es : List Tree) → AllByRecursion (Gives met p bytes s b) es → AllByRecursion (Gives met' p bytes s b) es
-  all_still s b [] h = tt
-  all_still s b (e ∷ es) h = (gives_still s b e h.0, all_still s b es h.1)
-
-  met_still : (s : Setting) (x : Valid) → IsMet met p bytes s x → IsMet met' p bytes s x
-  met_still s (AnyOf es) h = record { front = h.front; condition = h.condition; rest = h.rest; is = h.is; before = all_still s false h.front h.before; holds = gives_still s true h.condition h.holds }
-  met_still s (AllOf es) h = all_still s true es h
-
-  member_still : (d : Description) (r : MemberRef) (s : Setting) (v : Value) → MeetsMember met p bytes d r s v → MeetsMember met' p bytes d r s v
-  member_still d r s v h m x is must = met_still (with_value s v) x (h m x is must)
-
-  object_still : (d : Description) (o : Object) (g : Option Origin) (v : Value) → ObjectMeets met bytes d p o g v → ObjectMeets met' bytes d p o g v
-  object_still d o None v h = tt
-  object_still d o (Some g) v h = member_still d g.member (member_setting p p (last p) g o.start) v h
-
-  value_still : (d : Description) (k : Head) (v : Value) → ValueMeets met bytes d p k v → ValueMeets met' bytes d p k v
-  value_still d (heads.Absent at) v h = tt
-  value_still d (heads.Calc c) v h = member_still d (record { type_number = c.object.type_number; member = c.member }) (holder_setting p (parent p) c.object) v h
-  value_still d (heads.Leaf l) v h = member_still d l.origin.member (member_setting p p (last p) l.origin l.from) v h
-  value_still d (heads.Object o) v h = object_still d o o.origin v h
-  value_still d (heads.List g) v h = tt
-
--- ---- evaluation from nothing
-
-one_head : (r : Result Given Fault) (x y : Head) → r ≡ Ok (givens.Head x) → r ≡ Ok (givens.Head y) → x ≡ y
-one_head r x y h h' = cc
-
-one_value : (x y : Value) → givens.Value x ≡ givens.Value y → x ≡ y
-one_value x y e = cc
-
-module _ (d : Description) (bytes : List ℕ) where
-  checks_within : (depth : ℕ) (opened : List Node) (p : Trail) (h : Head) (v : Value) → answer_within d bytes depth opened (head_node p) ≡ Ok (givens.Head h)
-      → answer_within d bytes depth opened (value_node p) ≡ Ok (givens.Value v) → ValueMeets (answer_within d bytes depth opened) bytes d p h v
-  unfolding meaning_of
-  checks_within zero opened p h v head value = absurd (no_depth d bytes opened (value_node p) (givens.Value v) value)
-  checks_within (suc depth) opened p h v head value =
-      let met = answer_within d bytes depth (value_node p ∷ opened) in
-      let met' = answer_within d bytes (suc depth) opened in
-      let stays = λ (m : Node) (g : Given) (e : met m ≡ Ok g). stays_within d bytes depth (suc depth) (value_node p ∷ opened) opened m g (omega arith) (among_more (value_node p) opened) e in
-      let r = ruled d bytes depth opened (value_node p) (givens.Value v) value in
-      let b = goes_on met p bytes (value_of d p) (λ x. Answer (givens.Value x)) (givens.Value v) (meaning_is met p bytes d (value_node p) (givens.Value v) r.1) in
-      let m = made_of met p bytes d p b.first b.was in
-      let same : b.first ≡ v = one_value b.first v (ok_is _ _ b.gave) in
-      let found : m.head ≡ h = one_head (met' (head_node p)) m.head h (stays (head_node p) (givens.Head m.head) (asked_head met p bytes p m.head m.was)) head in
-      let meets : ValueMeets met' bytes d p m.head b.first = value_still met met' p bytes stays d m.head b.first (head_is met p bytes d m.head b.first m.checked) in
-      subst (λ (k : Head). ValueMeets met' bytes d p k v) found (subst (λ (w : Value). ValueMeets met' bytes d p m.head w) same meets)
-
-pub values_meet_checks : ValuesMeetChecks
-unfolding from_nothing
-values_meet_checks d bytes opened p h v head value = checks_within d bytes node_bound opened p h v head value
+  value_meets d (heads.Absent at) v = tt
+  value_meets d (heads.Calc c) v = member_is d (record { type_number = c.object.type_number; member = c.member }) (holder_setting here (parent here) c.object) v
+  value_meets d (heads.Leaf l) v = member_is d l.origin.member (member_setting here here (last here) l.origin l.from) v
+  value_meets d (heads.Object o) v = object_is d o o.origin v
+  value_meets d (heads.List g) v = tt

@@ -27,18 +27,23 @@ same_then (Ok a) f g same = same a
 same_then (Err e) f g same = refl
 
 module _ (met : Node → Result Given Fault) (here : Trail) (bytes : List ℕ) where
-  met_behind_given : {A B : Type 0} (r : Result Given Fault) (k : Given → Rule A) (f : A → Rule B) → ((g : Given) → answer_of met here bytes (bind (k g) f) ≡ and_then (answer_of met here bytes (k g)) (λ a. answer_of met here bytes (f a)))
-      → with_given r (λ g. answer_of met here bytes (bind (k g) f)) ≡ and_then (with_given r (λ g. answer_of met here bytes (k g))) (λ a. answer_of met here bytes (f a))
+  met_behind_given : {A B : Type 0} (r : Result Given Fault) (k : Given → Rule A) (f : A → Rule B)
+      → ((g : Given) → answer_of met here bytes (bind (k g) f) ≡ and_then (answer_of met here bytes (k g)) (λ a. answer_of met here bytes (f a)))
+      → with_given r (λ g. answer_of met here bytes (bind (k g) f)) ≡ and_then (with_given r (λ g. answer_of met here bytes (k g)))
+      (λ a. answer_of met here bytes (f a))
   met_behind_given (Ok g) k f same = same g
   met_behind_given (Err e) k f same = refl
 
-  met_behind_seen : {A B X : Type 0} (o : Option X) (k : X → Rule A) (f : A → Rule B) → ((x : X) → answer_of met here bytes (bind (k x) f) ≡ and_then (answer_of met here bytes (k x)) (λ a. answer_of met here bytes (f a)))
-      → with_seen here o (λ x. answer_of met here bytes (bind (k x) f)) ≡ and_then (with_seen here o (λ x. answer_of met here bytes (k x))) (λ a. answer_of met here bytes (f a))
+  met_behind_seen : {A B X : Type 0} (o : Option X) (k : X → Rule A) (f : A → Rule B)
+      → ((x : X) → answer_of met here bytes (bind (k x) f) ≡ and_then (answer_of met here bytes (k x)) (λ a. answer_of met here bytes (f a)))
+      → with_seen here o (λ x. answer_of met here bytes (bind (k x) f)) ≡ and_then (with_seen here o (λ x. answer_of met here bytes (k x)))
+      (λ a. answer_of met here bytes (f a))
   met_behind_seen (Some x) k f same = same x
   met_behind_seen None k f same = refl
 
   -- the answer of one rule behind another
-  pub answer_bind : {A B : Type 0} (p : Rule A) (f : A → Rule B) → answer_of met here bytes (bind p f) ≡ and_then (answer_of met here bytes p) (λ a. answer_of met here bytes (f a))
+  pub answer_bind : {A B : Type 0} (p : Rule A) (f : A → Rule B)
+      → answer_of met here bytes (bind p f) ≡ and_then (answer_of met here bytes p) (λ a. answer_of met here bytes (f a))
   unfolding bind
   answer_bind (Answer a) f = refl
   answer_bind (Fail e) f = refl
@@ -46,25 +51,35 @@ module _ (met : Node → Result Given Fault) (here : Trail) (bytes : List ℕ) w
   answer_bind (Ask (See r) k) f = met_behind_seen (look r bytes).seen k f (λ x. answer_bind (k x) f)
 
   -- a plan over wants, translated
-  met_plan : {A : Type 0} (s : Setting) (p : Eval A) → answer_of met here bytes (translate (wanted s) Here p) ≡ plan_answer (fault_at here) (λ w. answer_of met here bytes (wanted s w)) p
+  met_plan : {A : Type 0} (s : Setting) (p : Eval A)
+      → answer_of met here bytes (translate (wanted s) Here p) ≡ plan_answer (fault_at here) (λ w. answer_of met here bytes (wanted s w)) p
   met_plan s (Answer a) = refl
   met_plan s (Fail k) = refl
   met_plan s (Ask w k) =
       answer_bind (wanted s w) (λ h. translate (wanted s) Here (k h))
-      ∙ same_then (answer_of met here bytes (wanted s w)) (λ h. answer_of met here bytes (translate (wanted s) Here (k h))) (λ h. plan_answer (fault_at here) (λ v. answer_of met here bytes (wanted s v)) (k h)) (λ h. met_plan s (k h))
+      ∙ same_then (answer_of met here bytes (wanted s w)) (λ h. answer_of met here bytes (translate (wanted s) Here (k h)))
+      (λ h. plan_answer (fault_at here) (λ v. answer_of met here bytes (wanted s v)) (k h)) (λ h. met_plan s (k h))
 
   -- what one rule behind another asks
-  asked_given : {A B : Type 0} (n : Node) (k : Given → Rule A) (f : A → Rule B) → ((g : Given) → asks_of met here bytes (bind (k g) f) ≡ asks_of met here bytes (k g) ++ asks_behind (answer_of met here bytes (k g)) (λ a. asks_of met here bytes (f a)))
-      → (r : Result Given Fault) → n ∷ given_list r (λ g. asks_of met here bytes (bind (k g) f)) ≡ (n ∷ given_list r (λ g. asks_of met here bytes (k g))) ++ asks_behind (with_given r (λ g. answer_of met here bytes (k g))) (λ a. asks_of met here bytes (f a))
+  asked_given : {A B : Type 0} (n : Node) (k : Given → Rule A) (f : A → Rule B)
+      → ((g : Given) → asks_of met here bytes (bind (k g) f) ≡ asks_of met here bytes (k g) ++ asks_behind (answer_of met here bytes (k g))
+      (λ a. asks_of met here bytes (f a)))
+      → (r : Result Given Fault) → n ∷ given_list r (λ g. asks_of met here bytes (bind (k g) f)) ≡
+      (n ∷ given_list r (λ g. asks_of met here bytes (k g))) ++ asks_behind (with_given r (λ g. answer_of met here bytes (k g)))
+      (λ a. asks_of met here bytes (f a))
   asked_given n k f same (Ok g) = ap (λ ns. n ∷ ns) (same g)
   asked_given n k f same (Err e) = refl
 
-  asked_seen : {A B X : Type 0} (k : X → Rule A) (f : A → Rule B) → ((x : X) → asks_of met here bytes (bind (k x) f) ≡ asks_of met here bytes (k x) ++ asks_behind (answer_of met here bytes (k x)) (λ a. asks_of met here bytes (f a)))
-      → (o : Option X) → seen_list o (λ x. asks_of met here bytes (bind (k x) f)) ≡ seen_list o (λ x. asks_of met here bytes (k x)) ++ asks_behind (with_seen here o (λ x. answer_of met here bytes (k x))) (λ a. asks_of met here bytes (f a))
+  asked_seen : {A B X : Type 0} (k : X → Rule A) (f : A → Rule B)
+      → ((x : X) → asks_of met here bytes (bind (k x) f) ≡ asks_of met here bytes (k x) ++ asks_behind (answer_of met here bytes (k x))
+      (λ a. asks_of met here bytes (f a)))
+      → (o : Option X) → seen_list o (λ x. asks_of met here bytes (bind (k x) f)) ≡ seen_list o (λ x. asks_of met here bytes (k x)) ++ asks_behind
+      (with_seen here o (λ x. answer_of met here bytes (k x))) (λ a. asks_of met here bytes (f a))
   asked_seen k f same (Some x) = same x
   asked_seen k f same None = refl
 
-  asks_bind : {A B : Type 0} (p : Rule A) (f : A → Rule B) → asks_of met here bytes (bind p f) ≡ asks_of met here bytes p ++ asks_behind (answer_of met here bytes p) (λ a. asks_of met here bytes (f a))
+  asks_bind : {A B : Type 0} (p : Rule A) (f : A → Rule B)
+      → asks_of met here bytes (bind p f) ≡ asks_of met here bytes p ++ asks_behind (answer_of met here bytes p) (λ a. asks_of met here bytes (f a))
   unfolding bind
   asks_bind (Answer a) f = refl
   asks_bind (Fail e) f = refl
@@ -72,17 +87,26 @@ module _ (met : Node → Result Given Fault) (here : Trail) (bytes : List ℕ) w
   asks_bind (Ask (See r) k) f = asked_seen k f (λ x. asks_bind (k x) f) (look r bytes).seen
 
   -- what one rule behind another uses
-  used_given : {A B : Type 0} (k : Given → Rule A) (f : A → Rule B) → ((g : Given) → uses_of met here bytes (bind (k g) f) ≡ uses_of met here bytes (k g) ++ asks_behind (answer_of met here bytes (k g)) (λ a. uses_of met here bytes (f a)))
-      → (r : Result Given Fault) → given_list r (λ g. uses_of met here bytes (bind (k g) f)) ≡ given_list r (λ g. uses_of met here bytes (k g)) ++ asks_behind (with_given r (λ g. answer_of met here bytes (k g))) (λ a. uses_of met here bytes (f a))
+  used_given : {A B : Type 0} (k : Given → Rule A) (f : A → Rule B)
+      → ((g : Given) → uses_of met here bytes (bind (k g) f) ≡ uses_of met here bytes (k g) ++ asks_behind (answer_of met here bytes (k g))
+      (λ a. uses_of met here bytes (f a)))
+      → (r : Result Given Fault) → given_list r (λ g. uses_of met here bytes (bind (k g) f)) ≡ given_list r
+      (λ g. uses_of met here bytes (k g)) ++ asks_behind (with_given r (λ g. answer_of met here bytes (k g))) (λ a. uses_of met here bytes (f a))
   used_given k f same (Ok g) = same g
   used_given k f same (Err e) = refl
 
-  used_seen : {A B X : Type 0} (us : List Use) (k : X → Rule A) (f : A → Rule B) → ((x : X) → uses_of met here bytes (bind (k x) f) ≡ uses_of met here bytes (k x) ++ asks_behind (answer_of met here bytes (k x)) (λ a. uses_of met here bytes (f a)))
-      → (o : Option X) → us ++ seen_list o (λ x. uses_of met here bytes (bind (k x) f)) ≡ (us ++ seen_list o (λ x. uses_of met here bytes (k x))) ++ asks_behind (with_seen here o (λ x. answer_of met here bytes (k x))) (λ a. uses_of met here bytes (f a))
-  used_seen us k f same (Some x) = ap (λ vs. us ++ vs) (same x) ∙ sym (append_assoc us (uses_of met here bytes (k x)) (asks_behind (answer_of met here bytes (k x)) (λ a. uses_of met here bytes (f a))))
+  used_seen : {A B X : Type 0} (us : List Use) (k : X → Rule A) (f : A → Rule B)
+      → ((x : X) → uses_of met here bytes (bind (k x) f) ≡ uses_of met here bytes (k x) ++ asks_behind (answer_of met here bytes (k x))
+      (λ a. uses_of met here bytes (f a)))
+      → (o : Option X) → us ++ seen_list o (λ x. uses_of met here bytes (bind (k x) f)) ≡
+      (us ++ seen_list o (λ x. uses_of met here bytes (k x))) ++ asks_behind (with_seen here o (λ x. answer_of met here bytes (k x)))
+      (λ a. uses_of met here bytes (f a))
+  used_seen us k f same (Some x) = ap (λ vs. us ++ vs) (same x)
+      ∙ sym (append_assoc us (uses_of met here bytes (k x)) (asks_behind (answer_of met here bytes (k x)) (λ a. uses_of met here bytes (f a))))
   used_seen us k f same None = sym (append-nil (us ++ []))
 
-  uses_bind : {A B : Type 0} (p : Rule A) (f : A → Rule B) → uses_of met here bytes (bind p f) ≡ uses_of met here bytes p ++ asks_behind (answer_of met here bytes p) (λ a. uses_of met here bytes (f a))
+  uses_bind : {A B : Type 0} (p : Rule A) (f : A → Rule B)
+      → uses_of met here bytes (bind p f) ≡ uses_of met here bytes p ++ asks_behind (answer_of met here bytes p) (λ a. uses_of met here bytes (f a))
   unfolding bind
   uses_bind (Answer a) f = refl
   uses_bind (Fail e) f = refl
@@ -95,23 +119,29 @@ module _ (met : Node → Result Given Fault) (here : Trail) (bytes : List ℕ) w
     heard_of w = answer_of met here bytes (wanted s w)
 
     -- what some rules ask or use, one for each want
-    rest_same : {X : Type 0} (each : Want → List X) (w : Want) (behind : Heard → List X) (wants : Heard → List Want) → ((h : Heard) → behind h ≡ flat_map each (wants h)) → (r : Result Heard Fault) → each w ++ asks_behind r behind ≡ each w ++ flat_map each (asks_behind r wants)
+    rest_same : {X : Type 0} (each : Want → List X) (w : Want) (behind : Heard → List X) (wants : Heard → List Want)
+        → ((h : Heard) → behind h ≡ flat_map each (wants h)) → (r : Result Heard Fault)
+        → each w ++ asks_behind r behind ≡ each w ++ flat_map each (asks_behind r wants)
     rest_same each w behind wants same (Ok h) = ap (λ xs. each w ++ xs) (same h)
     rest_same each w behind wants same (Err e) = refl
 
-    asks_plan : {A : Type 0} (p : Eval A) → asks_of met here bytes (translate (wanted s) Here p) ≡ flat_map (λ w. asks_of met here bytes (wanted s w)) (plan_asks heard_of p)
+    asks_plan : {A : Type 0} (p : Eval A) → asks_of met here bytes (translate (wanted s) Here p) ≡ flat_map (λ w. asks_of met here bytes (wanted s w))
+        (plan_asks heard_of p)
     asks_plan (Answer a) = refl
     asks_plan (Fail k) = refl
     asks_plan (Ask w k) =
         asks_bind (wanted s w) (λ h. translate (wanted s) Here (k h))
-        ∙ rest_same (λ v. asks_of met here bytes (wanted s v)) w (λ h. asks_of met here bytes (translate (wanted s) Here (k h))) (λ h. plan_asks heard_of (k h)) (λ h. asks_plan (k h)) (heard_of w)
+        ∙ rest_same (λ v. asks_of met here bytes (wanted s v)) w (λ h. asks_of met here bytes (translate (wanted s) Here (k h)))
+        (λ h. plan_asks heard_of (k h)) (λ h. asks_plan (k h)) (heard_of w)
 
-    uses_plan : {A : Type 0} (p : Eval A) → uses_of met here bytes (translate (wanted s) Here p) ≡ flat_map (λ w. uses_of met here bytes (wanted s w)) (plan_asks heard_of p)
+    uses_plan : {A : Type 0} (p : Eval A) → uses_of met here bytes (translate (wanted s) Here p) ≡ flat_map (λ w. uses_of met here bytes (wanted s w))
+        (plan_asks heard_of p)
     uses_plan (Answer a) = refl
     uses_plan (Fail k) = refl
     uses_plan (Ask w k) =
         uses_bind (wanted s w) (λ h. translate (wanted s) Here (k h))
-        ∙ rest_same (λ v. uses_of met here bytes (wanted s v)) w (λ h. uses_of met here bytes (translate (wanted s) Here (k h))) (λ h. plan_asks heard_of (k h)) (λ h. uses_plan (k h)) (heard_of w)
+        ∙ rest_same (λ v. uses_of met here bytes (wanted s v)) w (λ h. uses_of met here bytes (translate (wanted s) Here (k h)))
+        (λ h. plan_asks heard_of (k h)) (λ h. uses_plan (k h)) (heard_of w)
 
 pub expressions_are_met : ExpressionsAreMet
 unfolding expression

@@ -20,20 +20,25 @@
 //!
 //! Lemmas (`proofs/`):
 //!
-//! - `Answering`: what a rule that answers went through, and what it answers with fewer nodes open
-//! - `Checking`: a value that is answered meets what it must
+//! - `Answering`: what a rule that answers went through, what it answers with fewer nodes open, and what is so of all answers
+//! - `Checking`: a value that was checked meets what it must
 //! - `Circles`: a circle comes from nodes that ask for each other, and from no rule
 //! - `Counting`: the count of a list is that of the elements that end
 //! - `Enclosing`: what is read is in the stream of the object or list that holds it
+//! - `Expressions`: what an expression gives, by its parts, and that none fails as a circle
 //! - `Following`: an attribute begins after the one before it
-//! - `Forms`: an answer has its node's form, and a value fits its head
+//! - `Forms`: an answer has its node's form, and a value fits its head and meets what it must
+//! - `Members`: how the members of a description read, and the case that a switch chose
 //! - `Meeting`: what an expression answers in a rule where each node has an answer
-//! - `OwnFaults`: no expression fails as a circle
 //! - `Places`: each place in an answer is in the file
 //! - `Ranges`: places in the value of an expression are in the file
+//! - `Rules`: what is so of each answer of a rule, by its parts
+//! - `Shapes`: what an answered head, value, end and rest is
+//! - `Shaping`: what rules of heads, ends and rests answer has a shape, a lemma a rule
 //! - `Sources`: what is at a path is read by a member of the description
 //! - `Starts`: places, and the bytes beside them
 //! - `Touching`: an element begins where the one before it ends
+//! - `Values`: what rules of values answer, a lemma a rule
 #![tactic(auto)]
 
 mod laws;

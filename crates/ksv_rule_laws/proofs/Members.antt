@@ -1,0 +1,119 @@
+-- How the members of a description read: the member of a place or a name, and the case that a switch chose.
+use Rattle.std.proofs.Common.{◌≡◌, ◌∙◌, ℕ, suc, ◌+◌, Bool, true, false, if◌then◌else◌, List, [], ◌∷◌, slice_get, Option, Some, None, Result, refl, sym, ap}
+use Rattle.std.proofs.Common.{subst, arith}
+use Rattle.ksv_expr_tree.specs.Tree.{Tree}
+use Rattle.ksv_expr_value.specs.Setting.{Setting}
+use Rattle.ksv_expr_value.specs.Trail.{Trail}
+use Rattle.ksv_expr_value.specs.declared.fault.Fault.{Fault}
+use Rattle.ksv_expr_value.specs.declared.value.Value.{Value}
+use Rattle.ksv_desc.specs.Description.{Description, MemberOfType, MemberKind, Attribute, ParseInstance, Content, Case, Choice, Always, Switch}
+use Rattle.ksv_desc.specs.Description as contents
+use Rattle.ksv_nodes.specs.declared.node.Node.{Node}
+use Rattle.ksv_nodes.specs.declared.given.Given.{Given}
+use Rattle.ksv_nodes.specs.declared.given.MemberRef.{MemberRef}
+use Rattle.ksv_nodes.specs.Rule.{Rule}
+use Rattle.ksv_rule_meaning.specs.Wanted.{expression}
+use Rattle.ksv_rule_meaning.specs.Choosing.{Chosen, is_case_of, is_default, first_case, or_default, case_for, switched, choose, in_case, content_of}
+use Rattle.ksv_rule_meaning.specs.Fields.{members_of, Sought, in_sought, read_by, in_kind, kind_of, field_of}
+use Rattle.ksv_rule_laws.specs.Laws.{Reads, IsFieldOf, IsContentOf}
+use Rattle.ksv_rule_laws.proofs.Rules.{Answers, join, expression_is}
+
+-- what was chosen is a case of these, of which the first has this number
+record IsOneOf (cases : List Case) (i : ℕ) (c : Chosen) : Type 0 where
+  place : ℕ
+  is : c.case ≡ Some (i + place)
+  one : Case
+  there : slice_get cases place ≡ Some one
+  content : one.content ≡ c.content
+
+one_case : (a b : Case) → Some a ≡ Some b → a ≡ b
+one_case a b e = cc
+
+one_chosen : (a b : Chosen) → Some a ≡ Some b → a ≡ b
+one_chosen a b e = cc
+
+first_there : (is_right : Case → Bool) (i : ℕ) (cases : List Case) (c : Chosen) → first_case is_right i cases ≡ Some c → IsOneOf cases i c
+unfolding first_case
+first_there is_right i [] c e = absurd (cc)
+first_there is_right i (k ∷ cases) c e = by_right (is_right k) e (first_there is_right (i + 1) cases c)
+  where
+    found : Chosen
+    found = record { case = Some i; content = k.content }
+
+    by_right : (b : Bool) → (if b then Some found else first_case is_right (i + 1) cases) ≡ Some c
+        → (first_case is_right (i + 1) cases ≡ Some c → IsOneOf cases (i + 1) c) → IsOneOf (k ∷ cases) i c
+    by_right true h later =
+        let same : found ≡ c = one_chosen found c h in
+        let at : i ≡ i + 0 = omega arith in
+        record { place = 0; is = ap (λ (x : Chosen). x.case) (sym same) ∙ ap Some at; one = k; there = refl; content = ap (λ (x : Chosen). x.content) same }
+    by_right false h later =
+        let r = later h in
+        let at : i + 1 + r.place ≡ i + suc r.place = omega arith in
+        record { place = suc r.place; is = r.is ∙ ap Some at; one = r.one; there = r.there; content = r.content }
+
+case_there : (v : Value) (cases : List Case) (c : Chosen) → case_for v cases ≡ Some c → IsOneOf cases 0 c
+unfolding case_for
+case_there v cases c e = by_first (first_case (is_case_of v) 0 cases) refl e
+  where
+    by_first : (o : Option Chosen) → first_case (is_case_of v) 0 cases ≡ o → or_default o cases ≡ Some c → IsOneOf cases 0 c
+    by_first None is h = first_there is_default 0 cases c h
+    by_first (Some k) is h = first_there (is_case_of v) 0 cases c (is ∙ h)
+
+-- what was chosen is read by its case
+abbrev pub IsChosen : Choice → Option Chosen → Type 0
+IsChosen choice None = IsContentOf choice None contents.Bytes
+IsChosen choice (Some c) = IsContentOf choice c.case c.content
+
+switch_is : (on : Tree) (cases : List Case) (v : Value) (o : Option Chosen) → case_for v cases ≡ o → IsChosen (Switch on cases) o
+switch_is on cases v None e = refl
+switch_is on cases v (Some c) e =
+    let r = case_there v cases c e in
+    let at : 0 + r.place ≡ r.place = omega arith in
+    subst (λ k. IsContentOf (Switch on cases) k c.content) (sym (r.is ∙ ap Some at)) (r.one, r.there, r.content)
+
+module _ (met : Node → Result Given Fault) (here : Trail) (bytes : List ℕ) where
+  abbrev Says : {A : Type 0} → (A → Type 0) → Rule A → Type 0
+  Says P p = Answers met here bytes P p
+
+  pub choice_is : (at : Setting) (choice : Choice) → Says (λ o. IsChosen choice o) (choose at choice)
+  unfolding choose switched
+  choice_is at (Always c) = refl
+  choice_is at (Switch on cases) = join met here bytes _ _ (expression at on) _ (expression_is met here bytes at on)
+      (λ v is. switch_is on cases v (case_for v cases) refl)
+
+  -- the content of a case is the one by which something is read
+  pub content_found : (choice : Choice) (case : Option ℕ) → Says (λ c. (k : Content) → IsContentOf choice case k → k ≡ c) (content_of choice case)
+  unfolding content_of
+  content_found (Always a) None = λ k is. sym is
+  content_found (Always a) (Some i) = λ k is. absurd is
+  content_found (Switch on cases) None = λ k is. is
+  content_found (Switch on cases) (Some i) = by_case (slice_get cases i)
+    where
+      by_case : (o : Option Case) → Answers met here bytes (λ c. (k : Content) → (one : Case) × (o ≡ Some one) × (one.content ≡ k) → k ≡ c) (in_case o)
+      by_case None = tt
+      by_case (Some c) = λ k is. sym is.2 ∙ sym (ap (λ (x : Case). x.content) (one_case c is.0 is.1))
+
+  -- what the member of a place is, and how it reads
+  pub kind_found : (d : Description) (r : MemberRef)
+      → Says (λ k. (m : MemberOfType) × (slice_get (members_of d r.type_number) r.member ≡ Some m) × (m.kind ≡ k)) (kind_of d r)
+  unfolding kind_of
+  kind_found d r = by_member (slice_get (members_of d r.type_number) r.member)
+    where
+      by_member : (o : Option MemberOfType) → Answers met here bytes (λ k. (m : MemberOfType) × (o ≡ Some m) × (m.kind ≡ k)) (in_kind o)
+      by_member None = tt
+      by_member (Some m) = (m, refl, refl)
+
+  pub field_found : (d : Description) (r : MemberRef) → Says (λ f. IsFieldOf d r f) (field_of d r)
+  unfolding field_of
+  field_found d r = join met here bytes _ _ (kind_of d r) (λ k. read_by k) (kind_found d r) (λ k is. by_kind k is.0 is.1 is.2)
+    where
+      by_kind : (k : MemberKind) (m : MemberOfType) → slice_get (members_of d r.type_number) r.member ≡ Some m → m.kind ≡ k
+          → Answers met here bytes (λ f. IsFieldOf d r f) (read_by k)
+      by_kind (Attribute f) m is kind = (m, is, subst (λ k. Reads k f) (sym kind) refl)
+      by_kind (ParseInstance at io f) m is kind = (m, is, subst (λ k. Reads k f) (sym kind) refl)
+      by_kind _ m is kind = tt
+
+  -- the member of a name
+  pub sought_is : (o : Option Sought) → Says (λ m. o ≡ Some m) (in_sought o)
+  sought_is None = tt
+  sought_is (Some m) = refl
