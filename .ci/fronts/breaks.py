@@ -3,6 +3,7 @@ import contextlib
 import hashlib
 import os
 import random
+import re
 import signal
 from dataclasses import dataclass, field
 from typing import Callable, Dict, Iterator, List, Optional, Sequence, Tuple, Type
@@ -82,9 +83,13 @@ class Journey:
         """Begins a shell."""
         self.shell = self.kind.shell(self.room)
 
+    def told(self, line: str) -> str:
+        """What is told below a line, but for what a terminal has below an error."""
+        return re.sub(r"^(error: .*)\n  \(.*\)$", r"\1", self.shell.ask(line))
+
     def plainly(self, line: str) -> None:
         """Does a line with no break."""
-        told, (after, wanted) = self.shell.ask(line), self.state.after(line)
+        told, (after, wanted) = self.told(line), self.state.after(line)
         if told != wanted:
             raise Wrong(f"{line[:40]}: told {told[:200]!r}, and not {wanted!r}")
         self.state = after
@@ -112,7 +117,7 @@ class Journey:
         self.plainly("size")
         before, (after, wanted) = self.state, self.state.after(line)
         self.room.control.arm(plans)
-        told = self.shell.ask(line)
+        told = self.told(line)
         fired = self.room.control.fired()
         self.num_trials += 1 if fired else 0
         if self.kind.action == TWICE and fired:
