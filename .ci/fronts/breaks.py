@@ -67,11 +67,6 @@ class Wrong(Exception):
     """What isn't as it should be."""
 
 
-def without_help(told: str) -> str:
-    """A reply without what a terminal shows below one that refuses a line."""
-    return re.sub(r"(?m)^(error: [^\n]*)\n  \([^\n]*\)$", r"\1", told)
-
-
 @dataclass
 class Journey:
     """One session, and those after it where it ends, through some lines: each is broken off at each of some questions, and then done."""
@@ -88,9 +83,13 @@ class Journey:
         """Begins a shell."""
         self.shell = self.kind.shell(self.room)
 
+    def told(self, line: str) -> str:
+        """What is told below a line, but for what a terminal has below an error."""
+        return re.sub(r"(?m)^(error: .*)\n  \(.*\)$", r"\1", self.shell.ask(line))
+
     def plainly(self, line: str) -> None:
         """Does a line with no break."""
-        told, (after, wanted) = without_help(self.shell.ask(line)), self.state.after(line)
+        told, (after, wanted) = self.told(line), self.state.after(line)
         if told != wanted:
             raise Wrong(f"{line[:40]}: told {told[:200]!r}, and not {wanted!r}")
         self.state = after
@@ -118,7 +117,7 @@ class Journey:
         self.plainly("size")
         before, (after, wanted) = self.state, self.state.after(line)
         self.room.control.arm(plans)
-        told = without_help(self.shell.ask(line))
+        told = self.told(line)
         fired = self.room.control.fired()
         self.num_trials += 1 if fired else 0
         if self.kind.action == TWICE and fired:
