@@ -50,22 +50,15 @@ IsStreamOf (heads.Object o) w = o.stream ≡ w
 IsStreamOf (heads.List g) w = g.stream ≡ w
 IsStreamOf _ w = ⊥
 
--- a parse instance that is read in the stream that its `io` names
-abbrev HasIo : MemberKind → Type 0
-HasIo (ParseInstance e (Some io) f) = Unit {0}
-HasIo _ = ⊥
-
--- a step leads to such an instance of an object
-abbrev IsElsewhere : Description → Head → Option Step → Type 0
-IsElsewhere d (heads.Object o) (Some (steps.Name x)) = (s : Sought) × (sought x 0 None (members_of d o.type_number) ≡ Some s) × HasIo s.kind
-IsElsewhere d _ step = ⊥
+-- a step of an object leads to an attribute, if to a member
+abbrev IsBeside : Description → Head → Step → Type 0
+IsBeside d (heads.Object o) (steps.Name x) = (s : Sought) → sought x 0 None (members_of d o.type_number) ≡ Some s → is_attribute s.kind ≡ true
+IsBeside d _ step = Unit {0}
 
 same_stream : (k : Head) (w w' : Stream) → IsStreamOf k w → IsStreamOf k w' → w ≡ w'
 same_stream (heads.Object o) w w' a b = sym a ∙ b
 same_stream (heads.List g) w w' a b = sym a ∙ b
-same_stream (heads.Absent at) w w' a b = absurd a
-same_stream (heads.Calc c) w w' a b = absurd a
-same_stream (heads.Leaf l) w w' a b = absurd a
+same_stream _ w w' a b = absurd a
 
 some_is : {A : Type 0} (x y : A) → ◌≡◌ {A = Option A} (Some x) (Some y) → x ≡ y
 some_is x y e = cc
@@ -75,39 +68,24 @@ head_of_given x y e = cc
 
 -- ---- the parts of an object that rules ask for
 
--- an attribute is read in no other stream
-no_io : (k : MemberKind) → is_attribute k ≡ true → HasIo k → ⊥
-no_io (Attribute f) a io = io
-no_io _ a io = absurd (cc)
-
--- other members are read in the stream of their object
-for_own : (met : Node → Result Given Fault) (bytes : List ℕ) (p : Trail) (o : Object) (k : MemberKind) (w : Stream) → (HasIo k → ⊥)
+-- an attribute is read in the stream of its object
+for_own : (met : Node → Result Given Fault) (bytes : List ℕ) (p : Trail) (o : Object) (k : MemberKind) (w : Stream) → is_attribute k ≡ true
     → IsStreamFor met bytes p o k w → o.stream ≡ w
-for_own met bytes p o Parameter w own is = is
 for_own met bytes p o (Attribute f) w own is = is
-for_own met bytes p o (ParseInstance e None f) w own is = is
-for_own met bytes p o (ParseInstance e (Some io) f) w own is = absurd (own tt)
-for_own met bytes p o (ValueInstance v) w own is = is
+for_own met bytes p o _ w own is = absurd (cc)
 
--- what isn't read in another stream is read in that of its holder
+-- so is an element in that of its list
 read_own : (d : Description) (met : Node → Result Given Fault) (bytes : List ℕ) (p : Trail) (k : Head) (step : Step) (w : Stream)
-    → (IsElsewhere d k (Some step) → ⊥) → IsReadIn d met bytes p k (Some step) w → IsStreamOf k w
-read_own d met bytes p (heads.Object o) (steps.Name x) w apart is = for_own met bytes p o is.0.kind w (λ io. apart (is.0, is.1, io)) is.2
-read_own d met bytes p (heads.Object o) (steps.Index i) w apart is = absurd is
-read_own d met bytes p (heads.List g) (steps.Name x) w apart is = absurd is
-read_own d met bytes p (heads.List g) (steps.Index i) w apart is = is
-read_own d met bytes p (heads.Absent at) step w apart is = absurd is
-read_own d met bytes p (heads.Calc c) step w apart is = absurd is
-read_own d met bytes p (heads.Leaf l) step w apart is = absurd is
+    → IsBeside d k step → IsReadIn d met bytes p k (Some step) w → IsStreamOf k w
+read_own d met bytes p (heads.Object o) (steps.Name x) w beside is = for_own met bytes p o is.0.kind w (beside is.0 is.1) is.2
+read_own d met bytes p (heads.List g) (steps.Index i) w beside is = is
+read_own d met bytes p _ step w beside is = absurd is
 
 -- all elements of a list are read in one stream
 read_beside : (d : Description) (met : Node → Result Given Fault) (bytes : List ℕ) (r p : Trail) (k : Head) (i j : ℕ) (w : Stream)
     → IsReadIn d met bytes r k (Some (steps.Index i)) w → IsReadIn d met bytes p k (Some (steps.Index j)) w
-read_beside d met bytes r p (heads.Object o) i j w is = absurd is
 read_beside d met bytes r p (heads.List g) i j w is = is
-read_beside d met bytes r p (heads.Absent at) i j w is = absurd is
-read_beside d met bytes r p (heads.Calc c) i j w is = absurd is
-read_beside d met bytes r p (heads.Leaf l) i j w is = absurd is
+read_beside d met bytes r p _ i j w is = absurd is
 
 -- this names an attribute of the members
 abbrev IsOfAttribute : ℕ → List MemberOfType → Type 0
@@ -176,15 +154,15 @@ before_named x i before (m ∷ ms) s y e is = by_test (m.name == x) e (λ h. bef
     by_test true h further = inl (ap (λ (t : Sought). t.before) (some_is (record { member = i; before = before; kind = m.kind }) s h) ∙ is)
     by_test false h further = one_more before m ms y (further h)
 
--- a part that is named so isn't read in another stream
+-- a part that is named so is an attribute
 abbrev IsHere : Description → Object → Option ℕ → Type 0
 IsHere d o None = Unit {0}
-IsHere d o (Some z) = IsElsewhere d (heads.Object o) (Some (steps.Name z)) → ⊥
+IsHere d o (Some z) = IsBeside d (heads.Object o) (steps.Name z)
 
 module _ (d : Description) (distinct : HasDistinctNames d) (o : Object) where
-  here_named : (z : ℕ) → (None ≡ Some z) ⊎ IsOfAttribute z (members_of d o.type_number) → IsElsewhere d (heads.Object o) (Some (steps.Name z)) → ⊥
-  here_named z (inl e) x = absurd (cc)
-  here_named z (inr named) x = no_io x.0.kind (named_attribute z 0 None (members_of d o.type_number) x.0 (distinct o.type_number) named x.1) x.2
+  here_named : (z : ℕ) → (None ≡ Some z) ⊎ IsOfAttribute z (members_of d o.type_number) → IsBeside d (heads.Object o) (steps.Name z)
+  here_named z (inl e) s is = absurd (cc)
+  here_named z (inr named) s is = named_attribute z 0 None (members_of d o.type_number) s (distinct o.type_number) named is
 
   last_here : (z : Option ℕ) → last_attribute None (members_of d o.type_number) ≡ z → IsHere d o z
   last_here None e = tt
@@ -240,14 +218,14 @@ module _ (d : Description) (distinct : HasDistinctNames d) (bytes : List ℕ) (m
 
   -- what holds a part that isn't read in another stream is known where its head was asked
   held_at : (P : Stream → Type 0) (r q : Trail) (step : Step) (k : Head) (w : Stream) → (parent r ≡ q) × (last r ≡ Some step)
-      → (IsElsewhere d k (Some step) → ⊥) → all (head_node q) ≡ Ok (givens.Head k) → IsStreamOf k w → IsHeld d bytes all r P → P w
+      → IsBeside d k step → all (head_node q) ≡ Ok (givens.Head k) → IsStreamOf k w → IsHeld d bytes all r P → P w
   held_at P r q step k w up apart asked own held =
       let one : held.holder ≡ k = head_of_given held.holder k (sym held.answered ∙ ap (λ p. all (head_node p)) up.0 ∙ asked) in
       let read : IsReadIn d all bytes r k (Some step) held.stream =
       subst (λ x. IsReadIn d all bytes r x (Some step) held.stream) one (subst (λ o. IsReadIn d all bytes r held.holder o held.stream) up.1 held.read) in
       subst P (same_stream k held.stream w (read_own d all bytes r k step held.stream apart read) own) held.lies
 
-  ends_in : (q : Trail) (step : Step) (e : Place) (k : Head) (w : Stream) → (IsElsewhere d k (Some step) → ⊥) → all (head_node q) ≡ Ok (givens.Head k)
+  ends_in : (q : Trail) (step : Step) (e : Place) (k : Head) (w : Stream) → IsBeside d k step → all (head_node q) ≡ Ok (givens.Head k)
       → IsStreamOf k w → EndsAt met q step e → Between w (byte_of e)
   ends_in q step e k w apart asked own is =
       let up = part_of q is.path step is.is in
@@ -367,7 +345,7 @@ module _ (d : Description) (distinct : HasDistinctNames d) (bytes : List ℕ) (m
       let now = same _ _ is.asked in
       let begins : Between g.stream (byte_of is.start) = elim is.begins [
         | inl first ↦ subst (λ n. Between g.stream (byte_of n)) first.1 (holder_begins (heads.List g) is.asked)
-        | inr later ↦ ends_in (parent here) (steps.Index later.before) is.start (heads.List g) g.stream (λ x. x) now refl
+        | inr later ↦ ends_in (parent here) (steps.Index later.before) is.start (heads.List g) g.stream tt now refl
             (record { path = later.path; is = later.is; is_last = false; ended = later.ended })
       ] in
       record {
@@ -408,7 +386,7 @@ module _ (d : Description) (distinct : HasDistinctNames d) (bytes : List ℕ) (m
   place_in (heads.Object o) w e asked within is = object_end_in o o.ending w e asked within is
   place_in (heads.List g) w e asked within is =
       let r = is.1 in
-      held_at (λ v. Between v (byte_of e)) r.path here (steps.Index 0) (heads.List g) w (part_of here r.path (steps.Index 0) r.is) (λ x. x) asked within.1
+      held_at (λ v. Between v (byte_of e)) r.path here (steps.Index 0) (heads.List g) w (part_of here r.path (steps.Index 0) r.is) tt asked within.1
       (lies (rest_node r.path) (givens.Rest is.0 e) r.rested)
 
   end_of_in : (e : Place) (so : Bool) → IsEndOf d met here bytes e so → EndLies d bytes all here (last here) e

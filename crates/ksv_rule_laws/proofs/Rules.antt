@@ -70,7 +70,7 @@ expression_own s e = fails_translate IsOwn IsOwnRaised (wanted s) Here (value_in
 -- ---- what a rule answers
 
 module _ (met : Node → Result Given Fault) (here : Trail) (bytes : List ℕ) where
-  -- where each node that it asks answers as `met` says
+  -- each answer of a rule is so, where each node that it asks answers as `met` says; no fault of its own is a circle
   abbrev pub Answers : {A : Type 0} → (A → Type 0) → Rule A → Type 0
   Answers P (Answer a) = P a
   Answers P (Fail e) = IsOwnRaised e

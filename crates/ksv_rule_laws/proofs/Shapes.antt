@@ -1,6 +1,6 @@
 -- What an answered head, value, end and rest is: where it comes from, where it begins and ends, and what was asked for it. These are the
--- shapes of answers. Shaping has the lemmas that rules answer so, one a rule; laws are cases over shapes.
-use Rattle.std.specs.Prelude.{◌≡◌, ℕ, ◌+◌, ◌≤◌, ◌⊎◌, ℤ, true, false, Bool, true, false, List, Option, Some, None, Result, Ok}
+-- shapes of answers. Shaping, Values and Checking have the lemmas that rules answer so, one a rule; laws are cases over shapes.
+use Rattle.std.specs.Prelude.{◌≡◌, ℕ, ◌+◌, ◌≤◌, ◌⊎◌, ℤ, Bool, true, false, List, Option, Some, None, Result, Ok}
 use Rattle.ksv_expr_tree.specs.Tree.{Tree}
 use Rattle.ksv_expr_value.specs.Places.{Place, at_byte, byte_of, aligned}
 use Rattle.ksv_expr_value.specs.Setting.{Setting, NoElement}
@@ -37,13 +37,14 @@ use Rattle.ksv_rule_laws.specs.Laws.{IsReadBy, IsOfLeaf, ValueMeets, IsNoStream,
 
 -- ---- what is read at a place
 
--- a byte isn't after the end of the stream w, nor before the place s, where that isn't
+-- a byte isn't after the end of the stream w; where the place s isn't either, the byte isn't before it
 pub record IsBehind (bytes : List ℕ) (w : Stream) (s : Place) (n : ℕ) : Type 0 where
   pub after : byte_of s ≤ end_in bytes w.to → byte_of s ≤ n
   pub inside : n ≤ end_in bytes w.to
 
--- what a member that reads so reads once or as a list, at the place s of the stream w; the case of a leaf and an object is chosen
+-- what is read at the place s of the stream w by a member that reads as f says: bytes or bits, an object, a list, or nothing
 module _ (bytes : List ℕ) (origin : Origin) (w : Stream) (s : Place) (f : Field) where
+  -- bytes or bits; the case by which they are read was chosen there, if none was before
   pub record IsLeafAt (l : Leaf) : Type 0 where
     pub from : l.from ≡ s
     pub to : IsBehind bytes w s (byte_of l.to)
@@ -63,6 +64,7 @@ module _ (bytes : List ℕ) (origin : Origin) (w : Stream) (s : Place) (f : Fiel
     pub home : by.home ≡ origin.home
     pub read : IsObjectOf o.type_number by.case f
 
+  -- a list has no case: each of its elements has its own
   pub record IsListAt (g : lists.List) : Type 0 where
     pub start : g.start ≡ s
     pub stream : g.stream ≡ w
