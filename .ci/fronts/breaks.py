@@ -32,7 +32,7 @@ class Kind:
     shell: Type[Shell]
     status: Optional[int] = None
     again: int = 0
-    most: int = 4
+    most: int = 3
 
 
 KINDS = [
@@ -40,7 +40,7 @@ KINDS = [
     Kind("ctrl-C twice", TWICE, Terminal),
     Kind("ctrl-C, and while it is begun anew", signal.SIGINT, Terminal, again=signal.SIGINT),
     Kind("killed", DIED, Piped),
-    Kind("killed in a reply", HALF, Piped, most=3),
+    Kind("killed in a reply", HALF, Piped),
     Kind("killed, and again", DIED, Piped, again=DIED),
     Kind("no memory", NO_MEMORY, Piped),
     Kind("no memory, and again", NO_MEMORY, Piped, again=NO_MEMORY),
