@@ -1,4 +1,5 @@
 """Leaving with edits that aren't saved: it is told, and the second time they are lost. With `--save` they are saved."""
+import os
 import tempfile
 from typing import Iterator, Optional
 
@@ -6,6 +7,12 @@ from front.view.filing import Leave
 from viewed import desks, fresh
 
 EDIT = "tab 1 2"
+
+
+def content(name: str) -> bytes:
+    """The bytes of a file."""
+    with open(name, "rb") as file:
+        return file.read()
 
 
 def left(script: str, out: Optional[str] = None) -> str:
@@ -28,7 +35,7 @@ def trials() -> Iterator[str]:
             own = left(script)
             yield "" if own == wanted else f"{script}: {own!r}, and not {wanted!r}"
         own = left(f"{EDIT} q", "SAVED")
-        with open(f"{room}/SAVED", "rb") as file:
-            yield "" if own == gone and file.read(1) == b"\x12" else f"--save: {own!r}"
+        wanted = fresh.edited(content(desks.example("ico")[0]), ["set 0 12"])
+        yield "" if own == gone and os.path.exists("SAVED") and content("SAVED") == wanted else f"--save: {own!r}"
         own = left(f"{EDIT} q", "none/x")
         yield "" if "q once more loses the edits" in own else f"--save to where nothing can be saved: {own!r}"

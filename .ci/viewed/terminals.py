@@ -200,7 +200,7 @@ def as_drawn(_room: str) -> Iterator[str]:
 
 
 def broken_off(_room: str) -> Iterator[str]:
-    """A question that takes long has a sign, and ctrl-C breaks it off; the session and its edits go on."""
+    """A question that takes long has a sign, and ctrl-C breaks it off; the session and its edits go on. Another size that comes meanwhile is drawn after it."""
     terminal, waited = Terminal(ICON), []
     yield terminal.shown("", "? help  q quit")
     for _ in range(TIMES):
@@ -211,6 +211,12 @@ def broken_off(_room: str) -> Iterator[str]:
         yield terminal.shown("\x03", "broken off")
         yield terminal.shown(SENT["ctrl-l"], "? help  q quit")
         yield terminal.shown("r", "read again:")
+    terminal.stop()
+    yield terminal.shown("f", SIGN)
+    terminal.sized(12, 60)
+    yield terminal.shown("\x03", "/  at 0 22 (0x0 0x16)  object ico")
+    terminal.sized(24, 80)
+    yield terminal.shown(SENT["ctrl-l"], "? help  q quit")
     yield "" if min(waited) < SOON else f"the sign came after {' '.join(f'{it:.2f}' for it in waited)} s"
     yield terminal.shown("f", "fault invalid")
     yield terminal.shown("e22", "(now 1a000000): 22")
