@@ -138,6 +138,7 @@ impl<R: Rules> Engine<R> {
 
     /// Takes out the kept nodes that an edit touches, so that the engine is right for the bytes after it. It takes no
     /// memory.
+    #[inline(always)]
     pub fn forget(&mut self, change: Change)
         ensures right { (rules : R) (before after : List ℕ) → IsRight (on (R.meaning rules) before) self.old.kept → Makes change before after → IsRight (on (R.meaning rules) after) self.new.kept }
 
