@@ -41,7 +41,7 @@ def clause_of(goal, own=""):
     if RETURNS.fullmatch(head):
         return f"ensures {name}".strip()
     kinds = ((REQUIRES, "requires of"), (LOOP, "invariant of loop"), (OF_TYPE, "invariant of"))
-    kind = next((f"{said} {found[1]}" for form, said in kinds if (found := form.fullmatch(head))), "")
+    kind = next((f"{said} {found[1].removeprefix('loop-')}" for form, said in kinds if (found := form.fullmatch(head))), "")
     return f"{kind}: {name}" if kind and name else kind
 
 
