@@ -42,6 +42,7 @@ EARLY = (
 )
 PROOFS = Part("rt", ("rt", "ci"))
 EDITS = Part("edits", ("{top}/edits/run", "--gate", "--over", "{copy}", "--rt", "{log}"))
+CLAUSES = Part("clauses", ("{top}/edits/run", "--clauses", "--some", "--over", "{copy}"))
 # Through the program that was proved.
 LATE = (
     Part("examples", ("{copy}/examples/run",)),
@@ -58,7 +59,7 @@ LATE = (
     Part("second", ("{copy}/tools/second/run",)),
     Part("self", ("{top}/.ci/self", "--some", "{commit}", "--over", "{copy}")),
 )
-PARTS = (*EARLY, PROOFS, EDITS, *LATE)
+PARTS = (*EARLY, PROOFS, EDITS, CLAUSES, *LATE)
 # What can be started and is no part: the gate itself, and what is run by hand.
 TOOLS = (".ci/gate", ".ci/run", ".ci/times", ".ci/mend", ".ci/view", "bench/run", "tools/build/run")
 
