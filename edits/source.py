@@ -1,4 +1,5 @@
 """Functions of a crate's source files, as the prover names them, and stubs for their bodies."""
+import glob
 import os
 import re
 import shutil
@@ -116,8 +117,10 @@ def has_stub(it, kept):
 
 
 def has_proof(folder, name):
-    """Whether a proof of a function is written: a folder of its own in proofs/."""
-    return os.path.isdir(f"{folder}/proofs/{name.replace('::', '/')}")
+    """Whether a proof of a function is written: a folder of its own in proofs/, or answers of its own in that of functions that call each other."""
+    home, _, own = name.replace("::", "/").rpartition("/")
+    shared = glob.glob(f"{folder}/proofs/{home}/+*/*.antt")
+    return os.path.isdir(f"{folder}/proofs/{home}/{own}") or any(re.search(rf"^pub {own}-", read(it), re.M) for it in shared)
 
 
 def clauses_of(folder, path, name):
