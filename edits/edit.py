@@ -3,13 +3,20 @@ import os
 import re
 from dataclasses import dataclass, field
 
-from source import functions_in, functions_of, read
+from source import clauses_of, functions_in, functions_of, has_proof, read
+
+# The file of a harmless twin, and the clauses that are none of the function's own.
+TWIN = ".twin"
+# Crates of which no run has told yet which clauses their edits fail, and whether twins pass.
+UNNAMED = ("ksv", "ksv_memo", "ksv_rules", "ksv_session", "ksv_test_engine")
+FAILS = r"(?:requires of [\w-]+|invariant of (?:loop )?[\w-]+)(?:: \w+)?"
 
 
 @dataclass
 class Edit:
     """An edit of a crate: its file, the function that it changes and that it is named after, and the file of that function with pairs of
-    an old text and a new one. `why`: why it is no edit, if so."""
+    an old text and a new one. `fails`: the clause that must fail. `is_twin`: it doesn't turn the meaning, and nothing may fail. `has_twin`: there
+    is such a one of the same name. `why`: why it is no edit, if so."""
 
     path: str
     name: str
@@ -17,6 +24,9 @@ class Edit:
     file: str = ""
     pairs: list = field(default_factory=list)
     function: str = ""
+    fails: str = ""
+    is_twin: bool = False
+    has_twin: bool = False
     why: str = ""
 
     def applied(self, text):
@@ -30,12 +40,15 @@ class Edit:
 
 def parsed(path, name, crate):
     """What is written in the file of an edit."""
-    edit, old = Edit(path, name, crate), None
+    edit, old = Edit(path, name, crate, is_twin=path.endswith(TWIN)), None
     for row in read(path).split("\n"):
         word, _, text = row.partition(": ")
         if word == "file":
             edit.why = edit.why or ("it names two files" if edit.file else "")
             edit.file = text.strip()
+        elif word == "fails":
+            edit.why = edit.why or ("it names two clauses" if edit.fails else "")
+            edit.fails = text.strip()
         elif word == "old":
             edit.why = edit.why or ("an `old:` has no `new:`" if old is not None else "")
             old = text
@@ -59,9 +72,15 @@ def changed_functions(edit, text):
     return {it and it.name for it in found}
 
 
+def twin_path(path, crate, top):
+    """Where the harmless twin of an edit is."""
+    return f"{top}/edits/{crate}/{os.path.basename(path)[: -len('.edit')]}{TWIN}"
+
+
 def edit_of(path, folder, top):
     """The edit that a file has, of the crate in this folder. It changes the body of one function in src/, after which its file is named."""
     edit = parsed(path, os.path.relpath(path, top), os.path.basename(folder))
+    edit.has_twin = not edit.is_twin and os.path.isfile(twin_path(path, edit.crate, top))
     where = f"{folder}/{edit.file}"
     if edit.why:
         return edit
@@ -84,7 +103,20 @@ def edit_of(path, folder, top):
             edit.function = names.pop()
             if edit.function.split("::")[-1] != named:
                 edit.why = f"it changes {edit.function}, and is named after {named}"
+    edit.why = edit.why or unnamed(edit, folder)
     return edit
+
+
+def unnamed(edit, folder):
+    """Why what an edit says to fail is no clause that its function can break: one of its own, one of a type, or one of a function that it calls.
+    The clauses of a trait's method aren't beside its body, so any name passes here: one that isn't there never fails."""
+    if edit.is_twin or not edit.fails:
+        return f"a twin names {edit.fails}" if edit.fails else ""
+    kind, _, name = edit.fails.partition(" ")
+    own = clauses_of(folder, edit.file, edit.function)
+    if kind == "ensures":
+        return "" if name in own or not own or not name and len(own) < 2 else f"{edit.function} has no clause {edit.fails}"
+    return "" if re.fullmatch(FAILS, edit.fails) else f"`{edit.fails}` names no clause"
 
 
 def files_of(top, crate, is_gate=False):
@@ -99,6 +131,20 @@ def edits_of(top, crate, is_gate=False):
     return [edit_of(path, folder, top) for path in files_of(top, crate, is_gate) if path.endswith(".edit")]
 
 
+def twins_of(top, crate, is_gate=False):
+    """The harmless twins of these edits: `edits/CRATE/NAME.twin` for the edit NAME."""
+    return [edit_of(twin_path(it.path, crate, top), f"{top}/crates/{crate}", top) for it in edits_of(top, crate, is_gate) if it.has_twin]
+
+
+def unclear(top, crate):
+    """What the edits that the gate tries lack: the clause that fails, and a harmless twin where their function has a written proof."""
+    if crate in UNNAMED:
+        return []
+    tried, folder = edits_of(top, crate, True), f"{top}/crates/{crate}"
+    wrong = [f"{it.name}: it names no clause that must fail" for it in tried if not it.fails]
+    return wrong + [f"{it.name}: it has no harmless twin" for it in tried if not it.has_twin and has_proof(folder, it.function)]
+
+
 def exceptions(top):
     """The public functions that have no edit, by crate and name, each with its reason: rows `CRATE FUNCTION: REASON`."""
     rows = [row for row in read(f"{top}/edits/exceptions.txt").split("\n") if row and not row.startswith("#")]
@@ -108,8 +154,11 @@ def exceptions(top):
 def misplaced(top, crate, known):
     """What is wrong with a crate's edits as a whole: files that are none, names that are there twice, and public functions of a library
     without an edit in must-fail/ that have no reason for that, or have both."""
-    wrong = [f"{os.path.relpath(it, top)}: it is no edit" for it in files_of(top, crate) if not it.endswith(".edit")]
-    names = [os.path.basename(it) for it in files_of(top, crate)]
+    wrong = [f"{os.path.relpath(it, top)}: it is no edit" for it in files_of(top, crate) if not it.endswith((".edit", TWIN))]
+    names = [os.path.basename(it) for it in files_of(top, crate) if it.endswith(".edit")]
+    twins = [it for it in files_of(top, crate) if it.endswith(TWIN)]
+    wrong += [f"{os.path.relpath(it, top)}: there is no edit of this name" for it in twins if f"{os.path.basename(it)[: -len(TWIN)]}.edit" not in names]
+    wrong += [f"{os.path.relpath(it, top)}: a twin stands in edits/" for it in twins if "/must-fail/" in it]
     wrong += [f"crates/{crate}: {it} is in must-fail/ and in edits/" for it in sorted({it for it in names if names.count(it) > 1})]
     if not os.path.isfile(f"{top}/crates/{crate}/src/lib.rt"):
         return wrong

@@ -6,18 +6,43 @@ from dataclasses import dataclass
 LOST = re.compile(r"has no field|is not in scope|has no `|w(?:as|ere) not admitted|was rejected, w(?:as|ere) not checked|which was rejected")
 # Where the prover can't read a source.
 UNREAD = re.compile(r"^(?:\./)?src/\S+:\d+:\d+: error.*$", re.M)
-# Goals of safety alone, and of an end: that no number overflows, no index is out of range, and a loop or a recursion ends.
-SAFETY = re.compile(r"(?:overflow|index|slice|range|shift|divi|remainder|cast|unreachable|decreases)|.*-smaller\b")
+# Goals of a contract: that the clauses hold at a return, that a loop's or a type's invariant does, or what a called function requires. The others are of
+# safety alone, and of an end: that no number overflows, no index is out of range, and a loop or a recursion ends.
+RETURNS = re.compile(r"returns(?:-.*)?")
+REQUIRES = re.compile(r"(.+?)-requires(?:-.*)?")
+LOOP = re.compile(r"(.+)-(?:init|preserved)(?:-.*)?")
+OF_TYPE = re.compile(r"invariant_of-(.+)")
+# Where a proof file says that it met a limit, which says nothing of the edit.
+LIMIT = re.compile(r"limit|gave up|too (?:many|large|deep)")
+# What is said of a function that is proved, and of one that only waits for those that it calls.
+PROVED, WAITS = "its function is still proved", "no goal of its own fails"
 
 
 @dataclass
 class Verdict:
     """What a check came to for a function: `goal`, the first goal of its contract that isn't proved and the reason, so that an edit is refused;
-    or `why` it says nothing of the contract. `waits`: goals wait for the proof of a function that it calls."""
+    or `why` it says nothing of the contract. `clauses`: those that fail. `waits`: goals wait for the proof of a function that it calls."""
 
     goal: str = ""
     why: str = ""
+    clauses: tuple = ()
     waits: bool = False
+
+    def is_fine(self):
+        """Whether nothing of the function fails."""
+        return not self.goal and self.why.startswith((PROVED, WAITS))
+
+
+def clause_of(goal, own=""):
+    """The clause that a goal is of, as an edit's `fails:` names it; nothing where it is of safety alone. `own`: the name of a function that is bound
+    to others, with which its goals begin."""
+    goal = goal.removeprefix(f"{own}-") if own else goal
+    head, _, name = goal.partition("-clause-")
+    if RETURNS.fullmatch(head):
+        return f"ensures {name}".strip()
+    kinds = ((REQUIRES, "requires of"), (LOOP, "invariant of loop"), (OF_TYPE, "invariant of"))
+    kind = next((f"{said} {found[1].removeprefix('loop-')}" for form, said in kinds if (found := form.fullmatch(head))), "")
+    return f"{kind}: {name}" if kind and name else kind
 
 
 def places_of(function):
@@ -48,30 +73,37 @@ def open_goals(said, verdict, function, is_bound):
     return found + re.findall(rf"^note: src/\S+ it is not proved that .*\(`({re.escape(name)}-[^`]*)`", said, re.M)
 
 
-def verdict_of(said, crate, function, is_bound):
+def verdict_of(said, crate, function, is_bound, fails="", has_twin=False):
     """What a check's output says of a function, and whether that is bound to others (`source.bound`). Its contract refuses an edit where a goal of it
-    isn't proved: that its clauses hold, that the invariant of a type or of a loop does, or what a function that it calls requires. A name that only a
-    proof file has, a limit of the prover, a text that it can't read, and goals of safety alone say nothing of the contract."""
+    isn't proved: that its clauses hold, that the invariant of a type or of a loop does, or what a function that it calls requires; a goal of the
+    clause that the edit names (`fails`). An error of a written proof counts only where a harmless twin of the edit passes with the same proof: else it may
+    say no more than that the proof is of another body. Where no clause is named yet (`edit.UNNAMED`), any goal counts, and so does each such error. A name that only a proof file has, a limit of the prover, a text that it
+    can't read, and goals of safety alone say nothing of the contract."""
     if UNREAD.search(said):
         return Verdict(why=f"it can't be read: {UNREAD.search(said)[0][:160]}")
     told = re.search(rf"^fn {re.escape(crate)}::{re.escape(function)}: (.*)$", said, re.M)
     if not told:
         return Verdict(why="the prover says nothing of its function")
     if told[1].startswith("proved"):
-        return Verdict(why="its function is still proved")
+        return Verdict(why=PROVED)
     if told[1].startswith("could not tell"):
         return Verdict(why="the prover met a limit")
     errors = errors_of(said, function)
     lost = [text for _, text in errors if LOST.search(text)]
-    failed = [(goal, text) for goal, text in errors if goal and not LOST.search(text)]
-    failed += [] if lost else [(goal, "not proved") for goal in open_goals(said, told[1], function, is_bound)]
-    of_contract = [(goal, text) for goal, text in failed if not SAFETY.match(goal)]
+    written = [(goal, text) for goal, text in errors if goal and not LOST.search(text) and not LIMIT.search(text)]
+    found = [] if lost else [(goal, "not proved") for goal in open_goals(said, told[1], function, is_bound)]
+    own = function.split("::")[-1] if is_bound else ""
+    of_contract = [(clause_of(goal, own), goal, text) for goal, text in [*found, *(written if has_twin or not fails else [])] if clause_of(goal, own)]
+    clauses = tuple(dict.fromkeys(clause for clause, _, _ in of_contract))
+    named = [it for it in of_contract if not fails or it[0] == fails]
+    if named:
+        clause, goal, text = named[0]
+        return Verdict(goal=f"{clause} (`{goal}`: {text.removeprefix(f'`{goal}`: ')[:120]})", clauses=clauses)
     if of_contract:
-        goal, text = of_contract[0]
-        return Verdict(goal=f"`{goal}`: {text.removeprefix(f'`{goal}`: ')[:120]}")
-    if failed:
-        return Verdict(why=f"only goals of safety fail, as `{failed[0][0]}`")
-    if lost:
-        return Verdict(why=f"only a proof file fails, for a name that the edit took away: {lost[0][:160]}")
+        return Verdict(why=f"`{fails}` doesn't fail, but {', '.join(clauses)}", clauses=clauses)
+    if found and not errors:
+        return Verdict(why=f"only goals of safety fail, as `{found[0][0]}`")
+    if errors:
+        return Verdict(why=f"only a proof file fails: {(lost or [text for _, text in errors])[0][:160]}")
     waits = f"goals of `{crate}::{function}`, which wait for" in said or told[1].startswith("no proof: it calls")
-    return Verdict(why=f"no goal of its own fails: {told[1][:160]}", waits=waits)
+    return Verdict(why=f"{WAITS}: {told[1][:160]}", waits=waits)

@@ -1,4 +1,5 @@
 """Functions of a crate's source files, as the prover names them, and stubs for their bodies."""
+import glob
 import os
 import re
 import shutil
@@ -115,6 +116,20 @@ def has_stub(it, kept):
     return not (it.is_bound or it.is_law or it.name in kept)
 
 
+def has_proof(folder, name):
+    """Whether a proof of a function is written: a folder of its own in proofs/, or answers of its own in that of functions that call each other."""
+    home, _, own = name.replace("::", "/").rpartition("/")
+    shared = glob.glob(f"{folder}/proofs/{home}/+*/*.antt")
+    return os.path.isdir(f"{folder}/proofs/{home}/{own}") or any(re.search(rf"^pub {own}-", read(it), re.M) for it in shared)
+
+
+def clauses_of(folder, path, name):
+    """The names of what a function of a crate ensures, in its order; a clause without a name is the empty text."""
+    text = read(f"{folder}/{path}")
+    it = next((it for it in functions_in(path, text) if it.name == name), None)
+    return re.findall(r"^ *ensures (\w*) *\{", "\n".join(text.split("\n")[it.head : it.begin + 1]), re.M) if it else []
+
+
 def callers(folder, edited):
     """Those of these functions of a crate that name, in their bodies, one that may get a stub: no stub is before the others."""
     functions = functions_of(folder)
@@ -152,7 +167,7 @@ def header_of(rows, head):
     return rows[first : begin + 1] + [row for row in rows[begin + 1 : head] if row.startswith("    ghost use ")]
 
 
-def twin(path, text, name, other):
+def double(path, text, name, other):
     """A function of a file's text once more, by another name, as it may stand at the end of the file."""
     rows = text.split("\n")
     it = next(it for it in functions_in(path, text) if it.name == name)
@@ -165,10 +180,10 @@ def twin(path, text, name, other):
     return "\n".join([*header_of(rows, it.head), *block, "}"] if rows[it.head].startswith(" ") else block)
 
 
-def add_twin(folder, crate, path, text, name, other):
-    """Adds a function of a file's text to a copied crate, by another name, with the files of its proof. The name of the twin."""
+def add_double(folder, crate, path, text, name, other):
+    """Adds a function of a file's text to a copied crate, by another name, with the files of its proof. The name of the double."""
     with open(f"{folder}/{path}", "a", encoding="utf-8") as file:
-        file.write(f"\n{twin(path, text, name, other)}\n")
+        file.write(f"\n{double(path, text, name, other)}\n")
     home, full = name.rpartition("::")[0], f"{name.rpartition('::')[0]}::{other}"
     proof, dots = f"{folder}/proofs/{name.replace('::', '/')}", f"Rattle.{crate}.proofs.{home.replace('::', '.')}."
     if os.path.isdir(proof):
