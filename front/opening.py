@@ -1,6 +1,7 @@
 """A file and its description, opened: what the prompt and the view begin with, and how they leave."""
 import os
 import re
+import signal
 import subprocess
 import sys
 from typing import Callable, List, Optional, Tuple
@@ -10,6 +11,7 @@ from front.copies import Copy, kind_of, read
 from front.description import Description
 from front.edits import edits_of
 from front.keeper import Keeper, lefts
+from front.parent import ends_with_parent
 from front.save import Saver, barrier, look_of
 from front.session import Died, Refused, Session
 from front.signals import Signals
@@ -17,6 +19,8 @@ from front.texts import visible
 
 TOP = os.path.dirname(os.path.dirname(os.path.realpath(__file__)))
 PROGRAM = f"{TOP}/crates/ksv_cli/out/ksv_cli"
+# How many seconds a launcher that was interrupted has to end what it began.
+PATIENCE = 5
 # The largest description that ksv reads, and one byte more.
 LONGEST_TEXT = (1 << 20) + 1
 
@@ -58,7 +62,28 @@ def looked_at(shell: str, named: Tuple[str, str, Optional[str]]) -> int:
     if why:
         told(f"{shell}: {why[1]}")
         return why[0]
-    return subprocess.run([f"{TOP}/bin/ksv", "--", *named[:2]], stdin=subprocess.DEVNULL, check=False).returncode
+    return ended([f"{TOP}/bin/ksv", "--", *named[:2]])
+
+
+def ended(words: List[str]) -> int:
+    """The status of the launcher. Where it builds, it ends its proofs and takes its folder away when it is interrupted, so it is waited for; one that wasn't
+    interrupted itself is ended then. It ends with this process too."""
+    with subprocess.Popen(words, stdin=subprocess.DEVNULL, preexec_fn=ends_with_parent(signal.SIGTERM)) as process:  # pylint: disable=subprocess-popen-preexec-fn
+        while True:
+            try:
+                return process.wait()
+            except KeyboardInterrupt:
+                give_up(process)
+
+
+def give_up(process: "subprocess.Popen[bytes]") -> None:
+    """Waits for a launcher that was interrupted, as by ctrl-C on its terminal, and ends one that wasn't."""
+    try:
+        process.wait(PATIENCE)
+    except subprocess.TimeoutExpired:
+        process.terminate()
+    except KeyboardInterrupt:
+        process.terminate()
 
 
 def told(message: str) -> None:

@@ -10,6 +10,7 @@ import sys
 import time
 from dataclasses import dataclass
 
+from front.parent import ends_with_parent
 from tools.build.graph import TOP, Crate, below
 
 # What the prover's last line may say, of the words that the kit's `rt` knows: each other one says what the proof leaves out, or what the program may reach.
@@ -84,10 +85,11 @@ class Prover:
         return f"{self.room}/crates/{crate.name}/out/{crate.name}.o" if self.is_program(crate) else f"{self.rlib(crate.name)}/{crate.name}.rlib"
 
     def begin(self, crate: Crate, jobs: int) -> Proof:
-        """Begins the proof of a crate."""
+        """Begins the proof of a crate. It ends with this process, whatever ends that."""
         log = f"{self.room}/crates/{crate.name}/out/log"
         with open(log, "wb") as file:
             how = {"stdin": subprocess.DEVNULL, "stdout": file, "stderr": subprocess.STDOUT, "start_new_session": True}
+            how["preexec_fn"] = ends_with_parent(signal.SIGKILL)
             process = subprocess.Popen(self.words(crate, jobs), cwd=f"{self.room}/crates/{crate.name}", **how)
         return Proof(crate, process, log, jobs, time.monotonic())
 
