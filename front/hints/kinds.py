@@ -114,9 +114,13 @@ NAMES: Dict[str, Kind] = {
     "special name": Kind("S4", "{type} has no `{name}`; what the language has is `{near}`"),
     "index name": Kind("S4", "{type} has no `{name}`; the number of an element is `_index`"),
     "element name": Kind("S4", "{type} has no `{name}`; the element is `_`"),
+    "member of element": Kind("S4", "{type} has no `{name}`; the element has: write `_.{name}`"),
+    "rest": Kind("S4", "all bytes to the end are `size-eos: true`, in place of `size`"),
     "own member": Kind("S4", "{type} has no `{name}`: a member of its own is written alone, as `{member}`"),
     "no null": Kind("S4", "there is no `{name}`: whether a value is there is what its `if` asks"),
     "text name": Kind("S4 X1", "a text needs quotes of both kinds: `'\"{text}\"'`; a name is a member, in small letters"),
+    "member further": Kind("S4", "{type} has no `{name}`; {holder} has: write `{path}`"),
+    "member of type": Kind("S4", "{type} has no `{name}`; the type `{other}` has: write `.{name}` after what names an object of it"),
     "no member": Kind("S4", "{type} has no `{name}`; {members}"),
     "index": Kind("S4", "`_index` is only there where something is repeated, in `size`, `switch-on`, arguments, `repeat-until` and `valid`"),
     "element": Kind("S4", "`_` is only there in `repeat-until`, and in `expr` of `valid`"),
@@ -130,6 +134,7 @@ NAMES: Dict[str, Kind] = {
     "method without arguments": Kind("S4", "write `{name}` without parentheses"),
     "text of": Kind("S4", "the text of an integer is `n.to_s`, without parentheses; that of bytes `b.to_s(\"ASCII\")`"),
     "method": Kind("S4", "no method is `{name}` with {count} argument{s}; there are `substring(a, b)`, `to_i(radix)` and `to_s(encoding)`"),
+    "type as written": Kind("S4", "no type is named `{name}`: write `{near}`"),
     "integer type": Kind("S4", "no type is named `{name}`: an integer of {bits} bits is `{near}`"),
     "odd integer": Kind("S4", "no type is named `{name}`: an integer has 1, 2, 4 or 8 bytes, as `u4`, or 1 to 64 bits, as `b24`"),
     "one byte": Kind("S4", "no type is named `{name}`: one byte has no order, write `{near}`"),
@@ -142,12 +147,13 @@ NAMES: Dict[str, Kind] = {
     "no order": Kind("S5", "write `{type}le` or `{type}be`, or `endian: le` or `be` in `meta`"),
     "order": Kind("S5", "write the order in the type, as `u4le`, or `endian: le` or `be` in `meta`"),
     "arguments of built-in": Kind("S7", "`{name}` has no arguments: leave out `{arguments}`"),
-    "arguments": Kind("S7", "`{name}` has {wanted}, and here {found}"),
+    "arguments": Kind("S7", "`{name}` has {wanted}, and here {found}: write {example}"),
     "count of arguments": Kind("S7", "a type has as many arguments as its `params` has parameters"),
 }
 VALUES: Dict[str, Kind] = {
     "id": Kind("S6", "a name is missing here"),
     "one of": Kind("S6", "`{key}` is {words}"),
+    "repeat joined": Kind("S6", "write `repeat: {word}`, and `repeat-{word}: {value}` on a line of its own"),
     "letter case": Kind("S6", "write `{key}: {near}`"),
     "truth": Kind("S6", "`{key}` is `true` or `false`"),
     "terminator": Kind("S6", "`terminator` is a number from 0 to 255, such as `0x0a`"),
@@ -179,6 +185,7 @@ VALUES: Dict[str, Kind] = {
     "text wanted": Kind("S6", "`{key}` has a text, and no list or mapping"),
     "description": Kind("S6", "a description is a mapping: it begins with `meta:`"),
     "value": Kind("S6", "a value on this line isn't what its key has: see REFERENCE, \"Keys of a description\""),
+    "padding of none": Kind("S8", "`pad-right`: leave it out, {why}"),
     "stream": Kind("S8", "`_io` is only there in `_io.size`, `_io.pos` and `_io.eof`, and as the whole of an `io`"),
     "feature": Kind("S8", "see REFERENCE, \"Unsupported\""),
     "types": Kind("S9", "a description has at most 1,024 types, with the root"),
@@ -195,17 +202,21 @@ EXPRESSIONS: Dict[str, Kind] = {
     "type order": Kind("X1", "the order of bytes is a part of the type's name: `{near}`"),
     "bound": Kind("X1 Y6", "under `valid` a bound is `min: ..` or `max: ..`, and the value alone behind it"),
     "thousands": Kind("X1", "a number has no comma in it: write `{near}`"),
+    "hex number": Kind("X1", "a number in hexadecimal begins with `0x`: write `{near}`"),
+    "sign cast": Kind("X1", "there is no cast to `{type}`: leave `({type})` out, a number has no size here; its low bits are `& 0xff`"),
     "unit": Kind("X1", "a number has no letters behind it: write it in digits, `4096` for 4 K"),
     "power": Kind("X1", "there is no power: write a product, or `1 << n`"),
     "division": Kind("X1", "write `/`, which rounds down"),
     "word": Kind("X1", "`{word}` is no operator: write `{near}`"),
-    "closing": Kind("X1", "`{sign}` closes nothing here"),
+    "closing": Kind("X1", "`{sign}` closes nothing here: leave it out, or write `{opening}` before what it closes"),
+    "named argument": Kind("X1", "an argument has no name: write its value alone in `{near}`"),
     "enum colon": Kind("X1", "an enum's member has two colons: `{near}`"),
     "lone colon": Kind("X1", "`:` belongs to `a ? b : c`, and an enum's member has two: `kind::one`"),
     "not inside": Kind("X1", "write parentheses around it: `(not ..)`"),
     "character": Kind("X1", "`{sign}` can't come here, at {place}"),
     "unclear character": Kind("X1", "a character of the expression can't come where it is, at {place}"),
-    "call": Kind("X1", "there are no functions, such as `{name}`: methods come after a point, as `x.length` of bytes and texts, `x.size` of a list, `x.to_s`"),
+    "call": Kind("X1", "there are no functions, such as `{name}`: methods come after a point, as `x.length` of bytes and texts, `x.size` of a list, `s.to_i` of a text, `n.to_s`"),
+    "two choose": Kind("X1", "there is no `{name}`: write a choice, such as `{example}`, in quotes"),
     "equals key": Kind("X1", "a key has a colon behind it: write `{key}: ..`"),
     "empty index": Kind("X1", "between `[` and `]` an index is wanted: `a[0]`"),
     "part of list": Kind("X1", "an index is one number; a part of a text is `s.substring(a, b)`"),
@@ -231,6 +242,7 @@ YAML: Dict[str, Kind] = {
     "block line": Kind("Y4", "the lines of a block text begin where its first line does"),
     "indentation alone": Kind("Y4", "lines of one mapping or list begin at the same column"),
     "key again": Kind("Y5", "`{key}` is in this mapping on line {line} too: a key is there once"),
+    "item again": Kind("Y5", "`{key}` is in this item on line {line} too: where another item begins, write `- {key}: ..`"),
     "key twice": Kind("Y5", "a key is in a mapping once: leave out one, or give it another name"),
     "control": Kind("Y6", "a character that can't be seen is in the line: U+{number}; take it out"),
     "apostrophe": Kind("Y6", "in single quotes an apostrophe is written twice: `''`"),
@@ -285,7 +297,7 @@ def say(kind: str, **values: object) -> Hint:
 
 def shown(values: Dict[str, object]) -> Dict[str, str]:
     """What is filled in, short enough and such that a terminal may show it."""
-    return {key: visible(str(it), 400 if key in ("keys", "members", "types", "enums", "where", "role", "place", "example", "wanted") else LONGEST) for key, it in values.items()}
+    return {key: visible(str(it), 400 if key in ("keys", "members", "types", "enums", "where", "role", "place", "example", "wanted", "path") else LONGEST) for key, it in values.items()}
 
 
 def table() -> str:

@@ -4,7 +4,7 @@ from __future__ import annotations
 import re
 from typing import Iterator, List, Optional
 
-from front.hints import formulas, parser, tokens
+from front.hints import formulas, names, parser, tokens
 from front.hints.formulas import Formula
 from front.hints.kinds import Hint, say
 from front.hints.names import OTHER_TYPES
@@ -88,6 +88,12 @@ def of_list(text: str, at: int, before: str) -> Optional[Hint]:
 def of_operator(text: str, at: int, before: str) -> Optional[Hint]:
     """What to say of a sign that other languages have for an operator; None where it is something else."""
     rest, pair = text[at:], pair_at(text, at)
+    number = re.match(r"[$#]([0-9][0-9a-fA-F]{0,15}|[0-9A-F]{1,16})\b", rest)
+    if number:
+        return say("hex number", near=f"0x{number[1]}")
+    named = re.search(r"([a-z]\w{0,60})\((?:[^()]*, *)?[a-z_]\w* *\Z", text[:at]) if rest[:1] == "=" and rest[:2] != "==" else None
+    if named:
+        return say("named argument", near=f"{named[1]}(..)")
     if rest[:1] in ("$", "@"):
         return say("name sign", sign=rest[0])
     if pair in PAIRS:
@@ -155,11 +161,17 @@ def of_word(formula: Formula, at: int, word: str) -> Hint:
         return say("number prefix", near=f"0{number[1].lower()}{digits}" if base != 8 else str(int(digits, 8)) if digits else "0x..")
     if whole.startswith(("0x", "0b")) and begin != at:
         return say("digits", word=whole, front=whole[:2], digits="`0` to `9` and `a` to `f`" if whole[1] == "x" else "`0` and `1`")
+    hexadecimal = re.fullmatch(r"([0-9][0-9a-fA-F]{0,15})[hH]?|([A-F][0-9A-F]{0,15})[hH]", whole)
+    if hexadecimal and (begin != at or hexadecimal[2]):
+        return say("hex number", near=f"0x{hexadecimal[1] or hexadecimal[2]}")
     if re.fullmatch(r"[0-9]+[A-Za-z]+", whole) and not number and begin != at or is_measured(formula):
         return say("unit")
     if whole in OPERATORS and (begin or whole[0].isupper()):
         near = OPERATORS[whole]
         return say("capital", name=near) if whole[0].isupper() else say("word", word=whole, near=near)
+    cast = re.search(r"\(\s*((?:un)?signed +\w+|\w+)\s*\)\s*\Z", text[:at])
+    if cast and cast[1] not in formula.place.type.members and (names.BUILT_IN.match(cast[1]) or names.INTEGERS.match(cast[1]) or cast[1].split()[-1] in OTHER_TYPES):
+        return say("sign cast", type=cast[1])
     if word == "as" and begin == at:
         return say("word", word="as", near="x.as<t>")
     if word == "not" and begin:
@@ -186,7 +198,7 @@ def of_sign(formula: Formula, at: int, before: str) -> Hint:
     if sign in (")", "]"):
         opening = {")": "(", "]": "["}[sign]
         if before.count(opening) <= before.count(sign):
-            return say("closing", sign=sign)
+            return say("closing", sign=sign, opening=opening)
     if sign == ":":
         named = re.search(r"([a-z_][a-z0-9_]*)\Z", text[:at])
         after = re.match(r":([a-z_][a-z0-9_]*)", text[at:])
@@ -195,7 +207,8 @@ def of_sign(formula: Formula, at: int, before: str) -> Hint:
         return say("two values", word=sign)
     named = re.search(r"(?<![.\w])([a-z_][a-z0-9_]{0,60})\Z", before)
     if sign == "(" and named and formula.key != "type":
-        return say("call", name=named[1])
+        chosen = {"min": "a < b ? a : b", "max": "a > b ? a : b", "abs": "a < 0 ? -a : a"}.get(named[1])
+        return say("two choose", name=named[1], example=chosen) if chosen else say("call", name=named[1])
     return say("character", sign=sign, place=at)
 
 

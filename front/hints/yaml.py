@@ -109,7 +109,8 @@ def twice(text: str, line: Line) -> Optional[Hint]:
         parents = outline.around(row)[1:]
         before = [it for it in outline.below(parents[0] if parents else -1) if it < row and outline.key(it) == outline.key(row)]
         if before:
-            return say("key again", key=outline.key(row), line=outline.line(outline.starts[before[0]]))
+            is_item = outline.key(row) == "id" and parents and outline.key(parents[0]) is None
+            return say("item again" if is_item else "key again", key=outline.key(row), line=outline.line(outline.starts[before[0]]))
     last = outline.row_at(end)
     return in_flow(outline, outline.node(last), begin) if last >= 0 and outline.inline(last) in ("{", "[") else None
 
