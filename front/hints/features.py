@@ -146,6 +146,8 @@ def of_expression(formula: Formula) -> Optional[Hint]:
         if it.text == "_io":
             after = [one.text for one in found[count + 1 : count + 3]]
             is_own = not count or found[count - 1].text != "."
+            if formula.key == "argument" and not after:
+                return say("io parameter")
             if after[:1] != ["."] and not (formula.key == "io" and len(found) == count + 1):
                 return say("stream")
             if after == [".", "pos"] or after == [".", "eof"]:

@@ -9,6 +9,7 @@ from front.hints.formulas import Formula
 from front.hints.kinds import Hint, say
 from front.hints.names import OTHER_TYPES
 from front.hints.places import Places
+from front.hints.scope import members_of
 from front.hints.values import OTHERS, SEVERAL, snake
 
 TOLD = re.compile(r"expression: (X\d+) .* at (\d{1,9})\Z")
@@ -58,7 +59,7 @@ def unexpected(formula: Formula, at: int) -> Hint:
     if re.fullmatch(r"[A-Za-z][\w-]{0,60}", text) and (formula.node.mark or key == "valid") and key not in ("case", "type"):
         return say("text name", text=text)
     before = text[:at].rstrip()
-    hint = of_list(text, at, before) or (say("if word") if re.search(r"(?:^|\s)(?:if|then)\s", text) else None) or of_operator(text, at, before)
+    hint = of_list(text, at, before) or (say("if word") if re.search(r"(?:^|\s)(?:if|then)\s", text) else None) or of_operator(formula, at, before)
     found = WORD.match(text, at)
     return hint or (of_word(formula, at, found[0]) if found else of_sign(formula, at, before))
 
@@ -85,9 +86,33 @@ def of_list(text: str, at: int, before: str) -> Optional[Hint]:
     return say("part of list") if sign == ":" and before.count("[") > before.count("]") else None
 
 
-def of_operator(text: str, at: int, before: str) -> Optional[Hint]:
+def is_operand(formula: Formula, text: str) -> bool:
+    """Whether a text is an expression whose first name is known, or no name."""
+    found = tokens.names(text)
+    is_known = not found or found[0].kind != "member" or found[0].names[0] in (*formula.place.type.members, *tokens.SPECIAL)
+    return is_known and parser.refused(text, False) is None
+
+
+def of_foreign_sign(formula: Formula, at: int) -> Optional[Hint]:
+    """What to say of a sign that begins a comment, ends a line, or changes a variable in other languages; None where it is something else."""
+    rest, pair = formula.text[at:], pair_at(formula.text, at)
+    if pair == "/*" or pair == "//" and not is_operand(formula, rest[1:].strip()):
+        return say("comment mark", sign=pair)
+    if rest[:1] in (";", ",") and not rest[1:].strip():
+        return say("end sign", sign=rest[0])
+    if rest[:2] == ":=":
+        return say("equals")
+    is_change = rest[:1] == "=" and rest[:2] != "==" and pair[0] in "+-*/%&|^"
+    return say("word", word=pair, near=pair[0]) if is_change else None
+
+
+def of_operator(formula: Formula, at: int, before: str) -> Optional[Hint]:
     """What to say of a sign that other languages have for an operator; None where it is something else."""
+    text = formula.text
     rest, pair = text[at:], pair_at(text, at)
+    hint = of_foreign_sign(formula, at)
+    if hint:
+        return hint
     number = re.match(r"[$#]([0-9][0-9a-fA-F]{0,15}|[0-9A-F]{1,16})\b", rest)
     if number:
         return say("hex number", near=f"0x{number[1]}")
@@ -178,9 +203,23 @@ def of_word(formula: Formula, at: int, word: str) -> Hint:
         return say("not inside")
     if re.search(r"[A-Z]", word):
         name = snake(whole)
+        hint = of_compared(formula, begin, whole, name)
+        if hint:
+            return hint
         return say("capital", name=name) if name else say("capital")
     is_value = before_is_value(text[:at])
     return say("two values", word=word) if begin == at and is_value and word not in ("and", "or") else say("character", sign=word, place=at)
+
+
+def of_compared(formula: Formula, begin: int, word: str, name: str) -> Optional[Hint]:
+    """What to say of a word with capitals that is compared and means a text or an enum's member; None where it is something else."""
+    text, one = formula.text, formula.place.type
+    after = text[begin + len(word) :]
+    is_compared = re.search(r"[^=][=!]=\s*\Z", text[:begin]) or re.match(r"\s*[=!]=[^=]", after)
+    if not is_compared or name in one.members or re.match(r"\s*(?:\.|::|\()", after) or word in OPERATORS:
+        return None
+    enums = {key for it in one.around() for key, enum in it.enums.items() if len(enum.pairs) < names.MEMBERS and name in members_of(enum)}
+    return say("capital member", word=word, near=f"{enums.pop()}::{name}") if len(enums) == 1 else say("capital text", word=word)
 
 
 def before_is_value(front: str) -> bool:
@@ -219,6 +258,8 @@ def ended(formula: Formula, at: int) -> Hint:
         return say("no expression", key=formula.written)
     if is_cut(formula):
         return say("comment")
+    if text.rstrip().endswith(("++", "--")):
+        return say("counted up", sign=text.rstrip()[-2:], near=f"{text.rstrip()[-1]} 1")
     quote = unclosed(text)
     if quote:
         return say("open quote", sign=quote)
@@ -233,7 +274,7 @@ def ended(formula: Formula, at: int) -> Hint:
     last = (tokens.read(text) or [tokens.Token("", "", 0)])[-1]
     if last.kind == "sign" and last.text not in (")", "]") or last.text in ("and", "or", "not"):
         return say("ended", sign=last.text)
-    return say("open bracket", sign=opened[-1]) if opened and owner else say("early end")
+    return say("open bracket", sign=opened[-1], closing=")" if opened[-1] == "(" else "]") if opened and owner else say("early end")
 
 
 def unclosed(text: str) -> str:

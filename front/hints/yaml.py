@@ -31,6 +31,7 @@ SECOND = re.compile(r"[\w'\])] {1,9}(?:" + "|".join(KEYS_IN_FLOW) + r"):(?: |\Z)
 # Keys of checks, keys that an item begins with, keys of texts, and the lines that begin and end a description.
 BOUNDS, ITEM_KEYS = ("valid", "min", "max", "eq", "expr"), ("id", "type", "size", "contents", "doc")
 TEXTS, MARKER = ("doc", "doc-ref", "title", "license"), re.compile(r"(?:---|\.\.\.)(?:[ \t]|\Z)")
+COMMENT_SIGN = re.compile(r"//|/\*|;|--(?!-)|<!--")
 GOOD_ESCAPE = re.compile(r"\\(?:[\"\\/0abtnvfre]|x[\da-fA-F]{2}|u(?![dD][89a-fA-F])[\da-fA-F]{4})")
 
 
@@ -146,6 +147,9 @@ def no_key(text: str, line: Line) -> Optional[Hint]:
     above = previous(text, line.number)
     if above and above.opened:
         return above.opened
+    begun = COMMENT_SIGN.match(line.content)
+    if begun:
+        return say("comment begin", sign=begun[0])
     if re.match(r"[&*!]\S", line.content):
         return say("anchor")
     if line.content.startswith("? "):
