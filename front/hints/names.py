@@ -317,6 +317,9 @@ def arguments(places: Places) -> Hint:
             continue
         found = it.place.type.find(text.names) if text.names else None
         if found and len(found.parameters) != len(text.arguments):
+            given = found.node.get("params")
+            if given is not None and given.kind != "list":
+                return say("list wanted", key="params", item="parameter")
             name, count = "::".join(text.names), len(found.parameters)
             values = ", ".join([".."] * min(count, LISTED))
             example = f"a value for each, `{name}({values})`" if count else f"`{name}`"

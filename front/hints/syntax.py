@@ -156,6 +156,14 @@ def of_type(formula: Formula, rest: str) -> Optional[Hint]:
         return say("type order", near=ordered[1] + ordered[2])
     if re.fullmatch(r"(?:(?:un)?signed|long|short|int|char)(?: +(?:long|short|int|char))+", text):
         return say("other type", name=text, example=OTHER_TYPES["int"])
+    bits = re.fullmatch(r"[us][1248](?:le|be)? *[:.] *([1-9]|[1-5][0-9]|6[0-4])", text)
+    if bits:
+        return say("some bits", near=f"b{bits[1]}")
+    if re.fullmatch(r"[a-z]\w*(?:-\w+)+", text) and snake(text):
+        return say("type hyphen", near=snake(text))
+    given = re.fullmatch(r"([a-z]\w*(?:::[a-z]\w*)*)[ :]+([\w.,+* -]+)", text)
+    if given and rest[:1] not in ("", ".", ":") and formula.place.type.find(given[1].split("::")):
+        return say("type arguments", example=f"{given[1]}({given[2]})")
     is_path = rest[:1] == "." and re.fullmatch(r"\w+(?:\.\w+)+", text)
     return say("type point", near=text.replace("types.", "").replace(".", "::")) if is_path else None
 
@@ -174,7 +182,7 @@ def of_case(formula: Formula, _rest: str) -> Optional[Hint]:
 
 def of_word(formula: Formula, at: int, word: str) -> Hint:
     """What to say of a word or number that can't come where it is."""
-    text = formula.text
+    text, before = formula.text, formula.text[:at].rstrip()
     begin = at
     while begin and WORD.match(text[begin - 1]):
         begin -= 1
@@ -199,6 +207,8 @@ def of_word(formula: Formula, at: int, word: str) -> Hint:
         return say("sign cast", type=cast[1])
     if word == "as" and begin == at:
         return say("word", word="as", near="x.as<t>")
+    if before.endswith(".") and word.isdigit() and begin == at:
+        return say("numbered point", number=word)
     if word == "not" and begin:
         return say("not inside")
     if re.search(r"[A-Z]", word):
@@ -208,6 +218,8 @@ def of_word(formula: Formula, at: int, word: str) -> Hint:
             return hint
         return say("capital", name=name) if name else say("capital")
     is_value = before_is_value(text[:at])
+    if formula.key == "type" and is_value and begin == at and "(" not in text[:at]:
+        return say("one type")
     return say("two values", word=word) if begin == at and is_value and word not in ("and", "or") else say("character", sign=word, place=at)
 
 
@@ -247,6 +259,8 @@ def of_sign(formula: Formula, at: int, before: str) -> Hint:
     named = re.search(r"(?<![.\w])([a-z_][a-z0-9_]{0,60})\Z", before)
     if sign == "(" and named and formula.key != "type":
         chosen = {"min": "a < b ? a : b", "max": "a > b ? a : b", "abs": "a < 0 ? -a : a"}.get(named[1])
+        if named[1] in ("defined", "isset", "exists", "is_null", "isnull"):
+            return say("asked for", name=named[1])
         return say("two choose", name=named[1], example=chosen) if chosen else say("call", name=named[1])
     return say("character", sign=sign, place=at)
 

@@ -195,6 +195,8 @@ def misplaced(line: Line, above: Optional[Above]) -> Optional[Hint]:
     """What to say of a line that has no key or no dash where one is wanted."""
     dashed = line.text.lstrip(" ").startswith("- ")
     here = len(line.text) - len(line.text.lstrip(" "))
+    if above and here in above.lists and line.key in schema.KEYS["type"] and not dashed:
+        return say("key of type", key=line.key, columns=spaces(max((it for it in above.keys if it < here), default=0)))
     if above and here in above.lists and not dashed:
         return say("no dash", columns=spaces(min((it for it in above.keys if it > here), default=here + 2)))
     if dashed:
@@ -381,11 +383,14 @@ def not_closed(text: str, line: Line) -> Optional[Hint]:
         return say("lines in quotes") if opened[0] in below and not QUOTED.search(below) else say("quote", sign=opened[0])
     outline = Outline(text, LINES)
     last = len(outline.starts) - 1
-    if not outline.is_whole or last < 0 or outline.inline(last) not in ("{", "["):
+    if outline.is_whole and last < 0 and outline.root.is_flow:
+        node = outline.root
+    elif not outline.is_whole or last < 0 or outline.inline(last) not in ("{", "["):
         return None
-    node = outline.node(last)
+    else:
+        node = outline.node(last)
     lone = LONE.search(bare_of(text[node.at :])) if len(text) - node.at < LONGEST else None
     if lone:
         return say("quote", sign=lone[1])
     is_open = flow.end(text, node.at) >= len(text.rstrip()) and line.number > 0
-    return say("bracket", sign=node.mark, line=outline.line(node.at)) if is_open else None
+    return say("bracket", sign=node.mark, line=outline.line(node.at), closing="}" if node.mark == "{" else "]") if is_open else None
