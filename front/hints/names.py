@@ -19,6 +19,17 @@ METHODS = ("length", "size", "first", "last", "reverse", "to_i")
 ARGUMENTS = {"substring": 2, "to_i": 1, "to_s": 1}
 # How many types, members and names a hint looks at, how many names it lists, and in how many types it looks for a name that is far.
 TYPES, MEMBERS, LISTED, SEARCHED = 1100, 4000, 8, 60
+# Methods that other languages have, without large letters and signs between words.
+OTHER_METHODS: Dict[str, str] = {
+    **dict.fromkeys(("equals", "eq", "isequal", "compareto"), "`a == b`"),
+    **dict.fromkeys(("toint", "parseint", "tointeger", "int"), "`s.to_i`, or `s.to_i(16)`"),
+    **dict.fromkeys(("tostring", "tostr", "str", "decode"), "`n.to_s`, and of bytes `b.to_s(\"ASCII\")`"),
+    **dict.fromkeys(("substr", "slice", "mid", "substringof"), "`s.substring(a, b)`"),
+    **dict.fromkeys(("startswith", "hasprefix"), "`s.substring(0, 2) == \"ab\"`"),
+    **dict.fromkeys(("len", "count", "getlength", "getsize"), "`x.length` of bytes and texts, `x.size` of a list"),
+    **dict.fromkeys(("at", "get", "charat", "elementat"), "`a[0]`"),
+    **dict.fromkeys(("and", "or", "not", "xor"), "`a and b`, `a or b`, `not a`, or of bits `a & b`, `a | b`, `a ^ b`"),
+}
 # Types that other languages have.
 INTEGERS = re.compile(r"(?P<sign>u|s|i|uint|int|sint)_?(?P<bits>8|16|32|64)(?:_t)?_?(?P<order>le|be)?\Z")
 OTHER_TYPES: Dict[str, str] = {
@@ -82,13 +93,13 @@ def of_expression(formula: Formula) -> Optional[Hint]:
 def of_foreign_name(name: str, formula: Formula, is_repeated: bool) -> Optional[Hint]:
     """What to say of a name that other languages have."""
     title = titled(formula.place.type)
+    hint = of_element(name, formula, title) if formula.key == "repeat-until" else None
+    if hint:
+        return hint
     if name in ("i", "j", "k", "idx") and is_repeated and formula.key in INDEX_KEYS:
         return say("index name", type=title, name=name)
     if name in ("it", "elem", "element", "item", "current") and formula.key in ("repeat-until", "expr"):
         return say("element name", type=title, name=name)
-    hint = of_element(name, formula, title) if formula.key == "repeat-until" else None
-    if hint:
-        return hint
     if formula.key == "size" and name in ("eos", "eof", "end", "all", "rest", "remaining"):
         return say("rest")
     after = re.search(r"\b%s\s*\.\s*([a-z][a-z0-9_]*)" % name, formula.text) if name in ("this", "self") else None
@@ -202,7 +213,13 @@ def of_call(name: str, count: int, formula: Formula) -> Hint:
         return say("text of")
     if not count and (name in METHODS or is_member(name, formula)):
         return say("method without arguments", name=name)
-    return say("method", name=name, count=count, s="" if count == 1 else "s")
+    return of_other_method(name) or say("method", name=name, count=count, s="" if count == 1 else "s")
+
+
+def of_other_method(name: str) -> Optional[Hint]:
+    """What to say of a method that other languages have."""
+    other = OTHER_METHODS.get(plain(name))
+    return say("other method", name=name, example=other) if other else None
 
 
 def is_member(name: str, formula: Formula) -> bool:
@@ -285,6 +302,9 @@ def of_type_names(names: Sequence[str], one: Type) -> Hint:
 def of_foreign(name: str) -> Optional[Hint]:
     """What to say of a type that other languages have."""
     same = plain(name)
+    partial = re.match(r"([us][248])_?(?:(l|el)|b|eb)\Z", name)
+    if partial:
+        return say("type as written", name=name, near=f"{partial[1]}{'le' if partial[2] else 'be'}")
     if same != name and BUILT_IN.match(same):
         return say("type as written", name=name, near=same)
     found = INTEGERS.match(name)

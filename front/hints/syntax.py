@@ -161,7 +161,7 @@ def of_type(formula: Formula, rest: str) -> Optional[Hint]:
         return say("some bits", near=f"b{bits[1]}")
     if re.fullmatch(r"[a-z]\w*(?:-\w+)+", text) and snake(text):
         return say("type hyphen", near=snake(text))
-    given = re.fullmatch(r"([a-z]\w*(?:::[a-z]\w*)*)[ :]+([\w.,+* -]+)", text)
+    given = re.fullmatch(r"([a-z]\w*(?:::[a-z]\w*)*)[ :]+([\w.]+(?: *, *[\w.]+)*)", text)
     if given and rest[:1] not in ("", ".", ":") and formula.place.type.find(given[1].split("::")):
         return say("type arguments", example=f"{given[1]}({given[2]})")
     is_path = rest[:1] == "." and re.fullmatch(r"\w+(?:\.\w+)+", text)
@@ -182,45 +182,70 @@ def of_case(formula: Formula, _rest: str) -> Optional[Hint]:
 
 def of_word(formula: Formula, at: int, word: str) -> Hint:
     """What to say of a word or number that can't come where it is."""
-    text, before = formula.text, formula.text[:at].rstrip()
-    begin = at
+    text, begin = formula.text, at
     while begin and WORD.match(text[begin - 1]):
         begin -= 1
     whole = WORD.match(text, begin)[0]
+    hint = of_number(formula, at, whole, begin != at)
+    if hint:
+        return hint
+    if whole in OPERATORS and (begin or whole[0].isupper()):
+        near = OPERATORS[whole]
+        return say("capital", name=near) if whole[0].isupper() else say("word", word=whole, near=near)
+    hint = of_cast(formula, at, word)
+    if hint:
+        return hint
+    if word == "as" and begin == at:
+        return say("word", word="as", near="x.as<t>")
+    if text[:at].rstrip().endswith(".") and word.isdigit() and begin == at:
+        return say("numbered point", number=word)
+    if word == "not" and begin:
+        return say("not inside")
+    if re.search(r"[A-Z]", word):
+        return of_capital(formula, begin, whole)
+    is_value = before_is_value(text[:at])
+    if formula.key == "type" and is_value and begin == at and "(" not in text[:at]:
+        return say("one type")
+    return say("two values", word=word) if begin == at and is_value and word not in ("and", "or") else say("character", sign=word, place=at)
+
+
+def of_number(formula: Formula, at: int, whole: str, is_inside: bool) -> Optional[Hint]:
+    """What to say of a word that is a number in another form; None where it is none."""
     number = re.fullmatch(r"0([XBOo])([0-9a-fA-F]+)", whole)
     if number:
         base = {"X": 16, "B": 2}.get(number[1], 8)
         digits = number[2] if all(it in "0123456789abcdef"[:base] for it in number[2].lower()) else ""
         return say("number prefix", near=f"0{number[1].lower()}{digits}" if base != 8 else str(int(digits, 8)) if digits else "0x..")
-    if whole.startswith(("0x", "0b")) and begin != at:
+    if whole.startswith(("0x", "0b")) and is_inside:
         return say("digits", word=whole, front=whole[:2], digits="`0` to `9` and `a` to `f`" if whole[1] == "x" else "`0` and `1`")
     hexadecimal = re.fullmatch(r"([0-9][0-9a-fA-F]{0,15})[hH]?|([A-F][0-9A-F]{0,15})[hH]", whole)
-    if hexadecimal and (begin != at or hexadecimal[2]):
+    if hexadecimal and (is_inside or hexadecimal[2]):
         return say("hex number", near=f"0x{hexadecimal[1] or hexadecimal[2]}")
-    if re.fullmatch(r"[0-9]+[A-Za-z]+", whole) and not number and begin != at or is_measured(formula):
-        return say("unit")
-    if whole in OPERATORS and (begin or whole[0].isupper()):
-        near = OPERATORS[whole]
-        return say("capital", name=near) if whole[0].isupper() else say("word", word=whole, near=near)
-    cast = re.search(r"\(\s*((?:un)?signed +\w+|\w+)\s*\)\s*\Z", text[:at])
-    if cast and cast[1] not in formula.place.type.members and (names.BUILT_IN.match(cast[1]) or names.INTEGERS.match(cast[1]) or cast[1].split()[-1] in OTHER_TYPES):
-        return say("sign cast", type=cast[1])
-    if word == "as" and begin == at:
-        return say("word", word="as", near="x.as<t>")
-    if before.endswith(".") and word.isdigit() and begin == at:
-        return say("numbered point", number=word)
-    if word == "not" and begin:
-        return say("not inside")
-    if re.search(r"[A-Z]", word):
-        name = snake(whole)
-        hint = of_compared(formula, begin, whole, name)
-        if hint:
-            return hint
-        return say("capital", name=name) if name else say("capital")
-    is_value = before_is_value(text[:at])
-    if formula.key == "type" and is_value and begin == at and "(" not in text[:at]:
-        return say("one type")
-    return say("two values", word=word) if begin == at and is_value and word not in ("and", "or") else say("character", sign=word, place=at)
+    return say("unit") if re.fullmatch(r"[0-9]+[A-Za-z]+", whole) and is_inside or is_measured(formula) else None
+
+
+def of_cast(formula: Formula, at: int, word: str) -> Optional[Hint]:
+    """What to say of a type in parentheses before a value; None where there is none."""
+    front = formula.text[:at]
+    signed = re.search(r"\(\s*((?:un)?signed)\s+\Z", front)
+    if signed and word in OTHER_TYPES:
+        return say("sign cast", type=f"{signed[1]} {word}")
+    cast = re.search(r"\(\s*(\w+)\s*\)\s*\Z", front)
+    is_type = cast and cast[1] not in formula.place.type.members and (names.BUILT_IN.match(cast[1]) or names.INTEGERS.match(cast[1]) or cast[1] in OTHER_TYPES)
+    return say("sign cast", type=cast[1]) if is_type else None
+
+
+def of_capital(formula: Formula, begin: int, word: str) -> Hint:
+    """What to say of a word with large letters."""
+    text, name = formula.text, snake(word)
+    after = text[begin + len(word) :]
+    if re.match(r"\s*\(", after) and text[:begin].rstrip().endswith(".") and name not in ("to_i", "to_s", "substring"):
+        count = tokens.arguments(tokens.read(after), 0)
+        return names.of_other_method(word) or say("method", name=word, count=count, s="" if count == 1 else "s")
+    hint = of_compared(formula, begin, word, name)
+    if hint:
+        return hint
+    return say("capital", name=name) if name else say("capital")
 
 
 def of_compared(formula: Formula, begin: int, word: str, name: str) -> Optional[Hint]:

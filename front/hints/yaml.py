@@ -31,6 +31,7 @@ SECOND = re.compile(r"[\w'\])] {1,9}(?:" + "|".join(KEYS_IN_FLOW) + r"):(?: |\Z)
 # Keys of checks, keys that an item begins with, keys of texts, and the lines that begin and end a description.
 BOUNDS, ITEM_KEYS = ("valid", "min", "max", "eq", "expr"), ("id", "type", "size", "contents", "doc")
 TEXTS, MARKER = ("doc", "doc-ref", "title", "license"), re.compile(r"(?:---|\.\.\.)(?:[ \t]|\Z)")
+KNOWN = frozenset(it for keys in schema.KEYS.values() for it in keys)
 COMMENT_SIGN = re.compile(r"//|/\*|;|--(?!-)|<!--")
 GOOD_ESCAPE = re.compile(r"\\(?:[\"\\/0abtnvfre]|x[\da-fA-F]{2}|u(?![dD][89a-fA-F])[\da-fA-F]{4})")
 
@@ -147,13 +148,9 @@ def no_key(text: str, line: Line) -> Optional[Hint]:
     above = previous(text, line.number)
     if above and above.opened:
         return above.opened
-    begun = COMMENT_SIGN.match(line.content)
-    if begun:
-        return say("comment begin", sign=begun[0])
-    if re.match(r"[&*!]\S", line.content):
-        return say("anchor")
-    if line.content.startswith("? "):
-        return say("question")
+    hint = of_begin(text, line)
+    if hint:
+        return hint
     if line.value[:1] in ("[", "{") and COMMA.search(bare_of(line.value)[: flow.end(bare_of(line.value), 0)]):
         return say("flow comma")
     if line.value[:1] == "{" and JOINED.search(bare_of(line.value)):
@@ -182,6 +179,19 @@ def no_key(text: str, line: Line) -> Optional[Hint]:
     if plain and STOP.search(f"{COMMENT.split(line.value, 1)[0]} ") and (line.key or line.value[:1] == "{"):
         return say("choice") if " ? " in line.value else say("colon")
     return misplaced(line, above) if not line.value.startswith("{") else None
+
+
+def of_begin(text: str, line: Line) -> Optional[Hint]:
+    """What to say of a line by what it begins with, or where a key is alone on the line above; None where it is something else."""
+    begun = COMMENT_SIGN.match(line.content)
+    if begun:
+        return say("comment begin", sign=begun[0])
+    if re.match(r"[&*!]\S", line.content):
+        return say("anchor")
+    if line.content.startswith("? "):
+        return say("question")
+    word = (lines.line(text, line.number - 1) or "")[:LONGEST].strip() if line.number > 1 else ""
+    return say("no colon", where=f"line {line.number - 1}: ", key=word) if line.key and word in KNOWN else None
 
 
 def lone_word(text: str, number: int) -> str:
