@@ -11,6 +11,8 @@ from front.hints.shown import visible
 
 # How much of a word of the description is said.
 LONGEST = 60
+# The places that have more than a word of it.
+LISTS = ("keys", "members", "types", "enums", "where", "role", "place", "example", "wanted", "path")
 
 
 class Kind(NamedTuple):
@@ -313,7 +315,7 @@ def say(kind: str, **values: object) -> Hint:
 
 def shown(values: Dict[str, object]) -> Dict[str, str]:
     """What is filled in, short enough and such that a terminal may show it."""
-    return {key: visible(str(it), 400 if key in ("keys", "members", "types", "enums", "where", "role", "place", "example", "wanted", "path") else LONGEST) for key, it in values.items()}
+    return {key: visible(str(it), 400 if key in LISTS else LONGEST) for key, it in values.items()}
 
 
 def table() -> str:
