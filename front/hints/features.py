@@ -80,13 +80,31 @@ def of_field(place: Place) -> Optional[Hint]:
     """A key of an attribute or an instance."""
     key, value = place.key, place.value
     if key in ("process", "pad-right"):
-        return say("process" if key == "process" else "padding")
+        return say("process") if key == "process" else of_padding(place)
     if key == "encoding":
         return of_encoding(value)
     if key == "contents" and value.kind == "text" and not value.mark and re.fullmatch(r"0x[0-9a-fA-F]+|[0-9]+", value.text):
+        digits = value.text[2:] if re.fullmatch(r"0x(?:[0-9a-fA-F]{2}){2,8}", value.text) else ""
+        if digits:
+            return say("contents", number=", ".join(f"0x{digits[it : it + 2]}" for it in range(0, len(digits), 2)))
         number = int(value.text, 16) if value.text.startswith("0x") and len(value.text) < 5 else int(value.text) if len(value.text) < 4 else 256
         return say("contents") if ZERO.match(value.text) or number > 255 else say("contents", number=value.text)
     return of_terminator(place) if key == "terminator" else None
+
+
+def of_padding(place: Place) -> Hint:
+    """A byte that fills up, where a terminator could be for it, and where none could."""
+    kind, around = place.around.said("type"), place.around
+    reasons = (
+        ("what is calculated isn't read", place.role == "value"),
+        ("`contents` says all", around.has("contents")),
+        ("`strz` ends at a zero byte by itself", kind == "strz"),
+        ("the value ends at its `terminator`", around.has("terminator")),
+        (f"`{kind}` has its own size", keys.INTEGER.match(kind) is not None),
+        ("what its type doesn't read of its bytes is passed over", around.has("type") and kind != "str"),
+    )
+    why = next((it for it, is_so in reasons if is_so), "")
+    return say("padding of none", why=why) if why else say("padding")
 
 
 def of_terminator(place: Place) -> Optional[Hint]:
@@ -128,6 +146,8 @@ def of_expression(formula: Formula) -> Optional[Hint]:
         if it.text == "_io":
             after = [one.text for one in found[count + 1 : count + 3]]
             is_own = not count or found[count - 1].text != "."
+            if formula.key == "argument" and not after:
+                return say("io parameter")
             if after[:1] != ["."] and not (formula.key == "io" and len(found) == count + 1):
                 return say("stream")
             if after == [".", "pos"] or after == [".", "eof"]:

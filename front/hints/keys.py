@@ -72,6 +72,8 @@ def general(place: Place) -> Hint:
     is_alone = place.role == "type" or place.role == "attribute" and not place.around.has("id")
     if is_alone and place.value.kind == "text" and IDENTIFIER.match(place.key) and NAME.match(text):
         return say("attribute form", key=place.key, role=schema.NAMES[place.role], type=text)
+    if place.role == "attribute" and not place.around.has("id") and place.value.kind == "map" and IDENTIFIER.match(place.key):
+        return say("named item", key=place.key)
     keys = ", ".join(f"`{it}`" for it in schema.KEYS[place.role])
     return say("unknown key", key=place.key, role=schema.NAMES[place.role], keys=keys)
 

@@ -17,10 +17,21 @@ BUILT_IN = re.compile(r"(?:[us](?:1|[248](?:le|be)?)|b(?:[1-9]|[1-5]\d|6[0-4])(?
 BARE = re.compile(r"[us][248]\Z")
 METHODS = ("length", "size", "first", "last", "reverse", "to_i")
 ARGUMENTS = {"substring": 2, "to_i": 1, "to_s": 1}
-# How many types, members and names a hint looks at, and how many names it lists.
-TYPES, MEMBERS, LISTED = 1100, 4000, 8
+# How many types, members and names a hint looks at, how many names it lists, and in how many types it looks for a name that is far.
+TYPES, MEMBERS, LISTED, SEARCHED = 1100, 4000, 8, 60
+# Methods that other languages have, without large letters and signs between words.
+OTHER_METHODS: Dict[str, str] = {
+    **dict.fromkeys(("equals", "eq", "isequal", "compareto"), "`a == b`"),
+    **dict.fromkeys(("toint", "parseint", "tointeger", "int"), "`s.to_i`, or `s.to_i(16)`"),
+    **dict.fromkeys(("tostring", "tostr", "str", "decode"), "`n.to_s`, and of bytes `b.to_s(\"ASCII\")`"),
+    **dict.fromkeys(("substr", "slice", "mid", "substringof"), "`s.substring(a, b)`"),
+    **dict.fromkeys(("startswith", "hasprefix"), "`s.substring(0, 2) == \"ab\"`"),
+    **dict.fromkeys(("len", "count", "getlength", "getsize"), "`x.length` of bytes and texts, `x.size` of a list"),
+    **dict.fromkeys(("at", "get", "charat", "elementat"), "`a[0]`"),
+    **dict.fromkeys(("and", "or", "not", "xor"), "`a and b`, `a or b`, `not a`, or of bits `a & b`, `a | b`, `a ^ b`"),
+}
 # Types that other languages have.
-INTEGERS = re.compile(r"(?P<sign>u|s|i|uint|int|sint)_?(?P<bits>8|16|32|64)(?:_t)?(?P<order>le|be)?\Z")
+INTEGERS = re.compile(r"(?P<sign>u|s|i|uint|int|sint)_?(?P<bits>8|16|32|64)(?:_t)?_?(?P<order>le|be)?\Z")
 OTHER_TYPES: Dict[str, str] = {
     **dict.fromkeys(("string", "text", "chars", "char"), "a text is `str`, with a `size`"),
     **dict.fromkeys(("cstring", "cstr", "asciiz", "stringz", "zstr", "strz0"), "a text up to a zero byte is `strz`"),
@@ -71,7 +82,7 @@ def of_expression(formula: Formula) -> Optional[Hint]:
         elif it.kind == "point" and name in ("_", "_index"):
             hint = say("name after point", name=name)
         elif it.kind == "call" and ARGUMENTS.get(name) != it.count:
-            hint = of_call(name, it.count, place.type)
+            hint = of_call(name, it.count, formula)
         elif it.kind == "cast" and it.names and not (len(it.names) == 1 and BUILT_IN.match(name)) and not place.type.find(it.names):
             hint = of_type_names(it.names, place.type)
         if hint:
@@ -82,14 +93,29 @@ def of_expression(formula: Formula) -> Optional[Hint]:
 def of_foreign_name(name: str, formula: Formula, is_repeated: bool) -> Optional[Hint]:
     """What to say of a name that other languages have."""
     title = titled(formula.place.type)
+    hint = of_element(name, formula, title) if formula.key == "repeat-until" else None
+    if hint:
+        return hint
     if name in ("i", "j", "k", "idx") and is_repeated and formula.key in INDEX_KEYS:
         return say("index name", type=title, name=name)
     if name in ("it", "elem", "element", "item", "current") and formula.key in ("repeat-until", "expr"):
         return say("element name", type=title, name=name)
+    if formula.key == "size" and name in ("eos", "eof", "end", "all", "rest", "remaining"):
+        return say("rest")
     after = re.search(r"\b%s\s*\.\s*([a-z][a-z0-9_]*)" % name, formula.text) if name in ("this", "self") else None
     if after and after[1] in formula.place.type.members:
         return say("own member", type=title, name=name, member=after[1])
     return say("no null", name=name) if name in ("null", "nil", "none", "undefined") else None
+
+
+def of_element(name: str, formula: Formula, title: str) -> Optional[Hint]:
+    """What to say of a name in `repeat-until` that means the element, or a member of it."""
+    own = formula.place.attribute
+    kind = tokens.type_text(own.said("type")).names if own else []
+    if own and (name in (own.said("type"), f"{own.said('id')}_item") or near(name, [own.said("id")])):
+        return say("element name", type=title, name=name)
+    of = formula.place.type.find(kind) if kind and not (len(kind) == 1 and BUILT_IN.match(kind[0])) else None
+    return say("member of element", type=title, name=name) if of and name in of.members else None
 
 
 def titled(one: Type) -> str:
@@ -126,7 +152,24 @@ def found_elsewhere(name: str, one: Type, title: str, own: Optional[Node]) -> Op
     if len(inside) == 1:
         return say("member inside", type=title, name=name, member=inside[0])
     enums = {key for it in one.around() for key, enum in it.enums.items() if len(enum.pairs) < MEMBERS and name in members_of(enum)}
-    return say("member of enum", type=title, name=name, enum=enums.pop()) if len(enums) == 1 else None
+    if len(enums) == 1:
+        return say("member of enum", type=title, name=name, enum=enums.pop())
+    return further(name, one, title, holders)
+
+
+def further(name: str, one: Type, title: str, holders: Sequence[Type]) -> Optional[Hint]:
+    """Where a name is that is no member of a type, if it is in what another object has; None where it is nowhere."""
+    if len(one.root.types) > SEARCHED:
+        return None
+    fronts = [("_parent", it) for it in holders[:1] if len(holders) == 1] + [("_root", one.root) for _ in [1] if one.outer]
+    for front, holder in fronts:
+        inside = [(f"{front}.{member}", of) for member, of in typed(holder) if of and of is not one]
+        inside += [(f"{path}.{member}", of) for path, outer in inside[:SEARCHED] for member, of in typed(outer) if of and of is not one]
+        inside = [(path, of) for path, of in inside if name in of.members]
+        if len(inside) == 1:
+            return say("member further", type=title, name=name, holder=titled(inside[0][1]), path=f"{inside[0][0]}.{name}")
+    others = [it for it in one.root.all(SEARCHED) if it.outer and it is not one and name in it.members]
+    return say("member of type", type=title, name=name, other=others[0].path) if len(others) == 1 else None
 
 
 def typed(one: Type) -> List[tuple]:
@@ -164,13 +207,29 @@ def listed(names: Sequence[str], front: str, none: str) -> str:
     return f"{front} {', '.join(some)}{', ..' if len(names) > LISTED else ''}" if some else none
 
 
-def of_call(name: str, count: int, one: Type) -> Hint:
+def of_call(name: str, count: int, formula: Formula) -> Hint:
     """What to say of a method with so many arguments."""
     if not count and name == "to_s":
         return say("text of")
-    if not count and (name in METHODS or any(name in it.members for it in one.root.all(TYPES))):
+    if not count and (name in METHODS or is_member(name, formula)):
         return say("method without arguments", name=name)
-    return say("method", name=name, count=count, s="" if count == 1 else "s")
+    return of_other_method(name) or say("method", name=name, count=count, s="" if count == 1 else "s")
+
+
+def of_other_method(name: str) -> Optional[Hint]:
+    """What to say of a method that other languages have."""
+    other = OTHER_METHODS.get(plain(name))
+    return say("other method", name=name, example=other) if other else None
+
+
+def is_member(name: str, formula: Formula) -> bool:
+    """Whether a name that is called may be a member of what is before its point."""
+    one = formula.place.type
+    found = re.search(r"(?<![.\w])([a-z_]\w*)\s*\.\s*%s\s*\(" % name, formula.text)
+    if found and found[1] in one.members:
+        of = dict(typed(one)).get(found[1])
+        return of is not None and name in of.members
+    return any(name in it.members for it in one.root.all(TYPES))
 
 
 # Enums
@@ -242,6 +301,12 @@ def of_type_names(names: Sequence[str], one: Type) -> Hint:
 
 def of_foreign(name: str) -> Optional[Hint]:
     """What to say of a type that other languages have."""
+    same = plain(name)
+    partial = re.match(r"([us][248])_?(?:(l|el)|b|eb)\Z", name)
+    if partial:
+        return say("type as written", name=name, near=f"{partial[1]}{'le' if partial[2] else 'be'}")
+    if same != name and BUILT_IN.match(same):
+        return say("type as written", name=name, near=same)
     found = INTEGERS.match(name)
     if found and not BUILT_IN.match(name):
         size, order = int(found["bits"]) // 8, (found["order"] or "") if found["bits"] != "8" else ""
@@ -272,7 +337,13 @@ def arguments(places: Places) -> Hint:
             continue
         found = it.place.type.find(text.names) if text.names else None
         if found and len(found.parameters) != len(text.arguments):
-            return say("arguments", name="::".join(text.names), wanted=parameters(found), found=counted(len(text.arguments), "argument"))
+            given = found.node.get("params")
+            if given is not None and given.kind != "list":
+                return say("list wanted", key="params", item="parameter")
+            name, count = "::".join(text.names), len(found.parameters)
+            values = ", ".join([".."] * min(count, LISTED))
+            example = f"a value for each, `{name}({values})`" if count else f"`{name}`"
+            return say("arguments", name=name, wanted=parameters(found), found=counted(len(text.arguments), "argument"), example=example)
     return say("count of arguments")
 
 

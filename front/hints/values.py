@@ -112,11 +112,14 @@ def of_word(place: Place) -> Optional[Hint]:
     words, text = WORDS[place.key], place.value.text
     if place.value.kind == "text" and text in words or place.key == "bit-endian" and text == "le":
         return None
+    joined = re.fullmatch(r"(until|expr)[ :]+(\S.*)", text) if place.key == "repeat" else None
+    if joined:
+        return say("repeat joined", word=joined[1], value=joined[2])
     near = MEANT.get(text.lower()) or nearest(text.lower(), words)
     if near in words:
         return say("letter case", key=place.key, near=near)
     if place.key == "repeat" and (NUMBER.match(text) or text in place.type.members):
-        return say("repeat count", count=f"repeat-expr: {text}")
+        return say("repeat count", count=f"repeat-expr: {text}") if text != "3" else say("repeat count")
     return say("one of", key=place.key, words=" or ".join(f"`{it}`" for it in words) if len(words) < 3 else "`eos`, `expr` or `until`")
 
 
@@ -157,6 +160,8 @@ def of_field(place: Place) -> Optional[Hint]:
         names = value.text.split("::") if value.kind == "text" else []
         if names and all(IDENTIFIER.match(it) for it in names):
             return None
+        if re.fullmatch(r"[a-z][a-z0-9_]*(?:\.[a-z][a-z0-9_]*)+", value.text):
+            return say("enum point", near=value.text.replace(".", "::"))
         return of_name(value.text) if re.fullmatch(r"[A-Za-z][\w-]*", value.text) else say("enum path")
     return of_id(place) if place.role == "attribute" else None
 
@@ -235,6 +240,9 @@ def of_number(place: Place) -> Optional[Hint]:
     if form:
         number = int(form[2], 16) if form[2] else int(form[3], 8) if form[3] else int(form[4], 2)
         return say("number form", near=f"-{number}" if form[1] else f"0x{number:x}" if form[2] else number)
+    moved = re.fullmatch(r"(\d{1,4}) *<< *(\d{1,2})", key)
+    if moved:
+        return say("number form", near=f"0x{int(moved[1]) << int(moved[2]):x}")
     name = value.text if value.kind == "text" and IDENTIFIER.match(value.text) else value.said("id") if value.kind == "map" else snake(key)
     return say("enum number", name=name or "name")
 

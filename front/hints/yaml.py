@@ -31,6 +31,8 @@ SECOND = re.compile(r"[\w'\])] {1,9}(?:" + "|".join(KEYS_IN_FLOW) + r"):(?: |\Z)
 # Keys of checks, keys that an item begins with, keys of texts, and the lines that begin and end a description.
 BOUNDS, ITEM_KEYS = ("valid", "min", "max", "eq", "expr"), ("id", "type", "size", "contents", "doc")
 TEXTS, MARKER = ("doc", "doc-ref", "title", "license"), re.compile(r"(?:---|\.\.\.)(?:[ \t]|\Z)")
+KNOWN = frozenset(it for keys in schema.KEYS.values() for it in keys)
+COMMENT_SIGN = re.compile(r"//|/\*|;|--(?!-)|<!--")
 GOOD_ESCAPE = re.compile(r"\\(?:[\"\\/0abtnvfre]|x[\da-fA-F]{2}|u(?![dD][89a-fA-F])[\da-fA-F]{4})")
 
 
@@ -109,7 +111,8 @@ def twice(text: str, line: Line) -> Optional[Hint]:
         parents = outline.around(row)[1:]
         before = [it for it in outline.below(parents[0] if parents else -1) if it < row and outline.key(it) == outline.key(row)]
         if before:
-            return say("key again", key=outline.key(row), line=outline.line(outline.starts[before[0]]))
+            is_item = outline.key(row) == "id" and parents and outline.key(parents[0]) is None
+            return say("item again" if is_item else "key again", key=outline.key(row), line=outline.line(outline.starts[before[0]]))
     last = outline.row_at(end)
     return in_flow(outline, outline.node(last), begin) if last >= 0 and outline.inline(last) in ("{", "[") else None
 
@@ -145,10 +148,9 @@ def no_key(text: str, line: Line) -> Optional[Hint]:
     above = previous(text, line.number)
     if above and above.opened:
         return above.opened
-    if re.match(r"[&*!]\S", line.content):
-        return say("anchor")
-    if line.content.startswith("? "):
-        return say("question")
+    hint = of_begin(text, line)
+    if hint:
+        return hint
     if line.value[:1] in ("[", "{") and COMMA.search(bare_of(line.value)[: flow.end(bare_of(line.value), 0)]):
         return say("flow comma")
     if line.value[:1] == "{" and JOINED.search(bare_of(line.value)):
@@ -179,6 +181,19 @@ def no_key(text: str, line: Line) -> Optional[Hint]:
     return misplaced(line, above) if not line.value.startswith("{") else None
 
 
+def of_begin(text: str, line: Line) -> Optional[Hint]:
+    """What to say of a line by what it begins with, or where a key is alone on the line above; None where it is something else."""
+    begun = COMMENT_SIGN.match(line.content)
+    if begun:
+        return say("comment begin", sign=begun[0])
+    if re.match(r"[&*!]\S", line.content):
+        return say("anchor")
+    if line.content.startswith("? "):
+        return say("question")
+    word = (lines.line(text, line.number - 1) or "")[:LONGEST].strip() if line.number > 1 else ""
+    return say("no colon", where=f"line {line.number - 1}: ", key=word) if line.key and word in KNOWN else None
+
+
 def lone_word(text: str, number: int) -> str:
     """The word that the line after a key or a dash begins with, where that has nothing behind it; the empty text where the line has more."""
     front, below = (lines.line(text, number) or "").strip(), (lines.line(text, number + 1) or "").strip()
@@ -190,6 +205,8 @@ def misplaced(line: Line, above: Optional[Above]) -> Optional[Hint]:
     """What to say of a line that has no key or no dash where one is wanted."""
     dashed = line.text.lstrip(" ").startswith("- ")
     here = len(line.text) - len(line.text.lstrip(" "))
+    if above and here in above.lists and line.key in schema.KEYS["type"] and not dashed:
+        return say("key of type", key=line.key, columns=spaces(max((it for it in above.keys if it < here), default=0)))
     if above and here in above.lists and not dashed:
         return say("no dash", columns=spaces(min((it for it in above.keys if it > here), default=here + 2)))
     if dashed:
@@ -376,11 +393,14 @@ def not_closed(text: str, line: Line) -> Optional[Hint]:
         return say("lines in quotes") if opened[0] in below and not QUOTED.search(below) else say("quote", sign=opened[0])
     outline = Outline(text, LINES)
     last = len(outline.starts) - 1
-    if not outline.is_whole or last < 0 or outline.inline(last) not in ("{", "["):
+    if outline.is_whole and last < 0 and outline.root.is_flow:
+        node = outline.root
+    elif not outline.is_whole or last < 0 or outline.inline(last) not in ("{", "["):
         return None
-    node = outline.node(last)
+    else:
+        node = outline.node(last)
     lone = LONE.search(bare_of(text[node.at :])) if len(text) - node.at < LONGEST else None
     if lone:
         return say("quote", sign=lone[1])
     is_open = flow.end(text, node.at) >= len(text.rstrip()) and line.number > 0
-    return say("bracket", sign=node.mark, line=outline.line(node.at)) if is_open else None
+    return say("bracket", sign=node.mark, line=outline.line(node.at), closing="}" if node.mark == "{" else "]") if is_open else None

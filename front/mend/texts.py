@@ -75,7 +75,8 @@ def padded(whole: Whole) -> Found:
         place = span(whole.text, key.value)
         if place is None:
             return Need()
-        if pad in ("0", "0x00", "0x0") and "terminator" not in field.keys and field.said("type") != "strz":
+        is_text = "type" not in field.keys or field.said("type") == "str"
+        if pad in ("0", "0x00", "0x0") and is_text and not {"terminator", "contents", "value"} & set(field.keys):
             edits.append(Edit(key.at, place[1], f"terminator: {pad}"))
             marks.append(Mark(key.at, field.name, f"was pad-right: {pad}"))
             losses.append(f"line {whole.line(key.at)}: `{field.name}` ends before its first zero byte, and not after the last byte that is another")
@@ -84,5 +85,5 @@ def padded(whole: Whole) -> Found:
         if not found:
             return Need()
         edits, marks = edits + found[0], marks + found[1]
-        losses.append(f"line {whole.line(key.at)}: `{field.name}` keeps the bytes {pad} at its end")
+        losses += [f"line {whole.line(key.at)}: `{field.name}` keeps the bytes {pad} at its end"] if is_text else []
     return Change("`pad-right` isn't read", tuple(edits), tuple(marks), tuple(losses)) if edits else Need()
