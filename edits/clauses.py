@@ -8,7 +8,7 @@ from edit import edits_of
 from said import verdict_of
 from source import bound, clauses_of, functions_in, functions_of, read
 
-# How many clauses a run of the gate deletes.
+# How many clauses `--some` deletes.
 SOME = 4
 
 
@@ -29,13 +29,18 @@ class Clause:
         return f"{self.crate}::{self.function}: {self.said()}"
 
 
-def clauses_in(top, crate):
-    """The clauses of a crate's public functions; laws have no edits, and theirs aren't among them."""
+def clauses_in(top, crate, asked=()):
+    """The clauses of a crate's public functions, or of those of these names; laws have no edits, and theirs aren't among them."""
     folder = f"{top}/crates/{crate}"
     if not os.path.isfile(f"{folder}/src/lib.rt"):
         return []
-    public = [it for it in functions_of(folder) if it.is_open and not it.is_law]
+    public = [it for it in functions_of(folder) if it.is_open and not it.is_law and is_asked(it.name, asked)]
     return [Clause(crate, it.name, it.path, name) for it in public for name in clauses_of(folder, it.path, it.name)]
+
+
+def is_asked(function, asked):
+    """Whether a function is one of these names, which may lack its first modules; or there is no name."""
+    return not asked or any(f"::{function}".endswith(f"::{name}") for name in asked)
 
 
 def end_of(text, at):
@@ -83,17 +88,13 @@ def needing(checks, top, clause):
     return sorted(found - unproved(checks, top, clause, found, True))
 
 
-def still_refused(checks, top, clause, tried):
-    """Those of the edits that name a clause for which it fails where it is deleted."""
-    text, left = read(f"{top}/crates/{clause.crate}/{clause.path}"), []
-    once = bound(f"{top}/crates/{clause.crate}")
-    for it in tried:
-        texts = {clause.path: without(text, clause)}
-        texts[it.file] = it.applied(texts.get(it.file) or read(f"{top}/crates/{clause.crate}/{it.file}"))[0]
-        said = checks.said(clause.crate, texts, {it.function}, True)
-        verdict = verdict_of(said, clause.crate, it.function, it.function in once, it.fails, it.has_twin)
-        left += [it] if verdict.goal else []
-    return left
+def gone(checks, top, clause, it):
+    """Whether the prover says of an edit, which names a clause, that it isn't refused where the clause is deleted."""
+    texts = {clause.path: without(read(f"{top}/crates/{clause.crate}/{clause.path}"), clause)}
+    texts[it.file] = it.applied(texts.get(it.file) or read(f"{top}/crates/{clause.crate}/{it.file}"))[0]
+    said = checks.said(clause.crate, texts, {it.function}, True)
+    verdict = verdict_of(said, clause.crate, it.function, it.function in bound(f"{top}/crates/{clause.crate}"), it.fails, it.has_twin)
+    return verdict.is_told() and not verdict.goal
 
 
 def some(top, crates, commit):
@@ -103,10 +104,9 @@ def some(top, crates, commit):
 
 
 def seen(checks, top, clause):
-    """What notices that a clause is deleted: an edit that names it and isn't refused any more, or functions that aren't proved; nothing if neither."""
-    tried = named_by(top, clause, True)
-    left = still_refused(checks, top, clause, tried[:1])
-    if tried and not left:
+    """What notices that a clause is deleted: an edit that it refuses, and that isn't refused any more, or functions that aren't proved; nothing if neither."""
+    tried = named_by(top, clause, True)[:1]
+    if tried and checks.together(clause.crate, tried)[0][tried[0].name].goal and gone(checks, top, clause, tried[0]):
         return f"{tried[0].name} isn't refused without it"
     found = needing(checks, top, clause)
     return f"{', '.join(found)} isn't proved without it" if found else ""

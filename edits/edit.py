@@ -3,14 +3,12 @@ import os
 import re
 from dataclasses import dataclass, field
 
-from source import clauses_of, functions_in, functions_of, has_proof, read
+from source import clauses_of, functions_in, functions_of, has_proof, read, write
 
 # The file of a harmless twin, and the clauses that are none of the function's own.
 TWIN = ".twin"
-# Crates of which no run has told yet which clauses their edits fail, and whether twins pass.
-UNNAMED = (
-    "ksv ksv_expr_eval ksv_memo ksv_nodes ksv_places ksv_rules ksv_schema_names ksv_session ksv_test_engine ksv_yaml ksv_yaml_scan "
-).split()
+# Crates of which no run has told yet which clauses the edits that the gate tries fail, and whether their twins pass.
+UNNAMED = "ksv_expr_eval ksv_nodes ksv_places ksv_rules ksv_schema_names ksv_session ksv_yaml ksv_yaml_scan".split()
 FAILS = r"(?:requires of [\w-]+|invariant of (?:loop )?[\w-]+)(?:: \w+)?"
 
 
@@ -30,6 +28,10 @@ class Edit:
     is_twin: bool = False
     has_twin: bool = False
     why: str = ""
+
+    def stem(self):
+        """The name of its file without its end, which an edit and its twin share."""
+        return os.path.splitext(os.path.basename(self.path))[0]
 
     def applied(self, text):
         """A text of its file after this edit, and why it can't be applied, if so."""
@@ -121,6 +123,12 @@ def unnamed(edit, folder):
     return "" if re.fullmatch(FAILS, edit.fails) else f"`{edit.fails}` names no clause"
 
 
+def name_clause(edit, clause):
+    """Writes into the file of an edit, which names none, the clause that must fail."""
+    text = read(edit.path)
+    write(edit.path, text.replace(f"file: {edit.file}\n", f"file: {edit.file}\nfails: {clause}\n", 1))
+
+
 def files_of(top, crate, is_gate=False):
     """The files in the folders of a crate's edits, in the order of their names; of those alone that the gate tries, or of all."""
     folders = [f"{top}/crates/{crate}/must-fail", *([] if is_gate else [f"{top}/edits/{crate}"])]
@@ -139,18 +147,33 @@ def twins_of(top, crate, is_gate=False):
 
 
 def unclear(top, crate):
-    """What the edits that the gate tries lack: the clause that fails, and a harmless twin where their function has a written proof."""
-    if crate in UNNAMED:
-        return []
-    tried, folder = edits_of(top, crate, True), f"{top}/crates/{crate}"
+    """What edits of a crate lack: the clause that fails, but for those of edits/ that are listed as not named yet; and, of those that the gate tries, a
+    harmless twin where their function has a written proof."""
+    tried, folder = [] if crate in UNNAMED else edits_of(top, crate, True), f"{top}/crates/{crate}"
     wrong = [f"{it.name}: it names no clause that must fail" for it in tried if not it.fails]
-    return wrong + [f"{it.name}: it has no harmless twin" for it in tried if not it.has_twin and has_proof(folder, it.function)]
+    wrong += [f"{it.name}: it has no harmless twin" for it in tried if not it.has_twin and has_proof(folder, it.function)]
+    return wrong + unlisted(top, crate)
+
+
+def unlisted(top, crate):
+    """What edits/unnamed.txt has wrong of a crate: an edit of edits/ that names no clause and isn't there, and one that is there and isn't such an edit. A
+    row is an edit, or a crate some of whose edits are such."""
+    names = {it.name for it in edits_of(top, crate) if not it.fails and it.name.startswith("edits/")}
+    rows = rows_of(top, "unnamed.txt")
+    listed = {it for it in rows if it.startswith(f"edits/{crate}/")}
+    wrong = [] if crate in rows else [f"{it}: it names no clause that must fail" for it in sorted(names - listed)]
+    wrong += [f"edits/unnamed.txt: {it} is no edit without a clause" for it in sorted(listed - names)]
+    return wrong + ([f"edits/unnamed.txt: {crate} has no edit without a clause"] if crate in rows and not names else [])
+
+
+def rows_of(top, name):
+    """The rows of a list in edits/."""
+    return [row for row in read(f"{top}/edits/{name}").split("\n") if row and not row.startswith("#")]
 
 
 def exceptions(top):
     """The public functions that have no edit, by crate and name, each with its reason: rows `CRATE FUNCTION: REASON`."""
-    rows = [row for row in read(f"{top}/edits/exceptions.txt").split("\n") if row and not row.startswith("#")]
-    return {tuple(row.partition(": ")[0].split()): row.partition(": ")[2] for row in rows}
+    return {tuple(row.partition(": ")[0].split()): row.partition(": ")[2] for row in rows_of(top, "exceptions.txt")}
 
 
 def misplaced(top, crate, known):

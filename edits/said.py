@@ -16,21 +16,29 @@ OF_TYPE = re.compile(r"invariant_of-(.+)")
 LIMIT = re.compile(r"limit|gave up|too (?:many|large|deep)")
 # What is said of a function that is proved, and of one that only waits for those that it calls.
 PROVED, WAITS = "its function is still proved", "no goal of its own fails"
+# What is said where the prover comes to no word on a function.
+UNTOLD = UNREADABLE, SILENT, LIMITED = "it can't be read", "the prover says nothing of its function", "the prover met a limit"
 
 
 @dataclass
 class Verdict:
     """What a check came to for a function: `goal`, the first goal of its contract that isn't proved and the reason, so that an edit is refused;
-    or `why` it says nothing of the contract. `clauses`: those that fail. `waits`: goals wait for the proof of a function that it calls."""
+    or `why` it says nothing of the contract. `clauses`: those that fail, and `sure`: those of which a goal says so that counts for an edit that names
+    its clause. `waits`: goals wait for the proof of a function that it calls."""
 
     goal: str = ""
     why: str = ""
     clauses: tuple = ()
+    sure: tuple = ()
     waits: bool = False
 
     def is_fine(self):
         """Whether nothing of the function fails."""
         return not self.goal and self.why.startswith((PROVED, WAITS))
+
+    def is_told(self):
+        """Whether the prover came to a word on the function at all."""
+        return not self.why.startswith(UNTOLD)
 
 
 def clause_of(goal, own=""):
@@ -80,27 +88,29 @@ def verdict_of(said, crate, function, is_bound, fails="", has_twin=False):
     say no more than that the proof is of another body. Where no clause is named yet (`edit.UNNAMED`), any goal counts, and so does each such error. A name that only a proof file has, a limit of the prover, a text that it
     can't read, and goals of safety alone say nothing of the contract."""
     if UNREAD.search(said):
-        return Verdict(why=f"it can't be read: {UNREAD.search(said)[0][:160]}")
+        return Verdict(why=f"{UNREADABLE}: {UNREAD.search(said)[0][:160]}")
     told = re.search(rf"^fn {re.escape(crate)}::{re.escape(function)}: (.*)$", said, re.M)
     if not told:
-        return Verdict(why="the prover says nothing of its function")
+        return Verdict(why=SILENT)
     if told[1].startswith("proved"):
         return Verdict(why=PROVED)
     if told[1].startswith("could not tell"):
-        return Verdict(why="the prover met a limit")
+        return Verdict(why=LIMITED)
     errors = errors_of(said, function)
     lost = [text for _, text in errors if LOST.search(text)]
     written = [(goal, text) for goal, text in errors if goal and not LOST.search(text) and not LIMIT.search(text)]
     found = [] if lost else [(goal, "not proved") for goal in open_goals(said, told[1], function, is_bound)]
     own = function.split("::")[-1] if is_bound else ""
-    of_contract = [(clause_of(goal, own), goal, text) for goal, text in [*found, *(written if has_twin or not fails else [])] if clause_of(goal, own)]
-    clauses = tuple(dict.fromkeys(clause for clause, _, _ in of_contract))
-    named = [it for it in of_contract if not fails or it[0] == fails]
+    of_contract = lambda goals: [(clause_of(goal, own), goal, text) for goal, text in goals if clause_of(goal, own)]
+    certain, every = of_contract([*found, *(written if has_twin else [])]), of_contract([*found, *written])
+    counted = certain if fails else every
+    clauses, sure = (tuple(dict.fromkeys(clause for clause, _, _ in goals)) for goals in (counted, certain))
+    named = [it for it in counted if not fails or it[0] == fails]
     if named:
         clause, goal, text = named[0]
-        return Verdict(goal=f"{clause} (`{goal}`: {text.removeprefix(f'`{goal}`: ')[:120]})", clauses=clauses)
-    if of_contract:
-        return Verdict(why=f"`{fails}` doesn't fail, but {', '.join(clauses)}", clauses=clauses)
+        return Verdict(goal=f"{clause} (`{goal}`: {text.removeprefix(f'`{goal}`: ')[:120]})", clauses=clauses, sure=sure)
+    if counted:
+        return Verdict(why=f"`{fails}` doesn't fail, but {', '.join(clauses)}", clauses=clauses, sure=sure)
     if found and not errors:
         return Verdict(why=f"only goals of safety fail, as `{found[0][0]}`")
     if errors:

@@ -4,12 +4,13 @@ from __future__ import annotations
 import re
 from typing import Callable, Dict, List, Optional
 
-from front.hints import formulas, keys, names, tokens
+from front.hints import foreign, formulas, keys, lines, tokens
 from front.hints.formulas import Formula
 from front.hints.kinds import Hint, say
 from front.hints.node import Node
 from front.hints.places import Place, Places, Start
-from front.hints.schema import PLACE_KEYS
+from front.hints.schema import KEYS, PLACE_KEYS
+from front.hints.values import of_zero
 
 FLOAT = re.compile(r"f[48](?:le|be)?\Z")
 LOW_BITS = re.compile(r"b(?:[1-9]|[1-5]\d|6[0-4])le\Z")
@@ -22,12 +23,21 @@ def left_out(places: Places) -> Hint:
     for it in places.keys:
         hint = of_key(it)
         if hint:
-            return keys.misspelt(places, Start(it.value, "instance", it.key, it.type, it.value), ("pos", "value")) or hint if hint.kind == "no place" else hint
+            return of_placeless(places, it) or hint if hint.kind == "no place" else hint
     for it in formulas.types(places):
         hint = of_type(it) or next(filter(None, map(of_expression, formulas.arguments(it))), None)
         if hint:
             return hint
     return next(filter(None, map(of_expression, formulas.of(places))), None) or say("feature")
+
+
+def of_placeless(places: Places, place: Place) -> Optional[Hint]:
+    """What to say of an instance with neither `pos` nor `value`, where a key is misspelt or is one of a type; None where none is."""
+    hint = keys.misspelt(places, Start(place.value, "instance", place.key, place.type, place.value), ("pos", "value"))
+    other = next((it for it in place.value.pairs if it.key in KEYS["type"]), None)
+    if hint or not other:
+        return hint
+    return say("key of no instance", line=lines.number(places.outline.text, other.at), key=other.key)
 
 
 def of_key(place: Place) -> Optional[Hint]:
@@ -37,7 +47,7 @@ def of_key(place: Place) -> Optional[Hint]:
     if place.role == "type" and place.key == "params" and not place.type.outer:
         return say("root params")
     if place.role == "enum" and ZERO.match(place.key):
-        return say("zero")
+        return of_zero(place.key)
     found: Dict[str, Callable[[Place], Optional[Hint]]] = {"meta": of_meta, "parameter": of_parameter, "bytes": of_byte}
     if place.role in found:
         return found[place.role](place)
@@ -63,7 +73,7 @@ def of_encoding(value: Node) -> Optional[Hint]:
     text = value.text.lower()
     if value.kind != "text" or text in ("ascii", "utf-8"):
         return None
-    return say("utf8") if text in ("utf8", "utf_8") else say("encoding")
+    return say("utf8") if text in ("utf8", "utf_8") else say("encoding", more="; or write `ASCII` or `UTF-8` where the text is that")
 
 
 def of_parameter(place: Place) -> Optional[Hint]:
@@ -73,7 +83,7 @@ def of_parameter(place: Place) -> Optional[Hint]:
 
 def of_byte(place: Place) -> Optional[Hint]:
     """An item of `contents`."""
-    return say("zero") if not place.value.mark and ZERO.match(place.value.text) else None
+    return of_zero(place.value.text) if not place.value.mark and ZERO.match(place.value.text) else None
 
 
 def of_field(place: Place) -> Optional[Hint]:
@@ -86,9 +96,9 @@ def of_field(place: Place) -> Optional[Hint]:
     if key == "contents" and value.kind == "text" and not value.mark and re.fullmatch(r"0x[0-9a-fA-F]+|[0-9]+", value.text):
         digits = value.text[2:] if re.fullmatch(r"0x(?:[0-9a-fA-F]{2}){2,8}", value.text) else ""
         if digits:
-            return say("contents", number=", ".join(f"0x{digits[it : it + 2]}" for it in range(0, len(digits), 2)))
+            return say("contents", number=", ".join(f"0x{digits[it : it + 2]}" for it in range(0, len(digits), 2)), more=", the highest byte first")
         number = int(value.text, 16) if value.text.startswith("0x") and len(value.text) < 5 else int(value.text) if len(value.text) < 4 else 256
-        return say("contents") if ZERO.match(value.text) or number > 255 else say("contents", number=value.text)
+        return say("contents") if ZERO.match(value.text) or number > 255 else say("contents", number=value.text, more="")
     return of_terminator(place) if key == "terminator" else None
 
 
@@ -110,7 +120,7 @@ def of_padding(place: Place) -> Hint:
 def of_terminator(place: Place) -> Optional[Hint]:
     """A terminator, by itself and beside its type."""
     if ZERO.match(place.value.text):
-        return say("zero")
+        return of_zero(place.value.text)
     kind = place.around.get("type")
     texts = [kind.text] if kind and kind.kind == "text" else [it.value.text for it in kind.get("cases").pairs] if kind and kind.has("cases") else []
     if texts == ["strz"]:
@@ -121,7 +131,7 @@ def of_terminator(place: Place) -> Optional[Hint]:
 def is_own_type(text: str, place: Place) -> bool:
     """Whether a type's text names a type of the description."""
     found = tokens.type_text(text).names
-    return bool(found) and not (len(found) == 1 and names.BUILT_IN.match(found[0])) and place.type.find(found) is not None
+    return bool(found) and not (len(found) == 1 and foreign.BUILT_IN.match(found[0])) and place.type.find(found) is not None
 
 
 def of_type(formula: Formula) -> Optional[Hint]:
@@ -156,6 +166,6 @@ def of_expression(formula: Formula) -> Optional[Hint]:
             elif after[:1] == ["."] and after != [".", "size"]:
                 return say("stream")
     for it in tokens.names(formula.text):
-        if it.kind == "cast" and len(it.names) == 1 and names.BUILT_IN.match(it.names[0]):
+        if it.kind == "cast" and len(it.names) == 1 and foreign.BUILT_IN.match(it.names[0]):
             return say("cast")
     return None

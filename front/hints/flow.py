@@ -14,10 +14,13 @@ SPACE = re.compile(r"\s*")
 # Where a plain text in a flow ends, and what its end is looked for by.
 PLAIN_END = re.compile(r"[,\[\]{}\n]|:(?=[\s,\[\]{}]|\Z)|[ \t]#|\Z")
 EDGE = re.compile(r"[\"'\[\]{}]|\s#[^\n]*")
+SIGN = re.compile(r"[\[\]{}]")
 ESCAPE = re.compile(r"\\(?:x([\da-fA-F]{2})|u([\da-fA-F]{4})|(.))")
 LETTERS = {"0": "\0", "a": "\a", "b": "\b", "t": "\t", "n": "\n", "v": "\v", "f": "\f", "r": "\r", "e": "\x1b"}
 # How deep flows are read, where ksv reads 64 levels; and how many marks of one.
 DEEPEST, MOST = 80, 1 << 30
+# How much of a line is looked at.
+LONGEST = 4000
 
 
 def unquoted(word: str) -> str:
@@ -45,6 +48,48 @@ def end(text: str, at: int, most: int = MOST) -> int:
             quoted = QUOTED.match(text, found.start())
             at = quoted.end() if quoted else at
     return len(text)
+
+
+def opened(text: str, at: int, most: int = MOST) -> List[Tuple[str, int]]:
+    """The brackets and braces that are open at a text's end, with their places, of the flow that begins at one; none where it is closed."""
+    found: List[Tuple[str, int]] = []
+    pattern = EDGE if any(text.find(sign, at) >= 0 for sign in "\"'#") else SIGN
+    for _ in range(most):
+        edge = pattern.search(text, at)
+        if not edge:
+            break
+        at = edge.end()
+        if edge[0] in "[{":
+            found.append((edge[0], edge.start()))
+        elif edge[0] in "]}":
+            found.pop()
+            if not found:
+                break
+        elif edge[0] in "\"'" and text[edge.start() - 1] in " \t\r\n[{,:":
+            quoted = QUOTED.match(text, edge.start())
+            at = quoted.end() if quoted else at
+    return found
+
+
+def crossed(bare: str) -> Optional[Tuple[str, str]]:
+    """The first bracket or brace of a text without quotes that is closed by a sign of the other kind, with that; None where there is none."""
+    found: List[str] = []
+    for sign in re.findall(r"[\[{\]}]", bare):
+        if sign in "[{":
+            found.append(sign)
+        elif found and (found[-1] == "{") != (sign == "}"):
+            return found[-1], sign
+        elif found:
+            found.pop()
+        if not found:
+            return None
+    return None
+
+
+def closes(line: str) -> bool:
+    """Whether a line closes more brackets and braces than it opens."""
+    bare = QUOTED.sub("", line[:LONGEST])
+    return bare.count("]") + bare.count("}") > bare.count("[") + bare.count("{")
 
 
 def ends_on_line(text: str, at: int, stop: int) -> bool:

@@ -2,9 +2,9 @@
 from __future__ import annotations
 
 import re
-from typing import Dict, Iterator, List, Optional, Tuple
+from typing import Dict, Iterator, List, Optional, Sequence, Tuple
 
-from front.hints import lines, schema
+from front.hints import foreign, lines, schema
 from front.hints.kinds import Hint, say
 from front.hints.near import near, plain
 from front.hints.node import Node, Pair
@@ -17,15 +17,15 @@ INTEGER = re.compile(r"[us](?:1|[248](?:le|be)?)\Z|b(?:[1-9]|[1-5]\d|6[0-4])(?:l
 WORDS: Dict[str, Tuple[str, str]] = {
     **dict.fromkeys(("length", "len", "bytes", "byte-size", "num-bytes"), ("size", "how many bytes there are")),
     **dict.fromkeys(("offset", "ofs", "position", "at", "start"), ("pos", "where an instance begins")),
-    **dict.fromkeys(("count", "repeat-count", "num", "times"), ("repeat-expr", "how many elements there are")),
-    **dict.fromkeys(("until", "while"), ("repeat-until", "which element is the last")),
+    **dict.fromkeys(("count", "repeat-count", "num", "times"), ("repeat-expr", "beside `repeat: expr`, how many elements there are")),
+    **dict.fromkeys(("until", "while"), ("repeat-until", "beside `repeat: until`, which element is the last")),
     **dict.fromkeys(("repeat-eos", "repeat-all"), ("repeat: eos", "to the end of the stream")),
-    **dict.fromkeys(("condition", "when", "cond"), ("if", "whether it is there")),
+    **dict.fromkeys(("condition", "when", "cond", "elif", "else-if"), ("if", "whether it is there")),
     **dict.fromkeys(("magic", "signature", "const", "bytes-value"), ("contents", "bytes that must be there")),
     **dict.fromkeys(("fields", "attributes", "sequence", "members"), ("seq", "the list of attributes")),
     **dict.fromkeys(("name", "field"), ("id", "the name")),
     **dict.fromkeys(("byte-order", "byteorder", "endianness"), ("endian", "the order of bytes")),
-    **dict.fromkeys(("charset", "codec"), ("encoding", "what letters the bytes are")),
+    **dict.fromkeys(("charset", "codec", "encode"), ("encoding", "what letters the bytes are")),
     **dict.fromkeys(("description", "desc", "comment", "comments", "note", "notes", "documentation"), ("doc", "what is said about it")),
     **dict.fromkeys(("parameters", "args", "arguments"), ("params", "the list of parameters")),
     **dict.fromkeys(("structs", "subtypes", "type-defs"), ("types", "the mapping of types")),
@@ -37,11 +37,17 @@ WORDS: Dict[str, Tuple[str, str]] = {
     **dict.fromkeys(("maximum", "most", "lt", "le"), ("max", "the greatest value")),
     **dict.fromkeys(("equals", "equal"), ("eq", "the value")),
     **dict.fromkeys(("expression",), ("expr", "what must be true")),
+    **dict.fromkeys(("include-terminator", "keep-terminator"), ("include", "whether the terminator is a part of the value")),
+    **dict.fromkeys(("consume-terminator", "skip-terminator"), ("consume", "whether what follows begins behind the terminator")),
 }
+# Words that people write for the case of all other values.
+OTHERS = ("default", "else", "otherwise")
 # Keys that other readers of such descriptions have.
 UNREAD = ("to-string", "ks-debug", "generic", "zero-copy-substream", "doc-url", "sizeof", "<<")
+# What is said of a key in a switch that is none of it.
+SWITCH = "a switch has `switch-on` and `cases`; keys of the attribute are beside `type`, and a type is written under `types`"
 # Where a key belongs that is none of the mapping that it is in.
-TYPE_KEYS = "a key of a type, as `meta` and `seq` are"
+TYPE_KEYS = "a key of the root, and of each type under `types`"
 PLACES: Dict[str, str] = {
     **dict.fromkeys(("pos", "io"), "only an instance has it: write the attribute under `instances`, by its name"),
     "value": "only an instance has it: write it under `instances`, by its name",
@@ -62,18 +68,41 @@ PLACES: Dict[str, str] = {
 def unknown(places: Places) -> Optional[Hint]:
     """What to say of a key that isn't known (S1)."""
     found = [it for it in places.keys if it.key and not schema.is_known(it.role, it.key) and it.role in schema.KEYS]
-    hints = [of_key(it.key, it.role, it.attribute, "", it.value) for it in found]
-    return next((it for it in hints if it), None) or (general(found[0]) if found else None)
+    named = [it for it in found if it.role in ("attribute", "parameter") and not it.around.has("id") and len(it.around.pairs) == 1]
+    hints = [of_typed(it) for it in named] + [of_key(it.key, it.role, it.around, "", it.value) for it in found]
+    return next((it for it in hints if it), None) or (general(found[0], empty_block(places)) if found else None)
 
 
-def general(place: Place) -> Hint:
-    """What is always true of an unknown key: the keys that there are; or how an attribute is written, where it looks like one."""
+def of_typed(place: Place) -> Optional[Hint]:
+    """What to say of an item that has a name with a type, as of this or another language; None where it is something else."""
+    text, is_known = place.value.text, foreign.is_type(place.value.text)
+    if not IDENTIFIER.match(place.key) or not is_known or place.value.kind != "text":
+        return None
+    kind = text if foreign.BUILT_IN.match(text) else foreign.integer(text.lower())
+    return say("typed name", key=place.key, role=schema.NAMES[place.role], type=kind) if kind else None
+
+
+def empty_block(places: Places) -> int:
+    """The number of the line above, if that is a key whose block text has no line; 0 where it isn't."""
+    outline, row = places.outline, places.outline.row_at(places.begin - 1) if places.begin else -1
+    is_it = row >= 0 and outline.inline(row) in ("|", ">") and outline.line(outline.starts[row]) == places.number - 1
+    return places.number - 1 if is_it else 0
+
+
+def general(place: Place, number: int) -> Hint:
+    """What is always true of an unknown key: the keys that there are; or how an attribute is written, where it looks like one; or the block text above, by its
+    number, that has no line."""
     text = place.value.text
     is_alone = place.role == "type" or place.role == "attribute" and not place.around.has("id")
-    if is_alone and place.value.kind == "text" and IDENTIFIER.match(place.key) and NAME.match(text):
+    if place.role == "type" and place.value.kind == "map" and IDENTIFIER.match(place.key) and any(place.value.has(it) for it in schema.KEYS["type"]):
+        return say("type at key", key=place.key, role=schema.NAMES[place.role])
+    is_type = NAME.match(text) and (foreign.BUILT_IN.match(text) or place.type.find(text.split("::")))
+    if is_alone and place.value.kind == "text" and IDENTIFIER.match(place.key) and is_type:
         return say("attribute form", key=place.key, role=schema.NAMES[place.role], type=text)
     if place.role == "attribute" and not place.around.has("id") and place.value.kind == "map" and IDENTIFIER.match(place.key):
         return say("named item", key=place.key)
+    if number and not place.around.is_flow:
+        return say("block empty", line=number)
     keys = ", ".join(f"`{it}`" for it in schema.KEYS[place.role])
     return say("unknown key", key=place.key, role=schema.NAMES[place.role], keys=keys)
 
@@ -83,23 +112,40 @@ def of_key(key: str, role: str, around: Optional[Node], where: str, value: Optio
     known = [*schema.KEYS[role], *schema.LEFT_OUT.get(role, ()), *schema.IGNORED.get(role, ()), "doc", "doc-ref"]
     name = schema.NAMES[role]
     one = other_number(key, role, value)
+    there = next((it for it in known if plain(it) == plain(key) and around is not None and around.kind == "map" and around.has(it)), None)
+    if there:
+        return say("key there", where=where, key=key, role=name, near=there)
     if one:
         return say("near key", where=where, key=key, role=name, near=one)
-    if key in PLACES or key == "id" or role == "switch" and key in ("default", "else", "otherwise"):
+    if key in PLACES or key == "id" or role == "switch" and key in OTHERS:
         return elsewhere(key, role, where)
     same = next((it for it in known if plain(it) == plain(key)), None)
+    near_one = near(key, known)
+    if (same or near_one) in schema.LEFT_OUT.get(role, ()):
+        return say("key elsewhere", where=where, key=key, role=name, place=f"if `{same or near_one}` is meant, that isn't read: leave it out")
     if same:
         return say("key as written", where=where, key=key, near=same)
     if key in UNREAD:
         return say("unread key", key=key)
-    near_one = near(key, known)
+    word, what = ("", "") if near_one else other_word(key, known)
+    if (near_one or word) and around is not None and around.kind == "map" and around.has(near_one or word):
+        return say("key there", where=where, key=key, role=name, near=near_one or word)
     if near_one:
         return say("near key", where=where, key=key, role=name, near=near_one)
-    word, what = WORDS.get(key.lower().replace("_", "-"), ("", ""))
-    if word.split(":")[0] in known:
+    if word == "size" and around is not None and around.kind == "map" and INTEGER.match(around.said("type")):
+        return say("own size", where=where, key=key, role=name, type=around.said("type"))
+    if word:
         return say("other word", where=where, key=key, role=name, what=what, near=word)
     moved = next((it for it in PLACES if plain(it) == plain(key)), None) or near(key, PLACES)
     return elsewhere(moved, role, where, key) if moved and len(key) > 3 else None
+
+
+def other_word(key: str, known: Sequence[str]) -> Tuple[str, str]:
+    """The one of some keys that a word is which people write for it, or one that is near such a word, and what it is; empty texts where there is none."""
+    written = key.partition("(")[0].strip().lower().replace("_", "-")
+    words = {it: found for it, found in WORDS.items() if found[0].split(":")[0] in known}
+    near_one = written if written in words else near(written, words) if len(written) > 3 else None
+    return words[near_one] if near_one else ("", "")
 
 
 def other_number(key: str, role: str, value: Optional[Node]) -> str:
@@ -114,8 +160,8 @@ def elsewhere(key: str, role: str, where: str, written: str = "") -> Hint:
     """What a key of another mapping is."""
     place = PLACES.get(key, "")
     if role in ("switch", "valid", "entry"):
-        place = "the case of all other values is `_`, under `cases`" if key in ("default", "else", "otherwise") else schema_of(role)
-        place = "a type is written under `types`, and here its name; a switch has `switch-on` and `cases`" if role == "switch" and key in schema.KEYS["type"] else place
+        place = "the case of all other values is `_`, under `cases`" if key in OTHERS else schema_of(role)
+        place = SWITCH if role == "switch" and key not in OTHERS else place
     elif key == "id":
         place = "the key that it is under is its name" if role != "type" else "the root's is in `meta`; of any other type the key that it is under is its name"
     elif role == "value":
@@ -124,6 +170,10 @@ def elsewhere(key: str, role: str, where: str, written: str = "") -> Hint:
         place = "a parameter has an `id`, and perhaps `type` and `enum`"
     elif role == "type" and key in schema.FIELD.split():
         place = "it is a key of an attribute, in an item of `seq`, or of an instance"
+    if key in schema.KEYS["type"] and role == "meta":
+        place += ", with fewer spaces before it"
+    if key == "seq" and role in ("attribute", "instance"):
+        place += "; write a type that has it, and here the name of that, as `type`"
     written_as = f"`{key}`: " if written and written != key else ""
     return say("key elsewhere", where=where, key=written or key, role=schema.NAMES[role], place=written_as + place)
 
@@ -144,8 +194,21 @@ def missing(places: Places) -> Optional[Hint]:
         if lacked and "size-eos" in lacked[0] and at >= 0:
             return say("truth below", line=lines.number(places.outline.text, at))
         if lacked:
-            return misspelt(places, start, lacked[0]) or lacked[1]
+            return misspelt(places, start, lacked[0]) or below_item(places, start, lacked[0]) or lacked[1]
     return None
+
+
+def below_item(places: Places, start: Start, wanted: Tuple[str, ...]) -> Optional[Hint]:
+    """What to say of an item whose missing key is on the line after it, beside the key of its list; None where it isn't there."""
+    outline = places.outline
+    row = outline.row_at(start.node.at)
+    chain = outline.around(row) if row >= 0 else []
+    key_row = next((it for it in chain if outline.key(it) == "seq"), None)
+    after = next((it for it in range(row + 1, len(outline.starts)) if outline.starts[it] >= start.node.stop), None) if key_row is not None else None
+    if after is None or outline.key(after) not in wanted or outline.around(after)[1:] != outline.around(key_row)[1:]:
+        return None
+    columns = start.node.at - outline.text.rfind("\n", 0, start.node.at) - 1
+    return say("key below item", line=outline.line(outline.starts[after]), key=outline.key(after), columns=f"{columns} spaces")
 
 
 def lacks(start: Start) -> Optional[Tuple[Tuple[str, ...], Hint]]:
@@ -173,7 +236,7 @@ def attribute_lacks(node: Node, one: Type) -> Optional[Tuple[Tuple[str, ...], Hi
     kind = node.said("type").partition("(")[0].strip() if node.has("type") else None
     is_sized = node.has("size") or node.has("terminator") or node.said("size-eos") == "true"
     if kind is None and not is_sized and not node.has("contents"):
-        return ("type", "size", "size-eos", "terminator", "contents"), say("no content")
+        return ("type", "size", "size-eos", "terminator", "contents"), say("no content", wanted=contents_of(node))
     if kind in ("str", "strz") and not is_sized and node.has("contents"):
         return ("size", "size-eos", "terminator"), say("beside contents", key="type")
     if kind == "str" and not is_sized:
@@ -184,6 +247,13 @@ def attribute_lacks(node: Node, one: Type) -> Optional[Tuple[Tuple[str, ...], Hi
     if word in ("expr", "until") and not node.has(f"repeat-{word}"):
         return (f"repeat-{word}",), say("no count", word=word)
     return None
+
+
+def contents_of(node: Node) -> str:
+    """What an attribute needs one of, beside the keys that it has."""
+    if node.has("enum"):
+        return "`type`, an integer,"
+    return "`type`, `size`, `size-eos: true`" + (" or `terminator`" if node.has("valid") else ", `terminator` or `contents`")
 
 
 def has_text(node: Node, key: str) -> bool:
@@ -208,12 +278,14 @@ def misspelt(places: Places, start: Start, wanted: Tuple[str, ...]) -> Optional[
             near_one = near(it.key, wanted)
             if near_one:
                 return say("near key", where=where, key=it.key, role=schema.NAMES[kind], near=near_one)
-            word, what = WORDS.get(it.key.lower().replace("_", "-"), ("", ""))
-            if word in wanted:
+            word, what = other_word(it.key, wanted)
+            if word:
                 return say("other word", where=where, key=it.key, role=schema.NAMES[kind], what=what, near=word)
             if it.key in PLACES and role == "attribute":
                 return elsewhere(it.key, role, where)
-    return None
+    other = next((it for it in start.node.pairs if role == "attribute" and not schema.is_known(role, it.key)), None)
+    return say("beside missing", wanted=contents_of(start.node), line=lines.number(places.outline.text, other.at),
+        key=other.key) if other and "contents" in wanted else None
 
 
 # Keys against each other
@@ -251,7 +323,8 @@ def twice(places: Places, place: Place) -> Optional[Hint]:
         if same:
             return say("number twice", name=place.key, line=number(same.at))
     if place.role == "enum" or place.role == "entry" and place.key == "id":
-        pairs = place.around.pairs if place.role == "enum" else next((it.value.pairs for it in enums_of(place.type) if place.around in [one.value for one in it.value.pairs]), [])
+        pairs = place.around.pairs if place.role == "enum" else next((it.value.pairs for it in enums_of(place.type) if place.around in [one.value for one in
+            it.value.pairs]), [])
         name = place.value.text or place.value.said("id")
         same = next((it for it in pairs if it.at < place.at and it.value is not place.around and (it.value.text or it.value.said("id")) == name and name), None)
         return say("member twice", name=name, line=number(same.at)) if same else None
@@ -277,7 +350,8 @@ def exclusions(node: Node, role: str) -> Iterator[Tuple[int, Hint]]:
     if role in ("instance", "value") and "value" in at:
         for key in schema.AGAINST_VALUE:
             if key in at:
-                yield min(at[key], at["value"]), say("beside value", key=key)
+                which = "one of them" if key in ("pos", "io") or "pos" in at else f"`{key}`"
+                yield min(at[key], at["value"]), say("beside value", key=key, which=which)
     elif role == "valid":
         keys = [it for it in schema.KEYS["valid"] if it in at]
         if len(keys) > 1 and set(keys) != {"min", "max"}:

@@ -4,43 +4,24 @@ from __future__ import annotations
 import re
 from typing import Dict, List, Optional, Sequence
 
-from front.hints import formulas, tokens
+from front.hints import foreign, formulas, keys, lines, tokens
+from front.hints.foreign import BUILT_IN
 from front.hints.formulas import Formula
 from front.hints.kinds import Hint, say
 from front.hints.near import near, plain
 from front.hints.node import Node
-from front.hints.places import Places
-from front.hints.scope import Type, members_of
+from front.hints.places import Place, Places
+from front.hints.scope import IDENTIFIER, Type, members_of
 from front.hints.schema import INDEX_KEYS
 
-BUILT_IN = re.compile(r"(?:[us](?:1|[248](?:le|be)?)|b(?:[1-9]|[1-5]\d|6[0-4])(?:le|be)?|f[48](?:le|be)?|strz?)\Z")
-BARE = re.compile(r"[us][248]\Z")
-METHODS = ("length", "size", "first", "last", "reverse", "to_i")
+BARE, INTEGER = re.compile(r"[us][248]\Z"), re.compile(r"[us](?:1|[248](?:le|be)?)\Z")
+METHODS = ("length", "size", "first", "last", "reverse", "to_i", "eof", "pos")
 ARGUMENTS = {"substring": 2, "to_i": 1, "to_s": 1}
 # How many types, members and names a hint looks at, how many names it lists, and in how many types it looks for a name that is far.
 TYPES, MEMBERS, LISTED, SEARCHED = 1100, 4000, 8, 60
-# Methods that other languages have, without large letters and signs between words.
-OTHER_METHODS: Dict[str, str] = {
-    **dict.fromkeys(("equals", "eq", "isequal", "compareto"), "`a == b`"),
-    **dict.fromkeys(("toint", "parseint", "tointeger", "int"), "`s.to_i`, or `s.to_i(16)`"),
-    **dict.fromkeys(("tostring", "tostr", "str", "decode"), "`n.to_s`, and of bytes `b.to_s(\"ASCII\")`"),
-    **dict.fromkeys(("substr", "slice", "mid", "substringof"), "`s.substring(a, b)`"),
-    **dict.fromkeys(("startswith", "hasprefix"), "`s.substring(0, 2) == \"ab\"`"),
-    **dict.fromkeys(("len", "count", "getlength", "getsize"), "`x.length` of bytes and texts, `x.size` of a list"),
-    **dict.fromkeys(("at", "get", "charat", "elementat"), "`a[0]`"),
-    **dict.fromkeys(("and", "or", "not", "xor"), "`a and b`, `a or b`, `not a`, or of bits `a & b`, `a | b`, `a ^ b`"),
-}
-# Types that other languages have.
-INTEGERS = re.compile(r"(?P<sign>u|s|i|uint|int|sint)_?(?P<bits>8|16|32|64)(?:_t)?_?(?P<order>le|be)?\Z")
-OTHER_TYPES: Dict[str, str] = {
-    **dict.fromkeys(("string", "text", "chars", "char"), "a text is `str`, with a `size`"),
-    **dict.fromkeys(("cstring", "cstr", "asciiz", "stringz", "zstr", "strz0"), "a text up to a zero byte is `strz`"),
-    **dict.fromkeys(("bytes", "raw", "blob", "buffer", "byte_array", "data"), "bytes have no `type`: write `size` alone"),
-    **dict.fromkeys(("byte", "uchar", "ubyte"), "a byte is `u1`"),
-    **dict.fromkeys(("bool", "boolean", "bit", "flag"), "one bit is `b1`, a truth value"),
-    **dict.fromkeys(("float", "double", "float32", "float64"), "floats aren't read: write `u4` or `u8` and read its bits"),
-    **dict.fromkeys(("int", "uint", "integer", "short", "long", "ushort", "ulong", "word", "dword", "qword"), "an integer is `u1`, `u2`, `u4`, `u8`, or `s1` to `s8` with a sign"),
-}
+# What is said of types that a description has, and of those of the language.
+OWN = "a type of your own is written under `types`"
+LANGUAGE = "; the language's are `u1`, `u2`, `u4`, `u8`, `s1` to `s8`, `b1` to `b64`, `str` and `strz`, and bytes have none"
 
 
 def unknown(places: Places) -> Optional[Hint]:
@@ -57,7 +38,7 @@ def unknown(places: Places) -> Optional[Hint]:
         if it.key == "enum" and it.role in ("attribute", "instance", "value") and it.value.kind == "text":
             hint = of_enum(it.value.text.split("::"), it.type)
             if hint:
-                return hint
+                return of_lost(it, "enums", places.outline.text) if hint.kind == "no enum" and it.around.has("enums") else hint
     return say("unknown name") if places.keys else None
 
 
@@ -78,13 +59,13 @@ def of_expression(formula: Formula) -> Optional[Hint]:
         elif it.kind == "member" and name not in tokens.SPECIAL and key != "case":
             hint = None if name in place.type.members else of_foreign_name(name, formula, is_repeated) or of_member(name, formula)
         elif it.kind == "path":
-            hint = of_enum_member(it.names, place.type)
+            hint = of_enum_member(it.names, place.type, formula.source)
         elif it.kind == "point" and name in ("_", "_index"):
             hint = say("name after point", name=name)
         elif it.kind == "call" and ARGUMENTS.get(name) != it.count:
             hint = of_call(name, it.count, formula)
         elif it.kind == "cast" and it.names and not (len(it.names) == 1 and BUILT_IN.match(name)) and not place.type.find(it.names):
-            hint = of_type_names(it.names, place.type)
+            hint = of_cast(it.names, place.type) or of_type_names(it.names, place.type, formula.source)
         if hint:
             return hint
     return None
@@ -96,16 +77,25 @@ def of_foreign_name(name: str, formula: Formula, is_repeated: bool) -> Optional[
     hint = of_element(name, formula, title) if formula.key == "repeat-until" else None
     if hint:
         return hint
-    if name in ("i", "j", "k", "idx") and is_repeated and formula.key in INDEX_KEYS:
+    if name in ("i", "j", "k", "idx", "_idx", "_i") and is_repeated and formula.key in INDEX_KEYS:
         return say("index name", type=title, name=name)
+    if name in ("value", "val", "self", "this", "x") and formula.key == "expr":
+        return say("checked value", type=title, name=name)
+    if name in ("this", "self", "value", "val", "x") and formula.key == "repeat-until" and not re.search(r"\b%s\s*\." % name, formula.text):
+        return say("element name", type=title, name=name)
     if name in ("it", "elem", "element", "item", "current") and formula.key in ("repeat-until", "expr"):
         return say("element name", type=title, name=name)
     if formula.key == "size" and name in ("eos", "eof", "end", "all", "rest", "remaining"):
         return say("rest")
-    after = re.search(r"\b%s\s*\.\s*([a-z][a-z0-9_]*)" % name, formula.text) if name in ("this", "self") else None
-    if after and after[1] in formula.place.type.members:
+    after = re.search(r"\b%s\s*\.\s*([a-z_][a-z0-9_]*)" % name, formula.text) if name in ("this", "self") else None
+    if after and after[1] in (*formula.place.type.members, *tokens.SPECIAL):
         return say("own member", type=title, name=name, member=after[1])
-    return say("no null", name=name) if name in ("null", "nil", "none", "undefined") else None
+    if name in foreign.NULLS:
+        return say("no null", name=name)
+    called = re.search(r"\b%s\s*\.\s*([a-z_][a-z0-9_]*)" % name, formula.text) if name in foreign.MODULES else None
+    if plain(name) in ("filesize", "streamsize") or called and called[1] in ("size", "length", "len") and name in ("stream", "file", "reader", "ctx"):
+        return foreign.of_function("filesize", f"{name}.{called[1]}" if called else name)
+    return foreign.of_function(called[1], f"{name}.{called[1]}") if called else None
 
 
 def of_element(name: str, formula: Formula, title: str) -> Optional[Hint]:
@@ -115,6 +105,8 @@ def of_element(name: str, formula: Formula, title: str) -> Optional[Hint]:
     if own and (name in (own.said("type"), f"{own.said('id')}_item") or near(name, [own.said("id")])):
         return say("element name", type=title, name=name)
     of = formula.place.type.find(kind) if kind and not (len(kind) == 1 and BUILT_IN.match(kind[0])) else None
+    if of and name.startswith("_") and name[1:] in of.members:
+        return say("near member", type=title, name=name, near=f"_.{name[1:]}")
     return say("member of element", type=title, name=name) if of and name in of.members else None
 
 
@@ -130,15 +122,55 @@ def of_member(name: str, formula: Formula) -> Hint:
     special = next((it for it in words if plain(it) == plain(name) and len(name) > 1), None) or (near(name, tokens.SPECIAL) if name.startswith("_") else None)
     if special:
         return say("special name", type=title, name=name, near=special)
+    if name == "_sizeof":
+        return say("size of type")
     enum = next((it.enums[name] for it in one.around() if name in it.enums), None)
-    if enum and f"{name}." in formula.text.replace(" ", ""):
-        return say("enum by point", name=name, member=(members_of(enum) or ["member"])[0])
+    after = re.search(r"\b%s\s*[./]\s*([a-z_][a-z0-9_]*)" % name, formula.text) if enum else None
+    if after and ("/" not in after[0] or after[1] in members_of(enum)):
+        return say("enum by point", name=name, member=after[1] if after[1] in members_of(enum) else (members_of(enum) or ["member"])[0])
     near_one = near(name, [it for it in one.members if not it.startswith("_")])
+    hyphens = re.search(r"(?<![.\w-])%s(?:-[a-z0-9_]+)+(?![\w.(-])" % name, formula.text)
+    if hyphens and hyphens[0].replace("-", "_") in one.members:
+        return say("near member", type=title, name=hyphens[0], near=hyphens[0].replace("-", "_"))
+    if near_one and not IDENTIFIER.match(near_one):
+        return there(near_one, name, one.members[near_one][0].at, formula.source)
     if near_one:
         return say("near member", type=title, name=name, near=near_one)
-    if name == formula.text and not found_elsewhere(name, one, title, formula.place.attribute) and (formula.node.mark or formula.key == "valid"):
-        return say("text name", text=name)
-    return found_elsewhere(name, one, title, formula.place.attribute) or say("no member", type=title, name=name, members=listed(one.members, "its members are", "it has no members"))
+    if name == formula.text and not found_elsewhere(name, one, title,
+        formula.place.attribute) and (formula.node.mark or formula.key == "valid") and formula.key not in ("size", "pos", "repeat-expr"):
+        return of_text(name, formula)
+    elsewhere = found_elsewhere(name, one, title, formula.place.attribute)
+    holding = [member for member, of in typed(one) if of and of is one.find([name])] if not elsewhere else []
+    if len(holding) == 1:
+        return say("near member", type=title, name=name, near=holding[0])
+    if enum and not elsewhere and members_of(enum):
+        return say("enum by point", name=name, member=members_of(enum)[0])
+    return elsewhere or say("no member", type=title, name=name, members=listed(one.members,
+        "its members are", "it has no members"))
+
+
+def of_text(text: str, formula: Formula) -> Hint:
+    """What to say of a word that may be meant as a text: where a number is checked, what it would be."""
+    own = formula.place.attribute
+    kind = own.said("type") if own and formula.key == "valid" and not own.has("enum") else ""
+    if INTEGER.match(kind) and len(text) == 1:
+        return say("letter number", type=kind, number=ord(text))
+    if INTEGER.match(kind) and text.isupper() and len(text) == int(kind[1]):
+        return say("text of number", type=kind, text=text)
+    if INTEGER.match(kind) and text.isupper():
+        more = f"; a number in hexadecimal is `0x{text}`" if re.fullmatch(r"[A-F][0-9A-F]{1,15}", text) else ""
+        return say("no constant", word=text, name=text.lower().replace("-", "_"), more=more)
+    return say("text name", text=text)
+
+
+def path_to(name: str, formula: Formula) -> str:
+    """How a name is written that is a member, or is found elsewhere; the empty text where it is nowhere."""
+    one = formula.place.type
+    if name in one.members or name in tokens.SPECIAL:
+        return name
+    hint = found_elsewhere(name, one, titled(one), formula.place.attribute)
+    found = re.search(r"write `([a-z_][^`]*)`\Z", hint.text) if hint else None
+    return found[1] if found else near(name, [it for it in one.members if not it.startswith("_")]) or ""
 
 
 def found_elsewhere(name: str, one: Type, title: str, own: Optional[Node]) -> Optional[Hint]:
@@ -213,13 +245,7 @@ def of_call(name: str, count: int, formula: Formula) -> Hint:
         return say("text of")
     if not count and (name in METHODS or is_member(name, formula)):
         return say("method without arguments", name=name)
-    return of_other_method(name) or say("method", name=name, count=count, s="" if count == 1 else "s")
-
-
-def of_other_method(name: str) -> Optional[Hint]:
-    """What to say of a method that other languages have."""
-    other = OTHER_METHODS.get(plain(name))
-    return say("other method", name=name, example=other) if other else None
+    return foreign.of_method(name) or say("method", name=name, count=count, s="" if count == 1 else "s")
 
 
 def is_member(name: str, formula: Formula) -> bool:
@@ -235,7 +261,12 @@ def is_member(name: str, formula: Formula) -> bool:
 # Enums
 
 
-def of_enum_member(names: Sequence[str], one: Type) -> Optional[Hint]:
+def there(written: str, name: str, at: int, source: str) -> Hint:
+    """What to say of a name that is there, in another place, but written so that it is none."""
+    return say("name there", name=written, line=lines.number(source, at), near=name)
+
+
+def of_enum_member(names: Sequence[str], one: Type, source: str) -> Optional[Hint]:
     """What to say of a path to an enum's member that isn't there."""
     enum = one.find_enum(names[:-1])
     if not enum:
@@ -244,6 +275,8 @@ def of_enum_member(names: Sequence[str], one: Type) -> Optional[Hint]:
     if names[-1] in known:
         return None
     near_one, path = near(names[-1], known), "::".join(names[:-1])
+    if near_one and not IDENTIFIER.match(near_one):
+        return there(near_one, names[-1], next(it.at for it in enum.pairs if near_one in (it.value.text, it.value.said("id"))), source)
     if near_one:
         return say("near enum member", enum=path, name=names[-1], near=near_one)
     return say("no enum member", enum=path, name=names[-1], members=listed(known, "its members are", "it has none"))
@@ -255,7 +288,7 @@ def of_enum(names: Sequence[str], one: Type) -> Optional[Hint]:
         return None
     seen = {key: None for it in one.around() for key in it.enums}
     near_one = near(names[-1], seen) if len(names) == 1 else None
-    if near_one:
+    if near_one and IDENTIFIER.match(near_one):
         return say("near enum", name=names[-1], near=near_one)
     paths = [f"{it.path}::{names[-1]}" for it in one.root.all(TYPES) if it.outer and names[-1] in it.enums]
     paths = [it for it in paths if one.find_enum(it.split("::"))]
@@ -263,7 +296,8 @@ def of_enum(names: Sequence[str], one: Type) -> Optional[Hint]:
         return say("enum elsewhere", name="::".join(names), path=paths[0])
     if len(names) > 1 and (found := one.find_enum(names[:-1])) and names[-1] in members_of(found):
         return say("member for enum", name="::".join(names), enum="::".join(names[:-1]))
-    return say("no enum", name="::".join(names), enums=listed(list(seen), "those that can be seen from here are", "write it under `enums`"))
+    own = listed(paths, "those in other types are", "write it under `enums`")
+    return say("no enum", name="::".join(names), enums=listed(list(seen), "those that can be seen from here are", own))
 
 
 # Types
@@ -274,18 +308,38 @@ def of_type(formula: Formula) -> Optional[Hint]:
     names = tokens.type_text(formula.text).names
     if not names or len(names) == 1 and BUILT_IN.match(names[0]) or formula.place.type.find(names):
         return None
-    return of_type_names(names, formula.place.type)
+    around = formula.place.around
+    if formula.place.key == "type" and (around.has("switch-on") or around.has("cases")):
+        return say("switch beside", name="::".join(names))
+    hint = of_type_names(names, formula.place.type, formula.source, LANGUAGE)
+    return of_lost(formula.place, "types", formula.source) if hint.kind == "no type" and around.has("types") else hint
 
 
-def of_type_names(names: Sequence[str], one: Type) -> Hint:
+def of_lost(place: Place, key: str, source: str) -> Hint:
+    """What to say where the types or enums are in the attribute that names one."""
+    at = next(it.at for it in place.around.pairs if it.key == key)
+    return keys.elsewhere(key, "instance" if place.role == "value" else place.role, f"line {lines.number(source, at)}: ")
+
+
+def of_cast(names: Sequence[str], one: Type) -> Optional[Hint]:
+    """What to say of a cast to an enum; None where it is something else."""
+    enum = one.find_enum(names)
+    members = members_of(enum) if enum else []
+    return say("enum for cast", name="::".join(names), member=members[0]) if members else None
+
+
+def of_type_names(names: Sequence[str], one: Type, source: str, more: str = "") -> Hint:
     """What to say of a type that isn't there: one of another language, one that is near, or where it is."""
     name, path = names[-1], "::".join(names)
     if len(names) == 1:
-        foreign = of_foreign(name)
-        if foreign:
-            return foreign
+        other = foreign.of_type(name)
+        if other:
+            return other
     seen = {key: None for it in one.around() for key in it.types}
     near_one = near(name, [*seen, *([one.root.name] if one.root.name else []), "str", "strz"]) if len(names) == 1 else None
+    if near_one and not IDENTIFIER.match(near_one):
+        return there(near_one, path, next(pair.at for it in one.around() if near_one in it.types for pair in it.node.get("types").pairs if pair.key ==
+            near_one), source)
     if near_one:
         return say("near type", name=path, near=near_one)
     listed_types = any(it.node.has("types") and it.node.get("types").kind == "list" for it in one.around())
@@ -296,26 +350,7 @@ def of_type_names(names: Sequence[str], one: Type) -> Hint:
         return say("type elsewhere", name=path, path=paths[0])
     if len(names) == 1 and one.find_enum(names):
         return say("enum for type", name=name)
-    return say("no type", name=path, types=listed(list(seen), "those that can be seen from here are", "write it under `types`"))
-
-
-def of_foreign(name: str) -> Optional[Hint]:
-    """What to say of a type that other languages have."""
-    same = plain(name)
-    partial = re.match(r"([us][248])_?(?:(l|el)|b|eb)\Z", name)
-    if partial:
-        return say("type as written", name=name, near=f"{partial[1]}{'le' if partial[2] else 'be'}")
-    if same != name and BUILT_IN.match(same):
-        return say("type as written", name=name, near=same)
-    found = INTEGERS.match(name)
-    if found and not BUILT_IN.match(name):
-        size, order = int(found["bits"]) // 8, (found["order"] or "") if found["bits"] != "8" else ""
-        return say("integer type", name=name, bits=found["bits"], near=f"{'u' if found['sign'].startswith('u') else 's'}{size}{order}")
-    if re.match(r"[us]1(?:le|be)\Z", name):
-        return say("one byte", name=name, near=name[:2])
-    if re.match(r"[us]\d+(?:le|be)?\Z|b\d+(?:le|be)?\Z", name):
-        return say("odd integer", name=name)
-    return say("other type", name=name, example=OTHER_TYPES[name]) if name in OTHER_TYPES else None
+    return say("no type", name=path, types=listed(list(seen), "those that can be seen from here are", OWN) + more)
 
 
 # The order of bytes, and arguments
@@ -340,6 +375,10 @@ def arguments(places: Places) -> Hint:
             given = found.node.get("params")
             if given is not None and given.kind != "list":
                 return say("list wanted", key="params", item="parameter")
+            lost = None if found.parameters else next((pair for pair in found.node.pairs if near(pair.key, ["params"])), None)
+            if lost:
+                where = f"line {lines.number(places.outline.text, lost.at)}: "
+                return say("near key", where=where, key=lost.key, role="a type", near="params")
             name, count = "::".join(text.names), len(found.parameters)
             values = ", ".join([".."] * min(count, LISTED))
             example = f"a value for each, `{name}({values})`" if count else f"`{name}`"

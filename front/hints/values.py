@@ -4,15 +4,18 @@ from __future__ import annotations
 import re
 from typing import Callable, Dict, Optional, Sequence
 
-from front.hints import schema
+from front.hints import lines, schema
 from front.hints.kinds import Hint, say
-from front.hints.near import near as near_name
+from front.hints.near import near as near_name, plain
 from front.hints.places import Place, Places
 from front.hints.scope import IDENTIFIER, members_of
 
 TRUTHS = ("size-eos", "consume", "include", "eos-error")
 WORDS = {"repeat": ("eos", "expr", "until"), "endian": ("le", "be"), "bit-endian": ("be",)}
-MEANT = {**dict.fromkeys(("little", "little-endian", "little_endian"), "le"), **dict.fromkeys(("big", "big-endian", "big_endian"), "be"), "eof": "eos"}
+MEANT = {
+    **dict.fromkeys(("little", "littleendian", "lsb", "lsbfirst", "intel", "<"), "le"), "eof": "eos",
+    **dict.fromkeys(("big", "bigendian", "msb", "msbfirst", "motorola", "network", ">"), "be"),
+}
 NUMBER = re.compile(r"(?:0x[0-9a-fA-F]+|[0-9]+)\Z")
 SIGNED = re.compile(r"(?:0x[0-9a-fA-F]+|-?[0-9]+)\Z")
 # What is in the keys of a type, as an example.
@@ -34,9 +37,18 @@ def bad(places: Places) -> Hint:
     for it in places.keys:
         hint = of_place(it)
         if hint:
-            return hint
+            return of_lines(places, it) or hint
     root = places.outline.root
     return say("description") if root.kind != "map" and places.begin <= root.at < places.end else say("value")
+
+
+def of_lines(places: Places, place: Place) -> Optional[Hint]:
+    """What to say where a mapping is wanted, and below its key is a line without a colon; None where that isn't so."""
+    text, value = places.outline.text, place.value
+    is_below = value.kind == "text" and not value.mark and value.at >= places.end
+    found = re.match(r"([A-Za-z0-9_][\w-]*) *(?:=>?|->)? *[\w.\"'-]+", value.text)
+    is_it = is_below and found and place.role in ("types", "instances", "enums", "type") and place.key not in ITEMS
+    return say("no colon", where=f"line {lines.number(text, value.at)}: ", key=found[1]) if is_it else None
 
 
 def of_place(place: Place) -> Optional[Hint]:
@@ -53,11 +65,19 @@ def of_place(place: Place) -> Optional[Hint]:
     return found[place.role](place) if place.role in found else None
 
 
-def of_name(written: str) -> Hint:
+def of_name(written: str, key: str = "") -> Hint:
     """What a name that isn't one would be."""
-    name = snake(written)
     if not written:
         return say("id")
+    if re.fullmatch(r"[a-z][a-z0-9_]*#.*", written):
+        return say("comment sign")
+    commented = re.search(r"\s(//|/\*|--|;)", written)
+    if commented:
+        return say("comment mark", sign=commented[1], where="")
+    listed = re.fullmatch(r"([A-Za-z]\w*) *\[ *(\w*) *\]", written)
+    if listed and key == "id" and snake(listed[1]):
+        return say("listed name", key=key, name=snake(listed[1]), count=listed[2] or "n")
+    name = snake(re.split(r"[<(\[{]", written)[0]) or snake(written)
     return say("name", name=name) if name and name != written else say("name")
 
 
@@ -73,10 +93,12 @@ def of_entry(place: Place) -> Optional[Hint]:
     if not IDENTIFIER.match(place.key):
         return of_name(place.key)
     inner = place.role[:-1]
-    if inner == "type" and place.value.kind != "map" and place.key in schema.KEYS["type"]:
-        return say("type key as type", key=place.key)
+    if place.value.kind != "map" and place.key in schema.KEYS["type"]:
+        return say("type key as type", key=place.key, what=f"{'a' if inner == 'type' else 'an'} {inner}")
     if inner == "type" and place.value.kind == "list":
         return say("list in type", key=place.key)
+    if place.value.kind == "list":
+        return say("entry list", key=place.key, example=f"as in {EXAMPLES[inner]}")
     return None if place.value.kind == "map" else say("entry wanted", key=place.key, example=EXAMPLES[inner])
 
 
@@ -86,13 +108,15 @@ def of_id(place: Place) -> Optional[Hint]:
         return None
     if place.value.kind != "text":
         return say("text wanted", key="id")
-    return None if IDENTIFIER.match(place.value.text) else of_name(place.value.text)
+    return None if IDENTIFIER.match(place.value.text) else of_name(place.value.text, "id" if place.role == "attribute" else "")
 
 
 def of_type_key(place: Place) -> Optional[Hint]:
     """What a key of a type has: a list, or a mapping."""
     if place.key in ITEMS:
         return None if place.value.kind == "list" else say("list wanted", key=place.key, item=ITEMS[place.key])
+    if place.key in EXAMPLES and place.value.kind == "text" and not place.value.text and not place.value.mark:
+        return say("nothing below", key=place.key, example=EXAMPLES[place.key])
     if place.key in EXAMPLES and place.value.kind != "map":
         return say("mapping wanted", key=place.key, example=EXAMPLES[place.key])
     return None
@@ -115,12 +139,12 @@ def of_word(place: Place) -> Optional[Hint]:
     joined = re.fullmatch(r"(until|expr)[ :]+(\S.*)", text) if place.key == "repeat" else None
     if joined:
         return say("repeat joined", word=joined[1], value=joined[2])
-    near = MEANT.get(text.lower()) or nearest(text.lower(), words)
+    near = MEANT.get(plain(text)) or nearest(text.lower(), words)
     if near in words:
         return say("letter case", key=place.key, near=near)
     if place.key == "repeat" and (NUMBER.match(text) or text in place.type.members):
         return say("repeat count", count=f"repeat-expr: {text}") if text != "3" else say("repeat count")
-    return say("one of", key=place.key, words=" or ".join(f"`{it}`" for it in words) if len(words) < 3 else "`eos`, `expr` or `until`")
+    return say("repeat word") if place.key == "repeat" else say("one of", key=place.key, words=" or ".join(f"`{it}`" for it in words))
 
 
 def nearest(text: str, words: Sequence[str]) -> Optional[str]:
@@ -143,7 +167,8 @@ def of_field(place: Place) -> Optional[Hint]:
     if key == "type":
         return say("type wanted") if value.kind == "list" else None
     if key == "valid":
-        return say("checked list") if value.kind == "list" else None
+        is_bytes = not place.around.has("type") and value.kind == "list"
+        return say("checked list", more="; bytes that must be there are `contents`" if is_bytes else "") if value.kind == "list" else None
     if key == "contents":
         return say("contents wanted") if value.kind == "map" else None
     if key == "repeat":
@@ -173,6 +198,8 @@ def of_terminator(place: Place) -> Optional[Hint]:
         return say("terminator list")
     if NUMBER.match(text) and (int(text, 0 if text.startswith("0x") else 10) if len(text) < 20 else 256) <= 255:
         return None
+    if place.value.mark and len(text) > 1 and not text.startswith("\\") and not text[0].isdigit():
+        return say("terminator list")
     letter = {"\\n": "\n", "\\r": "\r", "\\t": "\t", "\\0": "\0"}.get(text, text)
     return say("terminator letter", number=ord(letter)) if len(letter) == 1 and ord(letter) < 128 and not letter.isdigit() else say("terminator")
 
@@ -181,6 +208,8 @@ def of_switch(place: Place) -> Optional[Hint]:
     """A key of a switch."""
     if place.key == "switch-on" and place.value.kind != "text":
         return say("expression wanted", key="switch-on", example="kind")
+    if place.key == "cases" and place.value.kind == "text" and not place.value.text and not place.value.mark:
+        return say("nothing below", key="cases", example="`cases: {1: u1}`")
     if place.key == "cases" and place.value.kind != "map":
         return say("mapping wanted", key="cases", example="`cases: {1: u1}`")
     return None
@@ -220,6 +249,9 @@ def of_case(place: Place) -> Optional[Hint]:
         return say("case each")
     if place.key in OTHERS:
         return say("other case")
+    alone = re.fullmatch(r"(?:case|when) +(\S.*)", place.key)
+    if alone:
+        return say("case alone", near=alone[1])
     enum, _, name = place.key.rpartition(".")
     found = {it: members_of(of) for one in place.type.around() for it, of in one.enums.items() if len(of.pairs) < MOST}
     having = [it for it, members in found.items() if name in members and enum in ("", it)]
@@ -245,6 +277,13 @@ def of_number(place: Place) -> Optional[Hint]:
         return say("number form", near=f"0x{int(moved[1]) << int(moved[2]):x}")
     name = value.text if value.kind == "text" and IDENTIFIER.match(value.text) else value.said("id") if value.kind == "map" else snake(key)
     return say("enum number", name=name or "name")
+
+
+def of_zero(written: str) -> Hint:
+    """What to say of a number with a zero before it: what it is in octal, where that is another number."""
+    digits = written.replace("_", "").lstrip("-")
+    is_octal = re.fullmatch(r"0[0-7]{2,20}", digits) and int(digits, 8) != int(digits)
+    return say("zero", number=written, octal=int(digits, 8)) if is_octal else say("zero")
 
 
 def limit(places: Places) -> Hint:

@@ -2,25 +2,24 @@
 from __future__ import annotations
 
 import re
-from typing import Dict, Set
+from string import Formatter
+from typing import Dict, List
 
 from front.hints.kinds import KINDS, Hint
-
-PLACE = re.compile(r"\\\{(\w+)\\\}")
 
 
 def values(hint: Hint) -> Dict[str, str]:
     """What is filled into the places of a hint's text; nothing where it was cut."""
     kind = KINDS[hint.kind]
-    seen: Set[str] = set()
-    pattern = PLACE.sub(lambda it: group(it[1], seen), re.escape(kind.text.replace("{{", "\0").replace("}}", "\1")))
-    found = re.fullmatch(pattern.replace(re.escape("\0"), r"\{").replace(re.escape("\1"), r"\}"), hint.text)
+    found = re.fullmatch(pattern(kind.text), hint.text, re.S)
     return {key: it for key, it in found.groupdict().items() if not it.endswith(" ..")} if found and not kind.what else {}
 
 
-def group(name: str, seen: Set[str]) -> str:
-    """What matches a place: anything, and the second time the same."""
-    if name in seen:
-        return f"(?P={name})"
-    seen.add(name)
-    return f"(?P<{name}>.*?)"
+def pattern(text: str) -> str:
+    """What matches a text with its places filled in: anything, and in a place that is there a second time the same."""
+    parts: List[str] = []
+    seen: List[str] = []
+    for words, name, _, _ in Formatter().parse(text):
+        parts += [re.escape(words), "" if name is None else f"(?P={name})" if name in seen else f"(?P<{name}>.*?)"]
+        seen += [name] if name else []
+    return "".join(parts)

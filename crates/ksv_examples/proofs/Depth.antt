@@ -5,7 +5,6 @@ use Rattle.std.specs.Cmp.{first_so, second_so}
 use Rattle.ksv_basics.specs.Plan.{Answer, Fail, Ask}
 use Rattle.ksv_desc.specs.Description.{Description}
 use Rattle.ksv_expr_value.specs.Trail.{Trail, same_trail}
-use Rattle.ksv_expr_value.specs.declared.fault.Fault.{Fault}
 use Rattle.ksv_expr_value.specs.declared.step.Step.{Step}
 use Rattle.ksv_expr_value.specs.declared.step.Step.TheVariants.{Index, Name}
 use Rattle.ksv_memo_rules.specs.Meaning.{on}
@@ -19,6 +18,8 @@ use Rattle.ksv_nodes.specs.Truth.{answer_of, with_given, with_seen}
 use Rattle.ksv_nodes.specs.Turning.{raised}
 use Rattle.ksv_nodes.specs.declared.given.Given.{Given}
 use Rattle.ksv_nodes.specs.declared.node.Node.{Node}
+use Rattle.ksv_nodes.specs.declared.node_fault.NodeFault.{NodeFault}
+use Rattle.ksv_nodes.specs.declared.node_fault.NodeFault.TheVariants as faults
 use Rattle.ksv_nodes.specs.declared.node.NodeKind.{NodeKind}
 use Rattle.ksv_nodes.specs.declared.node.NodeKind.TheVariants.{Head, Value, End, Rest}
 use Rattle.ksv_rule_meaning.specs.Described.{described}
@@ -104,19 +105,24 @@ open_numbered (m ∷ ms) n = rw (node_numbered n m, open_numbered ms n) refl
 pub some_is : {A : Type 0} (a b : A) → Some a ≡ Some b → a ≡ b
 some_is a b e = cc
 
-met_is : {A : Type 0} (o : Option (Result Given Fault)) (a : Result Given Fault) (f : Given → Option (Result A Fault)) (g : Given → Result A Fault) (r : Result A Fault) → ((x : Result Given Fault) → o ≡ Some x → a ≡ x) → ((x : Given) → f x ≡ Some r → g x ≡ r) → with_met o f ≡ Some r → with_given a g ≡ r
+met_is : {A : Type 0} (o : Option (Result Given NodeFault)) (a : Result Given NodeFault) (f : Given → Option (Result A NodeFault))
+    (g : Given → Result A NodeFault) (r : Result A NodeFault) → ((x : Result Given NodeFault) → o ≡ Some x → a ≡ x)
+    → ((x : Given) → f x ≡ Some r → g x ≡ r) → with_met o f ≡ Some r → with_given a g ≡ r
 met_is None a f g r is rest e = absurd (cc)
 met_is (Some (Ok x)) a f g r is rest e = rw (is (Ok x) refl) (rest x e)
 met_is (Some (Err x)) a f g r is rest e = rw (is (Err x) refl) (some_is (Err x) r e)
 
-look_is : {A B : Type 0} (here : Trail) (o : Option A) (f : A → Option (Result B Fault)) (g : A → Result B Fault) (r : Result B Fault) → ((x : A) → f x ≡ Some r → g x ≡ r) → with_look here o f ≡ Some r → with_seen here o g ≡ r
+look_is : {A B : Type 0} (here : Trail) (o : Option A) (f : A → Option (Result B NodeFault)) (g : A → Result B NodeFault) (r : Result B NodeFault)
+    → ((x : A) → f x ≡ Some r → g x ≡ r) → with_look here o f ≡ Some r → with_seen here o g ≡ r
 look_is here None f g r rest e = cc
 look_is here (Some x) f g r rest e = rest x e
 
 -- where nodes answer alike as far as the first go, so do rules
-rule_is : (f : Node → Option (Result Given Fault)) (g : Node → Result Given Fault) → ((m : Node) (x : Result Given Fault) → f m ≡ Some x → g m ≡ x) → (here : Trail) (bytes : List ℕ) {A : Type 0} (p : Rule A) (r : Result A Fault) → rule_answer f here bytes p ≡ Some r → answer_of g here bytes p ≡ r
+rule_is : (f : Node → Option (Result Given NodeFault)) (g : Node → Result Given NodeFault)
+    → ((m : Node) (x : Result Given NodeFault) → f m ≡ Some x → g m ≡ x) → (here : Trail) (bytes : List ℕ) {A : Type 0} (p : Rule A) (r : Result A NodeFault)
+    → rule_answer f here bytes p ≡ Some r → answer_of g here bytes p ≡ r
 rule_is f g each here bytes (Answer a) r e = some_is (Ok a) r e
-rule_is f g each here bytes (Fail x) r e = some_is (Err (raised x here)) r e
+rule_is f g each here bytes (Fail x) r e = some_is (Err (faults.Raised (raised x here))) r e
 rule_is f g each here bytes (Ask (Of n) k) r e = met_is (f n) (g n) (λ x. rule_answer f here bytes (k x)) (λ x. answer_of g here bytes (k x)) r (each n) (λ x. rule_is f g each here bytes (k x) r) e
 rule_is f g each here bytes (Ask (See s) k) r e = look_is here (look s bytes).seen (λ x. rule_answer f here bytes (k x)) (λ x. answer_of g here bytes (k x)) r (λ x. rule_is f g each here bytes (k x) r) e
 
@@ -131,10 +137,16 @@ opened_at d bytes (suc depth) opened n h = rw h refl
 module _ (d : Description) (bytes : List ℕ) where
   -- nodes answer so while these are open
   abbrev Answers : ℕ → List Node → Type 0
-  Answers k opened = AreDistinct (on (described d) bytes) opened → (n : Node) (r : Result Given Fault) → answer_at d bytes k opened n ≡ Some r → from_nothing d bytes opened n ≡ r
+  Answers k opened = AreDistinct (on (described d) bytes) opened → (n : Node) (r : Result Given NodeFault) → answer_at d bytes k opened n ≡ Some r
+      → from_nothing d bytes opened n ≡ r
 
-  turn : (k : ℕ) (opened : List Node) (n : Node) (r : Result Given Fault) → AreDistinct (on (described d) bytes) opened → Answers k (n ∷ opened) → (b : Bool) → is_open opened n ≡ b
-      → elim b as (λ _. Option (Result Given Fault)) [ true ↦ Some (circle n) | false ↦ rule_answer (answer_at d bytes k (n ∷ opened)) n.path bytes (rule_of d n) ] ≡ Some r → from_nothing d bytes opened n ≡ r
+  turn : (k : ℕ) (opened : List Node) (n : Node) (r : Result Given NodeFault) → AreDistinct (on (described d) bytes) opened → Answers k (n ∷ opened)
+      → (b : Bool) → is_open opened n ≡ b
+      → elim b as (λ _. Option (Result Given NodeFault)) [
+        | true ↦ Some (circle n)
+        | false ↦ rule_answer (answer_at d bytes k (n ∷ opened)) n.path bytes (rule_of d n)
+      ] ≡ Some r
+      → from_nothing d bytes opened n ≡ r
   unfolding from_nothing
   turn k opened n r distinct below true found e = opened_at d bytes node_bound opened n (sym (open_numbered opened n) ∙ found) ∙ some_is (circle n) r e
   turn k opened n r distinct below false found e =

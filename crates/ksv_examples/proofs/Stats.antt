@@ -7,7 +7,6 @@ use Rattle.ksv_commands.specs.Commands.{command_of}
 use Rattle.ksv_commands.specs.declared.command.Command.{Command}
 use Rattle.ksv_commands.specs.declared.command.Command.TheVariants as commands
 use Rattle.ksv_desc.specs.Description.{Description}
-use Rattle.ksv_expr_value.specs.declared.fault.Fault.{Fault}
 use Rattle.ksv_rule_meaning.specs.Completed.{completed, meets_circle}
 use Rattle.ksv_rule_meaning.specs.Kept.{calls, is_hit, is_touched, kept_after, kept_with, turns_of}
 use Rattle.ksv_memo_rules.specs.Evaluation.{is_among}
@@ -16,6 +15,7 @@ use Rattle.ksv_bytes.specs.Uses.{is_use_touched}
 use Rattle.ksv_nodes.specs.Numbers.{node_number}
 use Rattle.ksv_nodes.specs.declared.given.Given.{Given}
 use Rattle.ksv_nodes.specs.declared.node.Node.{Node}
+use Rattle.ksv_nodes.specs.declared.node_fault.NodeFault.{NodeFault}
 use Rattle.ksv_basics.specs.Plan as plan
 use Rattle.ksv_questions.specs.Answers.{asking, asks}
 use Rattle.ksv_questions.specs.Asking.{Asking, Failure}
@@ -43,10 +43,10 @@ new_is kept [] = refl
 new_is kept (m ∷ ms) = new_level kept m ms (new_is kept ms) (new_is (kept ++ m ∷ []) ms) (is_open kept m) refl
 
 module _ (d : Description) (depth : ℕ) (bytes : List ℕ) where
-  abbrev met : Node → Option (Walk Given Fault)
+  abbrev met : Node → Option (Walk Given NodeFault)
   met = walk_at d bytes depth []
 
-  alone_at : (n : Node) (x : Walk Given Fault) → met n ≡ Some x → Alone d bytes n x
+  alone_at : (n : Node) (x : Walk Given NodeFault) → met n ≡ Some x → Alone d bytes n x
   alone_at n x e = alone d bytes depth n x e
 
   -- ---- questions
@@ -55,14 +55,16 @@ module _ (d : Description) (depth : ℕ) (bytes : List ℕ) where
     circle : list_any (meets_circle d bytes []) (asks d bytes q) ≡ w.circle
     completed : flat_map (completed d bytes []) (asks d bytes q) ≡ w.completed
 
-  behind : {A : Type 0} (n : Node) (k : Result Given Fault → Asking A) (x : Walk Given Fault) (r : Walk A Failure) → Alone d bytes n x → Asked (k x.answer) r → Asked (plan.Ask n k) (behind_node n x r)
+  behind : {A : Type 0} (n : Node) (k : Result Given NodeFault → Asking A) (x : Walk Given NodeFault) (r : Walk A Failure) → Alone d bytes n x
+      → Asked (k x.answer) r → Asked (plan.Ask n k) (behind_node n x r)
   behind n k x r is rest = record {
     circle = rw (is.answer, is.circle) (ap (λ b. x.circle || b) rest.circle);
     completed = rw (is.answer, is.completed) (ap (λ ms. x.completed ++ ms) rest.completed);
   }
 
-  heard : {A : Type 0} (n : Node) (k : Result Given Fault → Asking A) → ((h : Result Given Fault) (r : Walk A Failure) → question_walk met (k h) ≡ Some r → Asked (k h) r)
-      → (o : Option (Walk Given Fault)) → met n ≡ o → (w : Walk A Failure) → with_heard n o (λ h. question_walk met (k h)) ≡ Some w → Asked (plan.Ask n k) w
+  heard : {A : Type 0} (n : Node) (k : Result Given NodeFault → Asking A)
+      → ((h : Result Given NodeFault) (r : Walk A Failure) → question_walk met (k h) ≡ Some r → Asked (k h) r)
+      → (o : Option (Walk Given NodeFault)) → met n ≡ o → (w : Walk A Failure) → with_heard n o (λ h. question_walk met (k h)) ≡ Some w → Asked (plan.Ask n k) w
   heard n k rest None is w e = absurd (cc)
   heard n k rest (Some x) is w e =
       let b = mapped (behind_node n x) (question_walk met (k x.answer)) w e in
@@ -94,7 +96,8 @@ module _ (d : Description) (depth : ℕ) (bytes : List ℕ) where
 
   -- ---- edits
 
-  touch_level : (change : Change) (n : Node) (ns : List Node) (x : Walk Given Fault) → Alone d bytes n x → ((t : Bool) → touches_to d depth bytes change ns ≡ Some t → list_any (is_hit d bytes change) ns ≡ t)
+  touch_level : (change : Change) (n : Node) (ns : List Node) (x : Walk Given NodeFault) → Alone d bytes n x
+      → ((t : Bool) → touches_to d depth bytes change ns ≡ Some t → list_any (is_hit d bytes change) ns ≡ t)
       → (b : Bool) → list_any (is_use_touched change) x.uses ≡ b → (t : Bool) → elim b as (λ _. Option Bool) [ true ↦ Some true | false ↦ touches_to d depth bytes change ns ] ≡ Some t → list_any (is_hit d bytes change) (n ∷ ns) ≡ t
   touch_level change n ns x is rest true hit t e = rw (is.uses, hit) (some_is true t e)
   touch_level change n ns x is rest false hit t e = rw (is.uses, hit) (rest t e)

@@ -6,7 +6,6 @@ use Rattle.std.specs.Prelude.{ℕ, ℤ, zero, suc, ◌==◌, ◌&&◌, ◌||◌,
 use Rattle.ksv_basics.specs.Plan.{Answer, Fail, Ask}
 use Rattle.ksv_desc.specs.Description.{Description}
 use Rattle.ksv_expr_value.specs.Trail.{Trail}
-use Rattle.ksv_expr_value.specs.declared.fault.Fault.{Fault}
 use Rattle.ksv_expr_value.specs.declared.fault.FaultKind.TheVariants as kinds
 use Rattle.ksv_expr_value.specs.declared.step.Step.{Step}
 use Rattle.ksv_expr_value.specs.declared.step.Step.TheVariants.{Index, Name}
@@ -15,6 +14,8 @@ use Rattle.ksv_nodes.specs.Rule.{Rule, Of, See}
 use Rattle.ksv_nodes.specs.Turning.{fault_at, raised}
 use Rattle.ksv_nodes.specs.declared.given.Given.{Given}
 use Rattle.ksv_nodes.specs.declared.node.Node.{Node}
+use Rattle.ksv_nodes.specs.declared.node_fault.NodeFault.{NodeFault}
+use Rattle.ksv_nodes.specs.declared.node_fault.NodeFault.TheVariants as faults
 use Rattle.ksv_nodes.specs.declared.node.NodeKind.{NodeKind}
 use Rattle.ksv_nodes.specs.declared.node.NodeKind.TheVariants.{Head, Value as ItsValue, End, Rest}
 use Rattle.ksv_rule_meaning.specs.FromNothing.{circle}
@@ -58,26 +59,26 @@ is_open (m ∷ ms) n = same_node n m || is_open ms n
 -- ---- what a node answers
 
 -- goes on with the answer of a node, if there is one
-abbrev pub with_met : {A : Type 0} → Option (Result Given Fault) → (Given → Option (Result A Fault)) → Option (Result A Fault)
+abbrev pub with_met : {A : Type 0} → Option (Result Given NodeFault) → (Given → Option (Result A NodeFault)) → Option (Result A NodeFault)
 with_met None f = None
 with_met (Some (Ok g)) f = f g
 with_met (Some (Err e)) f = Some (Err e)
 
 -- goes on with what was seen
-abbrev pub with_look : {A B : Type 0} → Trail → Option A → (A → Option (Result B Fault)) → Option (Result B Fault)
-with_look here None f = Some (Err (fault_at here kinds.EndOfBytes))
+abbrev pub with_look : {A B : Type 0} → Trail → Option A → (A → Option (Result B NodeFault)) → Option (Result B NodeFault)
+with_look here None f = Some (Err (faults.Raised (fault_at here kinds.EndOfBytes)))
 with_look here (Some a) f = f a
 
 -- what a rule answers at a path, on these bytes, where `met` answers its nodes as far as it goes
-module _ (met : Node → Option (Result Given Fault)) (here : Trail) (bytes : List ℕ) where
-  abbrev pub rule_answer : {A : Type 0} → Rule A → Option (Result A Fault)
+module _ (met : Node → Option (Result Given NodeFault)) (here : Trail) (bytes : List ℕ) where
+  abbrev pub rule_answer : {A : Type 0} → Rule A → Option (Result A NodeFault)
   rule_answer (Answer a) = Some (Ok a)
-  rule_answer (Fail e) = Some (Err (raised e here))
+  rule_answer (Fail e) = Some (Err (faults.Raised (raised e here)))
   rule_answer (Ask (Of n) k) = with_met (met n) (λ g. rule_answer (k g))
   rule_answer (Ask (See r) k) = with_look here (look r bytes).seen (λ x. rule_answer (k x))
 
 -- what a node answers while these are open, where no more nodes than this wait for one another
-unfoldable pub answer_at : Description → List ℕ → ℕ → List Node → Node → Option (Result Given Fault)
+unfoldable pub answer_at : Description → List ℕ → ℕ → List Node → Node → Option (Result Given NodeFault)
 answer_at d bytes zero opened n = None
 answer_at d bytes (suc k) opened n = elim (is_open opened n) [ true ↦ Some (circle n) | false ↦ rule_answer (answer_at d bytes k (n ∷ opened)) n.path bytes (rule_of d n) ]
 

@@ -14,7 +14,6 @@ use Rattle.ksv_commands.specs.declared.command.Command.{Command}
 use Rattle.ksv_commands.specs.declared.command.Command.TheVariants as commands
 use Rattle.ksv_desc.specs.Description.{Description}
 use Rattle.ksv_expr_value.specs.Trail.{Trail}
-use Rattle.ksv_expr_value.specs.declared.fault.Fault.{Fault}
 use Rattle.ksv_expr_value.specs.declared.fault.FaultKind.TheVariants as kinds
 use Rattle.ksv_bytes.specs.Uses.{is_use_touched}
 use Rattle.ksv_nodes.specs.Reading.{look}
@@ -22,8 +21,11 @@ use Rattle.ksv_nodes.specs.Rule.{Rule, Of, See}
 use Rattle.ksv_nodes.specs.Turning.{fault_at, raised}
 use Rattle.ksv_nodes.specs.declared.given.Given.{Given}
 use Rattle.ksv_nodes.specs.declared.node.Node.{Node}
+use Rattle.ksv_nodes.specs.declared.node_fault.NodeFault.{NodeFault}
+use Rattle.ksv_nodes.specs.declared.node_fault.NodeFault.TheVariants as faults
 use Rattle.ksv_questions.specs.Answers.{asking}
 use Rattle.ksv_questions.specs.Asking.{Asking, Failure}
+use Rattle.ksv_rule_meaning.specs.Completed.{is_circle}
 use Rattle.ksv_rule_meaning.specs.FromNothing.{circle}
 use Rattle.ksv_rule_meaning.specs.Meaning.{rule_of}
 use Rattle.ksv_session.specs.Kept.{Memory}
@@ -51,47 +53,53 @@ behind_look us rest = record { answer = rest.answer; asks = rest.asks; uses = us
 -- ---- a node
 
 -- goes on with the answer of a node; its fault is the rule's
-abbrev pub with_answer : {A : Type 0} → Node → Walk Given Fault → Result Given Fault → (Given → Option (Walk A Fault)) → Option (Walk A Fault)
+abbrev pub with_answer : {A : Type 0} → Node → Walk Given NodeFault → Result Given NodeFault → (Given → Option (Walk A NodeFault)) → Option (Walk A NodeFault)
 with_answer n w (Ok g) f = option_map (behind_node n w) (f g)
 with_answer n w (Err e) f = Some (behind_node n w (ended (Err e)))
 
-abbrev pub with_walk : {A : Type 0} → Node → Option (Walk Given Fault) → (Given → Option (Walk A Fault)) → Option (Walk A Fault)
+abbrev pub with_walk : {A : Type 0} → Node → Option (Walk Given NodeFault) → (Given → Option (Walk A NodeFault)) → Option (Walk A NodeFault)
 with_walk n None f = None
 with_walk n (Some w) f = with_answer n w w.answer f
 
 -- goes on with what was seen
-abbrev pub with_sight : {A B : Type 0} → Trail → List Use → Option A → (A → Option (Walk B Fault)) → Option (Walk B Fault)
-with_sight here us None f = Some (behind_look us (ended (Err (fault_at here kinds.EndOfBytes))))
+abbrev pub with_sight : {A B : Type 0} → Trail → List Use → Option A → (A → Option (Walk B NodeFault)) → Option (Walk B NodeFault)
+with_sight here us None f = Some (behind_look us (ended (Err (faults.Raised (fault_at here kinds.EndOfBytes)))))
 with_sight here us (Some a) f = option_map (behind_look us) (f a)
 
 -- what running a rule comes to at a path, on these bytes, where `met` has what its nodes come to
-module _ (met : Node → Option (Walk Given Fault)) (here : Trail) (bytes : List ℕ) where
-  abbrev pub rule_walk : {A : Type 0} → Rule A → Option (Walk A Fault)
+module _ (met : Node → Option (Walk Given NodeFault)) (here : Trail) (bytes : List ℕ) where
+  abbrev pub rule_walk : {A : Type 0} → Rule A → Option (Walk A NodeFault)
   rule_walk (Answer a) = Some (ended (Ok a))
-  rule_walk (Fail e) = Some (ended (Err (raised e here)))
+  rule_walk (Fail e) = Some (ended (Err (faults.Raised (raised e here))))
   rule_walk (Ask (Of n) k) = with_walk n (met n) (λ g. rule_walk (k g))
   rule_walk (Ask (See r) k) = with_sight here (look r bytes).uses (look r bytes).seen (λ x. rule_walk (k x))
 
 -- an open node is a circle, and completes nothing
-abbrev pub open_walk : Node → Walk Given Fault
+abbrev pub open_walk : Node → Walk Given NodeFault
 open_walk n = record { answer = circle n; asks = []; uses = []; circle = true; completed = [] }
 
--- a node is completed behind all that it asks, unless a circle was met
-abbrev pub closed : Node → Walk Given Fault → Walk Given Fault
-closed n w = record { answer = w.answer; asks = w.asks; uses = w.uses; circle = w.circle; completed = w.completed ++ (if w.circle then [] else n ∷ []) }
+-- a node is completed behind all that it asks, unless its answer is a circle
+abbrev pub closed : Node → Walk Given NodeFault → Walk Given NodeFault
+closed n w = record {
+  answer = w.answer;
+  asks = w.asks;
+  uses = w.uses;
+  circle = is_circle w.answer;
+  completed = w.completed ++ (if is_circle w.answer then [] else n ∷ []);
+}
 
 -- a node while these are open, where no more nodes than this wait for one another
-unfoldable pub walk_at : Description → List ℕ → ℕ → List Node → Node → Option (Walk Given Fault)
+unfoldable pub walk_at : Description → List ℕ → ℕ → List Node → Node → Option (Walk Given NodeFault)
 walk_at d bytes zero opened n = None
 walk_at d bytes (suc k) opened n = elim (is_open opened n) [ true ↦ Some (open_walk n) | false ↦ option_map (closed n) (rule_walk (walk_at d bytes k (n ∷ opened)) n.path bytes (rule_of d n)) ]
 
 -- ---- a question
 
-abbrev pub with_heard : {A : Type 0} → Node → Option (Walk Given Fault) → (Result Given Fault → Option (Walk A Failure)) → Option (Walk A Failure)
+abbrev pub with_heard : {A : Type 0} → Node → Option (Walk Given NodeFault) → (Result Given NodeFault → Option (Walk A Failure)) → Option (Walk A Failure)
 with_heard n None f = None
 with_heard n (Some w) f = option_map (behind_node n w) (f w.answer)
 
-module _ (met : Node → Option (Walk Given Fault)) where
+module _ (met : Node → Option (Walk Given NodeFault)) where
   abbrev pub question_walk : {A : Type 0} → Asking A → Option (Walk A Failure)
   question_walk (Answer a) = Some (ended (Ok a))
   question_walk (Fail e) = Some (ended (Err e))

@@ -9,7 +9,7 @@ use std::alloc::{AllocError, Global};
 use std::collections::HashMap;
 use std::test::Fail;
 
-static KINDS: [FaultKind; 18] = [
+static KINDS: [FaultKind; 17] = [
     FaultKind::NoSuch,
     FaultKind::Absent,
     FaultKind::EndOfBytes,
@@ -24,14 +24,13 @@ static KINDS: [FaultKind; 18] = [
     FaultKind::NoBytes,
     FaultKind::TooMany,
     FaultKind::PathTooLong,
-    FaultKind::Circle,
     FaultKind::BadNumber,
     FaultKind::NoParent,
     FaultKind::Invalid,
 ];
 
 const NAMES: &str =
-    "no-such absent end-of-bytes bad-type overflow zero-divisor bad-index bad-text contents bad-size no-terminator no-bytes too-many path-too-long circle bad-number no-parent invalid ";
+    "no-such absent end-of-bytes bad-type overflow zero-divisor bad-index bad-text contents bad-size no-terminator no-bytes too-many path-too-long bad-number no-parent invalid ";
 
 #[test]
 fn faults_have_names(rt: HostRuntime) -> Result<(), Fail> {

@@ -6,7 +6,7 @@ use crate::path::Path;
 use std::alloc::{AllocError, Global};
 use std::fmt;
 
-/// What kind of fault it is.
+/// What kind of fault a rule or an expression raises. F15, a circle, is raised by none: `NodeFault` of ksv_nodes has it.
 #[derive(Clone, Copy, PartialEq, Eq, Hash, Debug)]
 pub enum FaultKind {
     /// F1: nothing has this path.
@@ -37,8 +37,6 @@ pub enum FaultKind {
     TooMany,
     /// F14: a path of more than 64 steps.
     PathTooLong,
-    /// F15: a value that needs itself.
-    Circle,
     /// F16: a text that is no number.
     BadNumber,
     /// F17: the root has no parent.
@@ -67,7 +65,6 @@ impl FaultKind {
             FaultKind::NoBytes => "no-bytes",
             FaultKind::TooMany => "too-many",
             FaultKind::PathTooLong => "path-too-long",
-            FaultKind::Circle => "circle",
             FaultKind::BadNumber => "bad-number",
             FaultKind::NoParent => "no-parent",
             FaultKind::Invalid => "invalid",

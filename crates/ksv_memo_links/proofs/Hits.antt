@@ -75,7 +75,7 @@ peek-uses q uses rows lists most least = record {
   least = λ from h. h;
 }
 
-row-none : (p : Parts) (change : Change) (items : List Item) → HitsRow p p change items 0 0
+pub row-none : (p : Parts) (change : Change) (items : List Item) → HitsRow p p change items 0 0
 row-none p change items = record {
   more = no-mark p p (IsEdit change) (record { asks = refl; ask_lists = refl; uses = refl; use_lists = refl }) refl refl (λ from c. c) (omega arith);
   out = λ s lt. absurd (omega arith);
@@ -97,7 +97,7 @@ row-first p p1 change items k =
       looks = let len = ap (λ (ws : List ℕ). length ws) k.work in let b = k.looks in omega arith;
     }
 
-pub row-more : (p q q1 r : Parts) (change : Change) (items : List Item) (i slot : ℕ) → HitsRow p q change items i 1 → Peeks q q1 → i < length items → slot ≡ (get_or items i (at 0 0)).owner → HitsSlot q1 r change slot → HitsRow p r change items (i + 1) 1
+pub row-more : (p q q1 r : Parts) (change : Change) (items : List Item) (i slot : ℕ) → HitsRow p q change items i 0 → Peeks q q1 → i < length items → slot ≡ (get_or items i (at 0 0)).owner → HitsSlot q1 r change slot → HitsRow p r change items (i + 1) 0
 row-more p q q1 r change items i slot h k lt e u = record {
   more = more-trans p q1 r (IsEdit change) (IsEdit change) to_q1 u.more (λ first x w m. w);
   out = below-more (λ j. is_hit change p.uses.rows (get_or items j (at 0 0)).owner ≡ true → is_kept r.marks.kept (get_or items j (at 0 0)).owner ≡ false) i (λ j lj t. stays-out q.marks.kept r.marks.kept (get_or items j (at 0 0)).owner fewer (h.out j lj t)) last;
@@ -115,16 +115,28 @@ row-more p q q1 r change items i slot h k lt e u = record {
     last t = ap (λ s. is_kept r.marks.kept s) (sym e) ∙ u.out (ap (λ rows. is_hit change rows slot) to_q1.same.uses ∙ ap (λ s. is_hit change p.uses.rows s) e ∙ t)
 
 -- there is no item more, which took no look
-pub row-end : (p q q1 : Parts) (change : Change) (items : List Item) (i : ℕ) → HitsRow p q change items i 1 → Peeks q q1 → looks q1 ≡ looks q → length items ≤ i → HitsRow p q1 change items (length items) 1
+pub row-end : (p q q1 : Parts) (change : Change) (items : List Item) (i : ℕ) → HitsRow p q change items i 0 → Peeks q q1 → looks q1 ≡ looks q → length items ≤ i → HitsRow p q1 change items (length items) 0
 row-end p q q1 change items i h k idle le =
     let w = h.within in
     let same : i ≡ length items = omega arith in
-    subst (λ m. HitsRow p q1 change items m 1) same (record {
+    subst (λ m. HitsRow p q1 change items m 0) same (record {
       more = peek-more p q q1 (IsEdit change) h.more k;
       out = λ j lj t. ap (λ (ks : List Bool). is_kept ks (get_or items j (at 0 0)).owner) k.kept ∙ h.out j lj t;
       within = w;
       looks = let len = ap (λ (ws : List ℕ). length ws) k.work in let a = h.looks in omega arith;
     })
+
+-- the first item was looked for before the others
+pub row-from : (p p1 r : Parts) (change : Change) (items : List Item) (n : ℕ) → Peeks p p1 → HitsRow p1 r change items n 0 → HitsRow p r change items n 1
+row-from p p1 r change items n k h = record {
+  more = more-trans p p1 r (IsEdit change) (IsEdit change) to_p1 h.more (λ first x e m. e);
+  out = λ i lt t. h.out i lt (ap (λ rows. is_hit change rows (get_or items i (at 0 0)).owner) k.same.uses ∙ t);
+  within = h.within;
+  looks = let len = ap (λ (ws : List ℕ). length ws) k.work in let a = h.looks in let b = k.looks in omega arith;
+}
+  where
+    to_p1 : MarksMore p p1 (IsEdit change)
+    to_p1 = peek-more p p p1 (IsEdit change) (row-none p change items).more k
 
 -- the same items, found otherwise
 pub row-as : (p q : Parts) (change : Change) (xs ys : List Item) → xs ≡ ys → HitsRow p q change xs (length xs) 1 → HitsRow p q change ys (length ys) 1

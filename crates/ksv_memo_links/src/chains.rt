@@ -72,6 +72,7 @@ impl Chains {
     pub(crate) fn first_item(&mut self, list: u32) -> u32
         requires { list < length self.old.lists }
         ensures result { result ≡ (item_at self.old.lists list 0).at }
+        ensures none { result ≡ 0 → length (row self.old.lists list) ≤ 0 }
         ensures named { self.new.named ≡ self.old.named }
         ensures lists { self.new.lists ≡ self.old.lists }
         ensures looks { self.new.looks ≡ ticked self.old.looks }

@@ -3,6 +3,7 @@ ghost use Rattle.std.specs.Prelude.{◌≡◌, ℕ, ◌+◌, ◌-◌, ◌^◌, �
 ghost use Rattle.std.specs.List.{All};
 ghost use Rattle.std.specs.Option.{option_to_list};
 ghost use Rattle.ksv_memo_links.specs.Shelved.{row};
+ghost use Rattle.ksv_memo_links.specs.Linked.{item_at};
 ghost use Rattle.ksv_memo_links.specs.Placed.{end_lists, page_lists};
 ghost use Rattle.ksv_memo_links.specs.Marking.{is_kept};
 ghost use Rattle.ksv_memo_links.specs.Links.{IsMove, first_page, end_page, Forgets, Keeps, IsUnchanged, Grows, Takes, IsDone};
@@ -85,17 +86,42 @@ impl Parts {
         }
     }
 
+    /// Marks the slots of a list that a change touches, of which the first entry has this place.
+    #[inline(never)]
+    fn hit_items(&mut self, list: u32, first: u32, change: Change)
+        requires shaped { IsShaped self.old }
+        requires begins { first ≡ (item_at self.old.uses.lists list 0).at }
+        ensures { HitsRow self.old self.new change (row self.old.uses.lists list) (length (row self.old.uses.lists list)) 0 }
+    {
+        self.uses.linked();
+        let mut at = first;
+        while let Some(item) = self.uses.item(at) {
+            self.hit(item.owner, change);
+            at = item.at;
+        }
+    }
+
     /// Marks the slots of a list that a change touches.
+    #[inline(always)]
     fn hit_list(&mut self, list: u32, change: Change)
         requires shaped { IsShaped self.old }
         requires list_in { list < length self.old.uses.lists }
         ensures { HitsRow self.old self.new change (row self.old.uses.lists list) (length (row self.old.uses.lists list)) 1 }
     {
-        self.uses.linked();
-        let mut at = self.uses.first_item(list);
-        while let Some(item) = self.uses.item(at) {
-            self.hit(item.owner, change);
-            at = item.at;
+        let first = self.uses.first_item(list);
+        self.hit_items(list, first, change);
+    }
+
+    /// Marks the slots of a list that a change touches, where most lists are empty: then nothing is called.
+    #[inline(always)]
+    fn hit_few(&mut self, list: u32, change: Change)
+        requires shaped { IsShaped self.old }
+        requires list_in { list < length self.old.uses.lists }
+        ensures { HitsRow self.old self.new change (row self.old.uses.lists list) (length (row self.old.uses.lists list)) 1 }
+    {
+        let first = self.uses.first_item(list);
+        if first > 0 {
+            self.hit_items(list, first, change);
         }
     }
 
@@ -121,6 +147,17 @@ impl Parts {
         }
     }
 
+    /// Marks the slots that a change touches and that use the size: those of the first list of ends, if there is one.
+    #[inline(always)]
+    fn hit_size(&mut self, change: Change)
+        requires shaped { IsShaped self.old }
+        ensures { HitsRows self.old self.new change (end_lists self.old.uses.lists) 0 (min 1 (length (end_lists self.old.uses.lists))) }
+    {
+        if self.uses.ends() > 0 {
+            self.hit_few(end_list(0), change);
+        }
+    }
+
     /// Marks the slots that an overwrite touches, by the pages that it meets.
     fn hit_met(&mut self, change: Change, at: usize, n: usize)
         requires shaped { IsShaped self.old }
@@ -139,7 +176,7 @@ impl Parts {
     {
         self.uses.linked();
         let first = at / PAGE as usize;
-        self.hit_ends(change, 0, 1);
+        self.hit_size(change);
         self.hit_ends(change, first + 1, pages.saturating_add(1));
         self.hit_pages(change, first, pages);
     }
@@ -191,7 +228,7 @@ impl Parts {
             Change::Overwrite { at, n } => self.hit_met(change, at, n),
             Change::Insert { at, .. } => self.hit_behind(change, at, pages),
             Change::Delete { at, .. } => self.hit_behind(change, at, pages),
-            Change::Append => self.hit_ends(change, 0, 1),
+            Change::Append => self.hit_size(change),
         }
     }
 

@@ -7,7 +7,5 @@ pub mod Ranges
 pub mod Local
 pub mod Bounds
 pub mod Resuming
-pub mod Left
-pub mod Direct
 pub mod Replied
 pub mod Parts

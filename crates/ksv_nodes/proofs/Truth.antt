@@ -12,7 +12,7 @@ use Rattle.ksv_nodes.specs.declared.node.Node.{Node}
 use Rattle.ksv_nodes.specs.Reading.{Reading, Seen, look}
 use Rattle.ksv_nodes.specs.Rule.{Rule, Of, See}
 use Rattle.ksv_nodes.specs.Turning.{State, fault_at, raised, replied, seen_in, turns}
-use Rattle.ksv_nodes.specs.Truth.{answer_of, asks_of, uses_of, with_given, with_seen, behind_given, behind_seen}
+use Rattle.ksv_nodes.specs.Truth.{plain_answer, asks_of, uses_of, with_given, plain_seen, behind_given, behind_seen}
 
 -- at a path, on these bytes, where each asked node has the answer that `met` gives
 module _ (met : Node → Result Given Fault) (here : Trail) (bytes : List ℕ) where
@@ -22,21 +22,23 @@ module _ (met : Node → Result Given Fault) (here : Trail) (bytes : List ℕ) w
 
   -- With all the replies it ends with the answer, and has used just its uses. The replies behind them are left.
   abbrev pub Ends : {A : Type 0} → Rule A → Type 0
-  Ends p = (more : List (Result Given Fault)) (us : List Use) → run turns p (at (map met (asks_of met here bytes p) ++ more) us) ≡ ended (answer_of met here bytes p) (at more (us ++ uses_of met here bytes p))
+  Ends p = (more : List (Result Given Fault)) (us : List Use)
+      → run turns p (at (map met (asks_of met here bytes p) ++ more) us) ≡ ended (plain_answer met here bytes p) (at more (us ++ uses_of met here bytes p))
 
   ended_same : {A : Type 0} (a : Result A Fault) (more : List (Result Given Fault)) (us : List Use) → ended {N = Node} a (at more us) ≡ ended a (at more (us ++ []))
   ended_same a more us = ap (λ vs. ended {N = Node} a (at more vs)) (sym (append-nil us))
 
   given_ends : {A : Type 0} (n : Node) (k : Given → Rule A) → ((g : Given) → Ends (k g)) → (more : List (Result Given Fault)) (us : List Use) (x : Result Given Fault)
       → next (replied n (x ∷ (map met (behind_given x (λ g. asks_of met here bytes (k g))) ++ more)) (at (x ∷ (map met (behind_given x (λ g. asks_of met here bytes (k g))) ++ more)) us)) (λ g s. run turns (k g) s)
-      ≡ ended (with_given x (λ g. answer_of met here bytes (k g))) (at more (us ++ behind_given x (λ g. uses_of met here bytes (k g))))
+      ≡ ended (with_given x (λ g. plain_answer met here bytes (k g))) (at more (us ++ behind_given x (λ g. uses_of met here bytes (k g))))
   given_ends n k rest more us (Ok g) = rest g more us
   given_ends n k rest more us (Err f) = ended_same (Err f) more us
 
   seen_ends : {A X : Type 0} (k : X → Rule A) → ((x : X) → Ends (k x)) → (more : List (Result Given Fault)) (us vs : List Use) (o : Option X)
       → next (seen_in o (at (map met (behind_seen o (λ x. asks_of met here bytes (k x))) ++ more) (us ++ vs))) (λ x s. run turns (k x) s)
-      ≡ ended (with_seen here o (λ x. answer_of met here bytes (k x))) (at more (us ++ (vs ++ behind_seen o (λ x. uses_of met here bytes (k x)))))
-  seen_ends k rest more us vs (Some x) = rest x more (us ++ vs) ∙ ap (λ ws. ended {N = Node} (answer_of met here bytes (k x)) (at more ws)) (append_assoc us vs (uses_of met here bytes (k x)))
+      ≡ ended (plain_seen here o (λ x. plain_answer met here bytes (k x))) (at more (us ++ (vs ++ behind_seen o (λ x. uses_of met here bytes (k x)))))
+  seen_ends k rest more us vs (Some x) = rest x more (us ++ vs)
+      ∙ ap (λ ws. ended {N = Node} (plain_answer met here bytes (k x)) (at more ws)) (append_assoc us vs (uses_of met here bytes (k x)))
   seen_ends {A = A} k rest more us vs None = ap (λ ws. ended {N = Node} {A = A} (Err (fault_at here kinds.EndOfBytes)) (at more (us ++ ws))) (sym (append-nil vs))
 
   pub ends : {A : Type 0} (p : Rule A) → Ends p

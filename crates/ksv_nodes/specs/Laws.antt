@@ -13,7 +13,7 @@ use Rattle.ksv_nodes.specs.declared.node.Node.{Node}
 use Rattle.ksv_nodes.specs.Reading.{Reading, look}
 use Rattle.ksv_nodes.specs.Rule.{Rule}
 use Rattle.ksv_nodes.specs.Turning.{State, fresh, turns}
-use Rattle.ksv_nodes.specs.Truth.{answer_of, asks_of, uses_of}
+use Rattle.ksv_nodes.specs.Truth.{plain_answer, asks_of, uses_of}
 use Rattle.ksv_nodes.specs.Bounds.{NodesAtMost}
 
 -- a state, and the result of a run, with other bytes
@@ -67,7 +67,7 @@ module _ (met : Node → Result Given Fault) (here : Trail) (bytes : List ℕ) (
   -- With the replies to all nodes that it asks it ends with its answer, and its uses are exactly the rule's.
   -- Further replies change nothing.
   pub record MeetsTruth : Type 0 where
-    pub ends : (more : List (Result Given Fault)) → resumed rule here bytes (map met asked ++ more) ≡ ended (answer_of met here bytes rule) (left more (uses_of met here bytes rule))
+    pub ends : (more : List (Result Given Fault)) → resumed rule here bytes (map met asked ++ more) ≡ ended (plain_answer met here bytes rule) (left more (uses_of met here bytes rule))
     pub goes_on : (i : ℕ) → i < length asked → NeedsNext i
 
 abbrev pub TurnsMeetTruth : Type 0

@@ -2,6 +2,7 @@
 pub mod Reading
 pub mod Rule
 pub mod Turning
+pub mod NodeFaults
 pub mod Truth
 pub mod Bounds
 pub mod Numbers

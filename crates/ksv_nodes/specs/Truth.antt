@@ -8,22 +8,24 @@ use Rattle.ksv_expr_value.specs.declared.fault.Fault.{Fault}
 use Rattle.ksv_expr_value.specs.declared.fault.FaultKind.TheVariants as kinds
 use Rattle.ksv_nodes.specs.declared.node.Node.{Node}
 use Rattle.ksv_nodes.specs.declared.given.Given.{Given}
+use Rattle.ksv_nodes.specs.declared.node_fault.NodeFault.{NodeFault}
+use Rattle.ksv_nodes.specs.declared.node_fault.NodeFault.TheVariants as faults
 use Rattle.ksv_nodes.specs.Reading.{look}
 use Rattle.ksv_nodes.specs.Rule.{Rule, Of, See}
 use Rattle.ksv_nodes.specs.Turning.{fault_at, raised}
 
 -- goes on with an answer; a fault of an asked node is the rule's
-abbrev pub with_given : {A : Type 0} → Result Given Fault → (Given → Result A Fault) → Result A Fault
+abbrev pub with_given : {E A : Type 0} → Result Given E → (Given → Result A E) → Result A E
 with_given (Ok g) f = f g
 with_given (Err e) f = Err e
 
--- goes on with what was seen
-abbrev pub with_seen : {A B : Type 0} → Trail → Option A → (A → Result B Fault) → Result B Fault
-with_seen here (Some a) f = f a
-with_seen here None f = Err (fault_at here kinds.EndOfBytes)
+-- goes on with what was seen, where a fault of a rule's own is told as `own` says
+abbrev pub seen_by : {E A B : Type 0} → (Fault → E) → Trail → Option A → (A → Result B E) → Result B E
+seen_by own here (Some a) f = f a
+seen_by own here None f = Err (own (fault_at here kinds.EndOfBytes))
 
 -- the list after an answer, and after what was seen; after a fault there is nothing
-abbrev pub behind_given : {X : Type 0} → Result Given Fault → (Given → List X) → List X
+abbrev pub behind_given : {E X : Type 0} → Result Given E → (Given → List X) → List X
 behind_given (Ok g) f = f g
 behind_given (Err e) f = []
 
@@ -32,13 +34,13 @@ behind_seen (Some a) f = f a
 behind_seen None f = []
 
 -- at a path, on these bytes, where each asked node has the answer that `met` gives
-module _ (met : Node → Result Given Fault) (here : Trail) (bytes : List ℕ) where
-  -- what a rule answers
-  abbrev pub answer_of : {A : Type 0} → Rule A → Result A Fault
-  answer_of (Answer a) = Ok a
-  answer_of (Fail e) = Err (raised e here)
-  answer_of (Ask (Of n) k) = with_given (met n) (λ g. answer_of (k g))
-  answer_of (Ask (See r) k) = with_seen here (look r bytes).seen (λ x. answer_of (k x))
+module _ {E : Type 0} (met : Node → Result Given E) (here : Trail) (bytes : List ℕ) where
+  -- what a rule answers, where a fault of its own is told as `own` says
+  abbrev pub answer_by : {A : Type 0} → (Fault → E) → Rule A → Result A E
+  answer_by own (Answer a) = Ok a
+  answer_by own (Fail e) = Err (own (raised e here))
+  answer_by own (Ask (Of n) k) = with_given (met n) (λ g. answer_by own (k g))
+  answer_by own (Ask (See r) k) = seen_by own here (look r bytes).seen (λ x. answer_by own (k x))
 
   -- the nodes that it asks, in order
   abbrev pub asks_of : {A : Type 0} → Rule A → List Node
@@ -53,3 +55,19 @@ module _ (met : Node → Result Given Fault) (here : Trail) (bytes : List ℕ) w
   uses_of (Fail e) = []
   uses_of (Ask (Of n) k) = behind_given (met n) (λ g. uses_of (k g))
   uses_of (Ask (See r) k) = (look r bytes).uses ++ behind_seen (look r bytes).seen (λ x. uses_of (k x))
+
+-- the same where answers have faults of nodes: a rule's own is one that it raised, and that of a node that it asks may be a circle
+abbrev pub with_seen : {A B : Type 0} → Trail → Option A → (A → Result B NodeFault) → Result B NodeFault
+with_seen here o f = seen_by faults.Raised here o f
+
+module _ (met : Node → Result Given NodeFault) (here : Trail) (bytes : List ℕ) where
+  abbrev pub answer_of : {A : Type 0} → Rule A → Result A NodeFault
+  answer_of p = answer_by met here bytes faults.Raised p
+
+-- and where they are replies, which are no circles
+abbrev pub plain_seen : {A B : Type 0} → Trail → Option A → (A → Result B Fault) → Result B Fault
+plain_seen here o f = seen_by (λ e. e) here o f
+
+module _ (met : Node → Result Given Fault) (here : Trail) (bytes : List ℕ) where
+  abbrev pub plain_answer : {A : Type 0} → Rule A → Result A Fault
+  plain_answer p = answer_by met here bytes (λ e. e) p

@@ -19,6 +19,7 @@
 //! - `given`: the answers of nodes: head, value, end, rest
 //! - `laws`: the laws of readings, turns and nodes
 //! - `node`: nodes: a kind of question and a path
+//! - `node_fault`: why a node has no answer: a fault of a rule, or a circle
 //! - `object_origin`: how an object is read, in the room of an origin
 //! - `search`: where a byte is first in bytes that are lent
 //! - `turn`: `Turn`: a rule while it runs
@@ -30,6 +31,7 @@
 //! - `Bounds`: how many nodes a rule asks
 //! - `Exact`: a lemma that a reader may skip: nodes that `==` finds equal are the same
 //! - `Laws`: the laws of every rule: true replies, locality, uses within the bytes, an end
+//! - `NodeFaults`: the names and paths of the faults of nodes
 //! - `Numbers`: each node has a number of its own, with lemmas that a reader may skip
 //! - `Origins`: optional origins in the room of one, with a lemma that a reader may skip
 //! - `Reading`: the five readings, and what each depends on
@@ -40,9 +42,7 @@
 //! Lemmas (`proofs/`):
 //!
 //! - `Bounds`: a run with as many replies as its bound has no open question
-//! - `Direct`: what one rule after another answers, asks and uses
 //! - `First`: the first byte of a value in two slices
-//! - `Left`: what is left of a rule after some replies
 //! - `Local`: a run is the same on bytes that agree on its uses
 //! - `Looks`: readings on bytes that agree on their uses
 //! - `Parts`: the path one step further
@@ -58,6 +58,7 @@ mod element_count;
 mod given;
 mod laws;
 mod node;
+mod node_fault;
 mod object_origin;
 mod search;
 mod turn;
@@ -72,6 +73,7 @@ pub use laws::{
     turns_are_local, turns_fit, turns_meet_truth,
 };
 pub use node::{Node, NodeKind};
+pub use node_fault::NodeFault;
 pub use object_origin::ObjectOrigin;
 pub use search::first_in_parts;
 pub use turn::readings::Found;

@@ -22,12 +22,12 @@ use Rattle.ksv_questions.specs.Answers.{answered}
 use Rattle.ksv_basics.specs.Plan.{bind}
 use Rattle.ksv_questions.specs.Asking.{Asking, Heard, ask, hear, passed}
 use Rattle.ksv_questions.specs.Code.{Hears, IsHeard, Runs, Settles, SettlesHeard, plain_answer}
-use Rattle.ksv_questions.specs.Engines.{HasAsked, is_circle, meets_circle, turns_with, world}
+use Rattle.ksv_questions.specs.Engines.{HasAsked, Ruled, is_circle, meets_circle, turns_with, world}
 use Rattle.ksv_questions.specs.declared.asking.Untold.{Untold}
 use Rattle.ksv_questions.specs.declared.asking.Untold.TheVariants as untolds
 use Rattle.ksv_questions.proofs.Steps.{runs_ended, runs_failed}
 
-plain : (outcome : Outcome Node Heard) → plain_answer (answer_of outcome) ≡ flattened outcome
+plain : (outcome : Outcome Node Ruled) → plain_answer (answer_of outcome) ≡ flattened outcome
 plain (Answered (Ok given)) = refl
 plain (Answered (Err f)) = refl
 plain (Circle n) = refl
@@ -36,7 +36,8 @@ pub asked_is : (d : Description) (bytes : List ℕ) (n : Node) (answer : Answer 
     → plain_answer answer ≡ answered d bytes n
 asked_is d bytes n answer is = ap plain_answer is ∙ plain (tells (on (described d) bytes) [] n).outcome ∙ answers_are_direct d bytes [] n
 
-counted_by : (E : Type 0) (o : Outcome Node Heard) (calls : ℕ) (turns : Option ℕ) → turns_after {E = E} calls turns (Ok (answer_of o)) ≡ (if is_circle o || false then None else counted calls turns)
+counted_by : (E : Type 0) (o : Outcome Node Ruled) (calls : ℕ) (turns : Option ℕ)
+    → turns_after {E = E} calls turns (Ok (answer_of o)) ≡ (if is_circle o || false then None else counted calls turns)
 counted_by E (Answered (Ok given)) calls turns = refl
 counted_by E (Answered (Err f)) calls turns = refl
 counted_by E (Circle n) calls turns = refl
@@ -46,7 +47,7 @@ module _ (d : Description) (b : List ℕ) (n : Node) where
   all_done : done (world d b) [] n ++ [] ≡ done (world d b) [] n
   all_done = ++-nil (done (world d b) [] n)
 
-  pub heard_one : (E : Type 0) (old new : Memo Node Heard) (answer : Answer Node Given Fault) → answer ≡ answer_of (tells (on (described d) b) [] n).outcome
+  pub heard_one : (E : Type 0) (old new : Memo Node Ruled) (answer : Answer Node Given Fault) → answer ≡ answer_of (tells (on (described d) b) [] n).outcome
       → IsRight (world d b) new.kept
       → AreExactly (world d b) (nodes_of new.kept) (nodes_of old.kept ++ done (world d b) [] n)
       → new.turns ≡ turns_after {E = E} (costs (world d b) (fresh node_number (nodes_of old.kept) (done (world d b) [] n))) old.turns (Ok answer)
@@ -63,14 +64,16 @@ module _ (d : Description) (b : List ℕ) (n : Node) where
 
 module _ (d : Description) (b : List ℕ) where
   -- what was returned for an engine's answer
-  pub hears : (n : Node) (old new : Memo Node Heard) (h : Heard) (r : Result Given Untold) → h ≡ answered d b n → IsHeard h r → HasAsked (world d b) (n ∷ []) old new → Hears d b n old new r
+  pub hears : (n : Node) (old new : Memo Node Ruled) (h : Heard) (r : Result Given Untold) → h ≡ answered d b n → IsHeard h r
+      → HasAsked (world d b) (n ∷ []) old new → Hears d b n old new r
   hears n old new h (Ok g) same is asked = (sym same ∙ is, asked)
   hears n old new h (Err (untolds.Fault f)) same is asked = (sym same ∙ is, asked)
   hears n old new h (Err (untolds.Refused r)) same is asked = absurd is
   hears n old new h (Err untolds.NoMemory) same is asked = absurd is
 
   -- a node was heard, and what comes after asks nothing
-  pub heard_settled : {X A : Type 0} (n : Node) (q : Heard → Asking A) (view : X → A) (old new : Memo Node Heard) (a : Result Given Untold) (r : Result X Untold)
+  pub heard_settled : {X A : Type 0} (n : Node) (q : Heard → Asking A) (view : X → A) (old new : Memo Node Ruled)
+      (a : Result Given Untold) (r : Result X Untold)
       → Hears d b n old new a → SettlesHeard q view a r → Runs d b (bind (hear n) q) view old new r
   heard_settled n q view old new (Ok g) r h is = runs_ended d b (hear n) q (λ m. m) view old new (Ok g) r (ap Ok h.0, h.1) is
   heard_settled n q view old new (Err (untolds.Fault f)) r h is = runs_ended d b (hear n) q (λ m. m) view old new (Err f) r (ap Ok h.0, h.1) is
@@ -79,17 +82,18 @@ module _ (d : Description) (b : List ℕ) where
       subst (λ s. Runs d b (bind (hear n) q) view old new s) (sym is) (runs_failed d b (hear n) q (λ (m : Heard). m) view old new untolds.NoMemory h)
 
   -- what was heard is no fault, and is passed on
-  hears_runs : (n : Node) (old new : Memo Node Heard) (r : Result Given Untold) → Hears d b n old new r → Runs d b (ask n) (λ g. g) old new r
+  hears_runs : (n : Node) (old new : Memo Node Ruled) (r : Result Given Untold) → Hears d b n old new r → Runs d b (ask n) (λ g. g) old new r
   hears_runs n old new (Ok g) h = heard_settled n passed (λ g. g) old new (Ok g) (Ok g) h refl
   hears_runs n old new (Err (untolds.Fault f)) h = heard_settled n passed (λ g. g) old new (Err (untolds.Fault f)) (Err (untolds.Fault f)) h refl
   hears_runs n old new (Err (untolds.Refused refusal)) h = absurd h
   hears_runs n old new (Err untolds.NoMemory) h = heard_settled n passed (λ g. g) old new (Err untolds.NoMemory) (Err untolds.NoMemory) h refl
 
   -- a node was asked, and what comes after its answer asks nothing
-  pub asked_ended : {Y B : Type 0} (n : Node) (f : Given → Asking B) (view : Y → B) (old new : Memo Node Heard) (g : Given) (r : Result Y Untold)
+  pub asked_ended : {Y B : Type 0} (n : Node) (f : Given → Asking B) (view : Y → B) (old new : Memo Node Ruled) (g : Given) (r : Result Y Untold)
       → Hears d b n old new (Ok g) → Settles (f g) view r → Runs d b (bind (ask n) f) view old new r
   asked_ended n f view old new g r h is = runs_ended d b (ask n) f (λ m. m) view old new g r (hears_runs n old new (Ok g) h) is
 
   -- or it had none
-  pub asked_failed : {Y B : Type 0} (n : Node) (f : Given → Asking B) (view : Y → B) (old new : Memo Node Heard) (e : Untold) → Hears d b n old new (Err e) → Runs d b (bind (ask n) f) view old new (Err e)
+  pub asked_failed : {Y B : Type 0} (n : Node) (f : Given → Asking B) (view : Y → B) (old new : Memo Node Ruled) (e : Untold) → Hears d b n old new (Err e)
+      → Runs d b (bind (ask n) f) view old new (Err e)
   asked_failed n f view old new e h = runs_failed d b (ask n) f (λ (m : Given). m) view old new e (hears_runs n old new (Err e) h)

@@ -13,23 +13,25 @@ use Rattle.ksv_memo_rules.specs.Entry.{Memo}
 use Rattle.ksv_memo_rules.specs.Right.{IsRight}
 use Rattle.ksv_nodes.specs.declared.node.Node.{Node}
 use Rattle.ksv_texts.specs.Parts.{plain_part}
-use Rattle.ksv_questions.specs.Asking.{Asking, Heard}
+use Rattle.ksv_questions.specs.Asking.{Asking}
 use Rattle.ksv_questions.specs.Code.{Runs, dumped, found_of}
 use Rattle.ksv_questions.specs.Dumps.{Found, Part, begun_part, elements_part, inner, members_part, or_written, part, unasked, value_part, written}
-use Rattle.ksv_questions.specs.Engines.{world}
+use Rattle.ksv_questions.specs.Engines.{Ruled, world}
 use Rattle.ksv_questions.specs.declared.asking.Untold.{Untold}
 use Rattle.ksv_questions.specs.declared.dump.Dumped.{Dumped}
 use Rattle.ksv_questions.proofs.Steps.{Pending, pending_on, pending_run, pending_start, runs_ended, runs_failed, runs_on, runs_settled}
 
 module _ (d : Description) (b : List ℕ) where
   -- what was found is gone into
-  pub found_inside : {X : Type 0} (p : Asking (Found X)) (inside : X → Asking Part) (left : ℕ) (old mid new : Memo Node Heard) (found : Result X Json) (x : X) (r : Result Dumped Untold)
+  pub found_inside : {X : Type 0} (p : Asking (Found X)) (inside : X → Asking Part) (left : ℕ) (old mid new : Memo Node Ruled)
+      (found : Result X Json) (x : X) (r : Result Dumped Untold)
       → Runs d b p (λ f. found_of f) old mid (Ok found) → found ≡ Ok x → Runs d b (inside x) dumped mid new r → Runs d b (bind p (λ f. or_written inside left f)) dumped old new r
   found_inside p inside left old mid new found x r h is k =
       runs_on d b p (λ f. or_written inside left f) (λ f. found_of f) dumped old mid new (Ok x) r (subst (λ f. Runs d b p (λ g. found_of g) old mid (Ok f)) is h) k
 
   -- or its place is taken
-  pub found_written : {X : Type 0} (p : Asking (Found X)) (inside : X → Asking Part) (left : ℕ) (old mid : Memo Node Heard) (found : Result X Json) (json : Json) (x : Dumped)
+  pub found_written : {X : Type 0} (p : Asking (Found X)) (inside : X → Asking Part) (left : ℕ) (old mid : Memo Node Ruled)
+      (found : Result X Json) (json : Json) (x : Dumped)
       → Runs d b p (λ f. found_of f) old mid (Ok found) → found ≡ Err json → dumped x ≡ record { json = view json; left = left } → Runs d b (bind p (λ f. or_written inside left f)) dumped old mid (Ok x)
   found_written p inside left old mid found json x h is same =
       runs_ended d b p (λ f. or_written inside left f) (λ f. found_of f) dumped old mid (Err json) (Ok x) (subst (λ f. Runs d b p (λ g. found_of g) old mid (Ok f)) is h) (ap Answer (sym same))
@@ -65,10 +67,10 @@ module _ (d : Description) (b : List ℕ) where
   unfolding members_part
   members_step each q left x names rest ms is = ap (λ ns. members_part d each q left ns ms) is
 
-  pub pending_same : (whole rest : Asking Part) (old : Memo Node Heard) → whole ≡ rest → IsRight (world d b) old.kept → Pending d b whole old rest old
+  pub pending_same : (whole rest : Asking Part) (old : Memo Node Ruled) → whole ≡ rest → IsRight (world d b) old.kept → Pending d b whole old rest old
   pending_same whole rest old same right = subst (λ q. Pending d b whole old q old) same (pending_start d b whole old right)
 
-  pub pending_as : (whole rest next : Asking Part) (old now : Memo Node Heard) → rest ≡ next → Pending d b whole old rest now → Pending d b whole old next now
+  pub pending_as : (whole rest next : Asking Part) (old now : Memo Node Ruled) → rest ≡ next → Pending d b whole old rest now → Pending d b whole old next now
   pending_as whole rest next old now same h = subst (λ q. Pending d b whole old q now) same h
 
   pub elements_end : (each : ℕ → Trail → Asking Part) (q : Trail) (left i count : ℕ) (ds : List Data) → count ≤ i → elements_part d each q left i (count - i) ds ≡ written (array (items_of ds)) left
@@ -80,21 +82,22 @@ module _ (d : Description) (b : List ℕ) where
   members_end each q left names ms is = ap (λ ns. members_part d each q left ns ms) is
 
   -- a loop's next part was written
-  pub loop_on : (whole rest p : Asking Part) (f : Part → Asking Part) (old mid new : Memo Node Heard) (x : Dumped)
+  pub loop_on : (whole rest p : Asking Part) (f : Part → Asking Part) (old mid new : Memo Node Ruled) (x : Dumped)
       → rest ≡ bind p f → Pending d b whole old rest mid → Runs d b p dumped mid new (Ok x) → Pending d b whole old (f (dumped x)) new
   loop_on whole rest p f old mid new x same h k = pending_on d b whole p f dumped old mid new x (pending_as whole rest (bind p f) old mid same h) k
 
   -- or it failed
-  pub loop_failed : (whole rest p : Asking Part) (f : Part → Asking Part) (old mid new : Memo Node Heard) (e : Untold)
+  pub loop_failed : (whole rest p : Asking Part) (f : Part → Asking Part) (old mid new : Memo Node Ruled) (e : Untold)
       → rest ≡ bind p f → Pending d b whole old rest mid → Runs d b p dumped mid new (Err e) → Runs d b whole dumped old new (Err e)
   loop_failed whole rest p f old mid new e same h k =
       pending_run d b whole (bind p f) dumped old mid new (Err e) (pending_as whole rest (bind p f) old mid same h) (runs_failed d b p f dumped dumped mid new e k)
 
   -- nothing is left
-  pub loop_done : (whole rest : Asking Part) (old mid : Memo Node Heard) (x : Dumped) → rest ≡ Answer (dumped x) → Pending d b whole old rest mid → Runs d b whole dumped old mid (Ok x)
+  pub loop_done : (whole rest : Asking Part) (old mid : Memo Node Ruled) (x : Dumped) → rest ≡ Answer (dumped x) → Pending d b whole old rest mid
+      → Runs d b whole dumped old mid (Ok x)
   loop_done whole rest old mid x same h = pending_run d b whole rest dumped old mid mid (Ok x) h (runs_settled d b rest dumped mid (Ok x) h.went.right same)
 
-  module _ (each : ℕ → Trail → Asking Part) (q : Trail) (whole : Asking Part) (old mid new : Memo Node Heard) where
+  module _ (each : ℕ → Trail → Asking Part) (q : Trail) (whole : Asking Part) (old mid new : Memo Node Ruled) where
     pub elements_on : (left i count : ℕ) (vs : List Json) (path : Option Trail) (x : Dumped) → i < count → path ≡ child q (Index i)
         → Pending d b whole old (elements_part d each q left i (count - i) (map view vs)) mid → Runs d b (inner d each q left path) dumped mid new (Ok x)
         → Pending d b whole old (elements_part d each q x.left (i + 1) (count - (i + 1)) (map view vs ++ view x.json ∷ [])) new

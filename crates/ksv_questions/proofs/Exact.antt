@@ -12,7 +12,8 @@ use Rattle.ksv_basics.specs.Plan.{Answer, Fail, Ask, bind}
 use Rattle.ksv_desc.specs.Description.{Description, fields, name}
 use Rattle.ksv_expr_value.specs.Trail.{Trail, child}
 use Rattle.ksv_expr_value.specs.contracts.path.PathPartialEq.TheImpl.{ghosts as path_tests}
-use Rattle.ksv_expr_value.specs.declared.fault.Fault.{Fault}
+use Rattle.ksv_nodes.specs.declared.node_fault.NodeFault.{NodeFault}
+use Rattle.ksv_nodes.specs.NodeFaults.{fault_path}
 use Rattle.ksv_expr_value.specs.declared.step.Step.TheVariants.{Index, Name}
 use Rattle.ksv_expr_value.specs.declared.value.Value.{Value}
 use Rattle.ksv_expr_value.specs.declared.value.Value.TheVariants as values
@@ -58,13 +59,13 @@ integer_exact : (n : ℤ) → is_float (of_integer n) ≡ false
 integer_exact (pos n) = refl
 integer_exact (negsuc n) = refl
 
-fault_exact : (d : Description) (f : Fault) → IsExact (fault_part d f)
+fault_exact : (d : Description) (f : NodeFault) → IsExact (fault_part d f)
 unfolding fault_part
 fault_exact d f = refl
 
-failed_exact : (d : Description) (p : Trail) (f : Fault) → IsExact (failed_part d p f)
+failed_exact : (d : Description) (p : Trail) (f : NodeFault) → IsExact (failed_part d p f)
 unfolding failed_part
-failed_exact d p f = by (is_absence f.kind && path_tests.eq f.path p)
+failed_exact d p f = by (is_absence f && path_tests.eq (fault_path f) p)
   where
     by : (b : Bool) → IsExact (if b then null else fault_part d f)
     by true = refl

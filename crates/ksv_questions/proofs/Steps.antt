@@ -3,15 +3,15 @@ use Rattle.std.proofs.Common.{◌≡◌, ℕ, List, [], ◌++◌, Result, Ok, Er
 use Rattle.ksv_basics.specs.Plan.{Fail, bind}
 use Rattle.ksv_basics.specs.Asking.{and_then, asks_behind}
 use Rattle.ksv_desc.specs.Description.{Description}
-use Rattle.ksv_expr_value.specs.declared.fault.Fault.{Fault}
+use Rattle.ksv_nodes.specs.declared.node_fault.NodeFault.{NodeFault}
 use Rattle.ksv_memo_rules.specs.Entry.{Memo}
 use Rattle.ksv_memo_rules.specs.Right.{IsRight}
 use Rattle.ksv_memo.proofs.Moves.{++-nil}
 use Rattle.ksv_nodes.specs.declared.node.Node.{Node}
 use Rattle.ksv_questions.specs.Answers.{answered, asks, outcome}
-use Rattle.ksv_questions.specs.Asking.{Asking, Failure, Faulty, Heard, Refused}
+use Rattle.ksv_questions.specs.Asking.{Asking, Failure, Faulty, Refused}
 use Rattle.ksv_questions.specs.Code.{IsFault, Runs, Settles}
-use Rattle.ksv_questions.specs.Engines.{HasAsked, HasAskedSome, world}
+use Rattle.ksv_questions.specs.Engines.{HasAsked, HasAskedSome, Ruled, world}
 use Rattle.ksv_questions.specs.declared.asking.Untold.{Untold}
 use Rattle.ksv_questions.specs.declared.asking.Untold.TheVariants as untolds
 use Rattle.ksv_questions.proofs.Asked.{asked_none, asked_then, some_before, some_none, some_of, some_then}
@@ -33,7 +33,7 @@ module _ (d : Description) (b : List ℕ) where
   outcome_failed p f e is = result_bind (answered d b) p f ∙ ap (λ x. and_then x (λ y. outcome d b (f y))) is
 
   -- the first question had an answer, and the second was run with it
-  pub runs_on : {X Y A B : Type 0} (p : Asking A) (f : A → Asking B) (view : X → A) (then : Y → B) (old mid new : Memo Node Heard) (x : X) (r : Result Y Untold)
+  pub runs_on : {X Y A B : Type 0} (p : Asking A) (f : A → Asking B) (view : X → A) (then : Y → B) (old mid new : Memo Node Ruled) (x : X) (r : Result Y Untold)
       → Runs d b p view old mid (Ok x) → Runs d b (f (view x)) then mid new r → Runs d b (bind p f) then old new r
   runs_on p f view then old mid new x (Ok y) h k = (
     outcome_on p f (view x) (Ok (then y)) h.0 k.0,
@@ -51,7 +51,7 @@ module _ (d : Description) (b : List ℕ) where
       subst (λ ns. HasAskedSome (world d b) ns old new) (asks_on p f (view x) h.0) (some_then (world d b) old mid new (asks d b p) (asks d b (f (view x))) h.1 k)
 
   -- the first had none
-  pub runs_failed : {X Y A B : Type 0} (p : Asking A) (f : A → Asking B) (view : X → A) (then : Y → B) (old new : Memo Node Heard) (e : Untold)
+  pub runs_failed : {X Y A B : Type 0} (p : Asking A) (f : A → Asking B) (view : X → A) (then : Y → B) (old new : Memo Node Ruled) (e : Untold)
       → Runs d b p view old new (Err e) → Runs d b (bind p f) then old new (Err e)
   runs_failed p f view then old new (untolds.Fault e) h = (
     outcome_failed p f (Faulty e) h.0,
@@ -66,14 +66,15 @@ module _ (d : Description) (b : List ℕ) where
       (some_before (world d b) old new (asks d b p) (asks_behind (outcome d b p) (λ a. asks d b (f a))) h)
 
   -- a question that asks nothing
-  pub runs_settled : {X A : Type 0} (q : Asking A) (view : X → A) (old : Memo Node Heard) (r : Result X Untold) → IsRight (world d b) old.kept → Settles q view r → Runs d b q view old old r
+  pub runs_settled : {X A : Type 0} (q : Asking A) (view : X → A) (old : Memo Node Ruled) (r : Result X Untold) → IsRight (world d b) old.kept
+      → Settles q view r → Runs d b q view old old r
   runs_settled q view old (Ok x) right is = (ap (λ p. outcome d b p) is, subst (λ p. HasAsked (world d b) (asks d b p) old old) (sym is) (asked_none (world d b) old right))
   runs_settled q view old (Err (untolds.Fault e)) right is = (ap (λ p. outcome d b p) is, subst (λ p. HasAsked (world d b) (asks d b p) old old) (sym is) (asked_none (world d b) old right))
   runs_settled q view old (Err (untolds.Refused e)) right is = (ap (λ p. outcome d b p) is, subst (λ p. HasAsked (world d b) (asks d b p) old old) (sym is) (asked_none (world d b) old right))
   runs_settled q view old (Err untolds.NoMemory) right is = some_none (world d b) old (asks d b q) right
 
   -- a fault
-  pub settled_fault : {X A : Type 0} (f : Fault) (view : X → A) (e : Untold) → IsFault f e → Settles {X = X} {A = A} (Fail (Faulty f)) view (Err e)
+  pub settled_fault : {X A : Type 0} (f : NodeFault) (view : X → A) (e : Untold) → IsFault f e → Settles {X = X} {A = A} (Fail (Faulty f)) view (Err e)
   settled_fault f view untolds.NoMemory is = tt
   settled_fault f view (untolds.Fault e) is = ap (λ x. Fail (Faulty x)) (sym is)
   settled_fault f view (untolds.Refused r) is = absurd is
@@ -85,26 +86,26 @@ module _ (d : Description) (b : List ℕ) where
   settled_failed p f view then (untolds.Refused e) is = bind_fails p f (Refused e) is
 
   -- the same behind another
-  pub runs_ended : {X Y A B : Type 0} (p : Asking A) (f : A → Asking B) (view : X → A) (then : Y → B) (old mid : Memo Node Heard) (x : X) (r : Result Y Untold)
+  pub runs_ended : {X Y A B : Type 0} (p : Asking A) (f : A → Asking B) (view : X → A) (then : Y → B) (old mid : Memo Node Ruled) (x : X) (r : Result Y Untold)
       → Runs d b p view old mid (Ok x) → Settles (f (view x)) then r → Runs d b (bind p f) then old mid r
   runs_ended p f view then old mid x r h is = runs_on p f view then old mid mid x r h (runs_settled (f (view x)) then mid r h.1.right is)
 
   -- a question that asks nothing, and then one that was run with its answer
-  pub runs_first : {X Y A B : Type 0} (p : Asking A) (f : A → Asking B) (view : X → A) (then : Y → B) (old new : Memo Node Heard) (x : X) (r : Result Y Untold)
+  pub runs_first : {X Y A B : Type 0} (p : Asking A) (f : A → Asking B) (view : X → A) (then : Y → B) (old new : Memo Node Ruled) (x : X) (r : Result Y Untold)
       → IsRight (world d b) old.kept → Settles p view (Ok x) → Runs d b (f (view x)) then old new r → Runs d b (bind p f) then old new r
   runs_first p f view then old new x r right is k = runs_on p f view then old old new x r (runs_settled p view old (Ok x) right is) k
 
   -- ---- loops: what is left of a question after some of it was asked
-  pub record Pending {A : Type 0} (whole : Asking A) (old : Memo Node Heard) (rest : Asking A) (now : Memo Node Heard) : Type 0 where
+  pub record Pending {A : Type 0} (whole : Asking A) (old : Memo Node Ruled) (rest : Asking A) (now : Memo Node Ruled) : Type 0 where
     pub ends : outcome d b whole ≡ outcome d b rest
     pub before : List Node
     pub order : asks d b whole ≡ before ++ asks d b rest
     pub went : HasAsked (world d b) before old now
 
-  pub pending_start : {A : Type 0} (q : Asking A) (old : Memo Node Heard) → IsRight (world d b) old.kept → Pending q old q old
+  pub pending_start : {A : Type 0} (q : Asking A) (old : Memo Node Ruled) → IsRight (world d b) old.kept → Pending q old q old
   pending_start q old right = record { ends = refl; before = []; order = refl; went = asked_none (world d b) old right }
 
-  pub pending_on : {X A B : Type 0} (whole : Asking B) (p : Asking A) (f : A → Asking B) (view : X → A) (old mid new : Memo Node Heard) (x : X)
+  pub pending_on : {X A B : Type 0} (whole : Asking B) (p : Asking A) (f : A → Asking B) (view : X → A) (old mid new : Memo Node Ruled) (x : X)
       → Pending whole old (bind p f) mid → Runs d b p view mid new (Ok x) → Pending whole old (f (view x)) new
   pending_on whole p f view old mid new x h k = record {
     ends = h.ends ∙ outcome_on p f (view x) (outcome d b (f (view x))) k.0 refl;
@@ -114,7 +115,7 @@ module _ (d : Description) (b : List ℕ) where
   }
 
   -- the rest was run
-  pub pending_run : {Y B : Type 0} (whole rest : Asking B) (then : Y → B) (old mid new : Memo Node Heard) (r : Result Y Untold)
+  pub pending_run : {Y B : Type 0} (whole rest : Asking B) (then : Y → B) (old mid new : Memo Node Ruled) (r : Result Y Untold)
       → Pending whole old rest mid → Runs d b rest then mid new r → Runs d b whole then old new r
   pending_run whole rest then old mid new (Ok y) h k = (h.ends ∙ k.0, subst (λ ns. HasAsked (world d b) ns old new) (sym h.order) (asked_then (world d b) old mid new h.before (asks d b rest) h.went k.1))
   pending_run whole rest then old mid new (Err (untolds.Fault e)) h k = (h.ends ∙ k.0, subst (λ ns. HasAsked (world d b) ns old new) (sym h.order) (asked_then (world d b) old mid new h.before (asks d b rest) h.went k.1))
@@ -122,6 +123,7 @@ module _ (d : Description) (b : List ℕ) where
   pending_run whole rest then old mid new (Err untolds.NoMemory) h k = subst (λ ns. HasAskedSome (world d b) ns old new) (sym h.order) (some_then (world d b) old mid new h.before (asks d b rest) h.went k)
 
   -- memory was refused before the rest asked anything
-  pub pending_short : {B : Type 0} (whole rest : Asking B) (old mid : Memo Node Heard) → Pending whole old rest mid → HasAskedSome (world d b) (asks d b whole) old mid
+  pub pending_short : {B : Type 0} (whole rest : Asking B) (old mid : Memo Node Ruled) → Pending whole old rest mid
+      → HasAskedSome (world d b) (asks d b whole) old mid
   pending_short whole rest old mid h =
       subst (λ ns. HasAskedSome (world d b) ns old mid) (sym h.order) (some_before (world d b) old mid h.before (asks d b rest) (some_of (world d b) old mid h.before h.went))

@@ -3,21 +3,21 @@
 use Rattle.std.specs.Prelude.{List, [], ◌∷◌, Result, Ok, Err}
 use Rattle.ksv_basics.specs.Plan.{Plan, Answer, Fail, Ask, ◌>>=◌}
 use Rattle.ksv_expr_value.specs.Trail.{Trail}
-use Rattle.ksv_expr_value.specs.declared.fault.Fault.{Fault}
 use Rattle.ksv_expr_value.specs.declared.fault.FaultKind.{FaultKind}
 use Rattle.ksv_expr_value.specs.declared.fault.FaultKind.TheVariants as kinds
 use Rattle.ksv_nodes.specs.declared.given.Given.{Given}
 use Rattle.ksv_nodes.specs.declared.node.Node.{Node}
-use Rattle.ksv_nodes.specs.Turning.{fault_at}
+use Rattle.ksv_nodes.specs.declared.node_fault.NodeFault.{NodeFault}
+use Rattle.ksv_nodes.specs.NodeFaults.{raised_at}
 use Rattle.ksv_texts.specs.declared.refusal.Refusal.{Refusal}
 
 -- what is heard of a node
 abbrev pub Heard : Type 0
-Heard = Result Given Fault
+Heard = Result Given NodeFault
 
 -- why a question fails: by a fault that it passes on, or by a refusal of its own
 pub data Failure : Type 0 where
-  Faulty : Fault → Failure
+  Faulty : NodeFault → Failure
   Refused : Refusal → Failure
 
 abbrev pub Asking : Type 0 → Type 0
@@ -39,7 +39,7 @@ ask n = do
   passed h
 
 abbrev pub fault_of_kind : {A : Type 0} → Trail → FaultKind → Asking A
-fault_of_kind p k = Fail (Faulty (fault_at p k))
+fault_of_kind p k = Fail (Faulty (raised_at p k))
 
 -- An answer of another form than its node's, and a stream as a value, never occur: the law `AnswersHaveForms` of ksv_rule_laws.
 -- They are the fault bad-type at the asked path, so that questions are defined for all answers.

@@ -1,5 +1,5 @@
 -- What an engine keeps, and which turns it has taken, after a question has asked nodes of it.
-use Rattle.std.specs.Prelude.{◌≡◌, ℕ, Bool, true, false, ◌||◌, List, [], ◌∷◌, ◌++◌, Option, None, if◌then◌else◌}
+use Rattle.std.specs.Prelude.{◌≡◌, ℕ, Bool, true, false, ◌||◌, List, [], ◌∷◌, ◌++◌, Option, None, Result, if◌then◌else◌}
 use Rattle.std.specs.List.{flat_map}
 use Rattle.ksv_desc.specs.Description.{Description}
 use Rattle.ksv_memo_rules.specs.Entry.{Memo}
@@ -8,12 +8,17 @@ use Rattle.ksv_memo_rules.specs.Meaning.{Standing, on}
 use Rattle.ksv_memo_rules.specs.Right.{AreBetween, AreExactly, IsRight, costs, counted, fresh, nodes_of}
 use Rattle.ksv_memo_rules.specs.declared.rules.Outcome.{Outcome}
 use Rattle.ksv_memo_rules.specs.declared.rules.Outcome.TheVariants.{Answered, Circle}
+use Rattle.ksv_expr_value.specs.declared.fault.Fault.{Fault}
+use Rattle.ksv_nodes.specs.declared.given.Given.{Given}
 use Rattle.ksv_nodes.specs.declared.node.Node.{Node}
 use Rattle.ksv_rule_meaning.specs.Described.{described}
-use Rattle.ksv_questions.specs.Asking.{Heard}
+
+-- what an engine keeps of a node: what its rule ended in
+abbrev pub Ruled : Type 0
+Ruled = Result Given Fault
 
 -- a description on some bytes, as an engine sees it
-abbrev pub world : Description → List ℕ → Standing Node Heard
+abbrev pub world : Description → List ℕ → Standing Node Ruled
 world d b = on (described d) b
 
 -- the nodes that evaluating these nodes completes, with repeats

@@ -1,12 +1,12 @@
 //! Asking an engine: what the nodes of a described file answer.
 ghost use Rattle.std.specs.Prelude.{◌≡◌};
-ghost use Rattle.ksv_nodes.specs.Turning.{fault_at};
+ghost use Rattle.ksv_nodes.specs.NodeFaults.{raised_at};
 ghost use Rattle.ksv_questions.specs.Code.{Hears, IsFault, IsHeard, IsRightFor, bytes_of, desc_of, plain_answer};
 
 use crate::file::File;
 use ksv_expr_value::{Fault, FaultKind, Path};
 use ksv_memo::{Answer, Engine};
-use ksv_nodes::{Given, Node, NodeKind};
+use ksv_nodes::{Given, Node, NodeFault, NodeKind};
 use ksv_rule_meaning::{Described, NodeRules};
 use ksv_texts::Refusal;
 use std::alloc::{AllocError, Global};
@@ -15,7 +15,7 @@ use std::alloc::{AllocError, Global};
 #[derive(Drop)]
 pub(crate) enum Untold {
     /// A fault prevents it.
-    Fault(Fault),
+    Fault(NodeFault),
     /// It is refused.
     Refused(Refusal),
     /// Memory was refused.
@@ -35,10 +35,10 @@ impl From<AllocError> for Untold {
 
 /// A fault of a kind at a path.
 pub(crate) fn fault_at(alloc: Global, path: &Path, kind: FaultKind) -> Untold
-    ensures { IsFault (fault_at path.now kind) result }
+    ensures { IsFault (raised_at path.now kind) result }
 {
     match path.copy(alloc) {
-        Ok(path) => Untold::Fault(Fault { kind, path }),
+        Ok(path) => Untold::Fault(NodeFault::Raised(Fault { kind, path })),
         Err(_) => Untold::NoMemory,
     }
 }
@@ -49,11 +49,8 @@ fn heard(answer: Answer<Node, Given, Fault>) -> Result<Given, Untold>
 {
     match answer {
         Answer::Value(given) => Ok(given),
-        Answer::Fault(fault) => Err(Untold::Fault(fault)),
-        Answer::Circle(open) => Err(Untold::Fault(Fault {
-            kind: FaultKind::Circle,
-            path: open.path,
-        })),
+        Answer::Fault(fault) => Err(Untold::Fault(NodeFault::Raised(fault))),
+        Answer::Circle(open) => Err(Untold::Fault(NodeFault::Circle(open.path))),
     }
 }
 

@@ -4,10 +4,10 @@ use Rattle.std.specs.Prelude.{nat_eq}
 use Rattle.ksv_basics.specs.Plan.{Answer, Fail, Ask, bind}
 use Rattle.ksv_basics.specs.Asking.{and_then}
 use Rattle.ksv_expr_value.specs.Trail.{Trail}
-use Rattle.ksv_expr_value.specs.declared.fault.Fault.{Fault}
 use Rattle.ksv_desc.specs.Description.{Description}
 use Rattle.ksv_memo_rules.specs.Evaluation.{is_among}
 use Rattle.ksv_nodes.specs.declared.node.Node.{Node}
+use Rattle.ksv_nodes.specs.declared.node_fault.NodeFault.{NodeFault}
 use Rattle.ksv_nodes.specs.declared.given.Given.{Given}
 use Rattle.ksv_nodes.specs.declared.given.Given.TheVariants as givens
 use Rattle.ksv_nodes.specs.declared.given.Head.{Head}
@@ -20,23 +20,23 @@ use Rattle.ksv_rule_meaning.specs.FromNothing.{circle, answer_within, from_nothi
 use Rattle.ksv_rule_laws.specs.Laws.{AreAmong, AnswersStay}
 use Rattle.ksv_rule_laws.proofs.Meeting.{answer_bind}
 
-pub ok_is : {A : Type 0} (x y : A) → ◌≡◌ {A = Result A Fault} (Ok x) (Ok y) → x ≡ y
+pub ok_is : {A : Type 0} (x y : A) → ◌≡◌ {A = Result A NodeFault} (Ok x) (Ok y) → x ≡ y
 ok_is x y h = cc
 
 -- ---- what came before an answer
 
 -- the first answer, and what was made of it
-pub record Before {A B : Type 0} (r : Result A Fault) (f : A → Result B Fault) (b : B) : Type 0 where
+pub record Before {A B : Type 0} (r : Result A NodeFault) (f : A → Result B NodeFault) (b : B) : Type 0 where
   pub first : A
   pub was : r ≡ Ok first
   pub gave : f first ≡ Ok b
 
-before : {A B : Type 0} (r : Result A Fault) (f : A → Result B Fault) (b : B) → and_then r f ≡ Ok b → Before r f b
+before : {A B : Type 0} (r : Result A NodeFault) (f : A → Result B NodeFault) (b : B) → and_then r f ≡ Ok b → Before r f b
 before (Ok a) f b h = record { first = a; was = refl; gave = h }
 before (Err e) f b h = absurd (cc)
 
 -- where each asked node has the answer that `met` gives
-module _ (met : Node → Result Given Fault) (here : Trail) (bytes : List ℕ) where
+module _ (met : Node → Result Given NodeFault) (here : Trail) (bytes : List ℕ) where
   -- what a rule answered before another went on from it
   pub goes_on : {A B : Type 0} (p : Rule A) (f : A → Rule B) (b : B) → answer_of met here bytes (bind p f) ≡ Ok b
       → Before (answer_of met here bytes p) (λ a. answer_of met here bytes (f a)) b
@@ -46,7 +46,7 @@ module _ (met : Node → Result Given Fault) (here : Trail) (bytes : List ℕ) w
   pub asked_head : (p : Trail) (h : Head) → answer_of met here bytes (ask_head p) ≡ Ok h → met (head_node p) ≡ Ok (givens.Head h)
   asked_head p h e = by_given (met (head_node p)) refl e
     where
-      by_given : (r : Result Given Fault) → met (head_node p) ≡ r → with_given r (λ g. answer_of met here bytes (in_head g)) ≡ Ok h
+      by_given : (r : Result Given NodeFault) → met (head_node p) ≡ r → with_given r (λ g. answer_of met here bytes (in_head g)) ≡ Ok h
           → met (head_node p) ≡ Ok (givens.Head h)
       by_given (Ok (givens.Head h')) is e' = is ∙ ap (λ (x : Head). Ok (givens.Head x)) (ok_is h' h e')
       by_given (Ok _) is e' = absurd (cc)
@@ -62,7 +62,7 @@ module _ (met : Node → Result Given Fault) (here : Trail) (bytes : List ℕ) w
 
 module _ (d : Description) (bytes : List ℕ) where
   -- the answers of the nodes that a node asks, one level deeper
-  abbrev below : ℕ → List Node → Node → Node → Result Given Fault
+  abbrev below : ℕ → List Node → Node → Node → Result Given NodeFault
   below depth opened n = answer_within d bytes depth (n ∷ opened)
 
   -- an answer that is no fault is the rule's, and its node isn't open
@@ -83,13 +83,13 @@ module _ (d : Description) (bytes : List ℕ) where
 -- ---- fewer open nodes
 
 -- a rule answers the same where each node that answered still does
-pub same_answer : (met met' : Node → Result Given Fault) (here : Trail) (bytes : List ℕ) → ((m : Node) (g : Given) → met m ≡ Ok g → met' m ≡ Ok g)
+pub same_answer : (met met' : Node → Result Given NodeFault) (here : Trail) (bytes : List ℕ) → ((m : Node) (g : Given) → met m ≡ Ok g → met' m ≡ Ok g)
     → {A : Type 0} (p : Rule A) (a : A) → answer_of met here bytes p ≡ Ok a → answer_of met' here bytes p ≡ Ok a
 same_answer met met' here bytes same (Answer x) a h = h
 same_answer met met' here bytes same (Fail e) a h = absurd (cc)
 same_answer met met' here bytes same {A = A} (Ask (Of n) k) a h = by_given (met n) refl h (λ g. same_answer met met' here bytes same (k g) a)
   where
-    by_given : (r : Result Given Fault) → met n ≡ r → with_given r (λ g. answer_of met here bytes (k g)) ≡ Ok a
+    by_given : (r : Result Given NodeFault) → met n ≡ r → with_given r (λ g. answer_of met here bytes (k g)) ≡ Ok a
         → ((g : Given) → answer_of met here bytes (k g) ≡ Ok a → answer_of met' here bytes (k g) ≡ Ok a)
         → with_given (met' n) (λ g. answer_of met' here bytes (k g)) ≡ Ok a
     by_given (Ok g) is e later = ap (λ r. with_given r (λ x. answer_of met' here bytes (k x))) (same n g is) ∙ later g e
@@ -160,7 +160,7 @@ module _ (d : Description) (bytes : List ℕ) where
 
   -- what is so of each answer of a rule, where it is so of all that the rule asks: these answers are the nodes' own
   module _ (opened : List Node) (P : Node → Given → Type 0)
-      (each : (met : Node → Result Given Fault) → ((m : Node) (g : Given) → met m ≡ Ok g → from_nothing d bytes opened m ≡ Ok g)
+      (each : (met : Node → Result Given NodeFault) → ((m : Node) (g : Given) → met m ≡ Ok g → from_nothing d bytes opened m ≡ Ok g)
       → ((m : Node) (g : Given) → met m ≡ Ok g → P m g)
       → (n : Node) (g : Given) → answer_of met n.path bytes (meaning_of d n.kind n.path) ≡ Ok g → P n g) where
     rules_within : (depth : ℕ) (others : List Node) (n : Node) (g : Given) → depth ≤ node_bound → AreAmong opened others

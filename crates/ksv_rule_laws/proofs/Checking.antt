@@ -5,10 +5,10 @@ use Rattle.ksv_basics.specs.Plan.{Answer, bind}
 use Rattle.ksv_expr_tree.specs.Tree.{Tree}
 use Rattle.ksv_expr_value.specs.Setting.{Setting}
 use Rattle.ksv_expr_value.specs.Trail.{Trail, parent, last}
-use Rattle.ksv_expr_value.specs.declared.fault.Fault.{Fault}
 use Rattle.ksv_expr_value.specs.declared.value.Value.{Value}
 use Rattle.ksv_desc.specs.Description.{Description, MemberOfType, MemberKind, Valid, AnyOf, AllOf, valid_of}
 use Rattle.ksv_nodes.specs.declared.node.Node.{Node}
+use Rattle.ksv_nodes.specs.declared.node_fault.NodeFault.{NodeFault}
 use Rattle.ksv_nodes.specs.declared.given.Given.{Given}
 use Rattle.ksv_nodes.specs.declared.given.Head.{Head}
 use Rattle.ksv_nodes.specs.declared.given.Head.TheVariants as heads
@@ -25,7 +25,7 @@ use Rattle.ksv_rule_laws.proofs.Rules.{Answers, join, either, so, truth_is}
 use Rattle.ksv_rule_laws.proofs.Members.{kind_found}
 
 -- where each asked node has the answer that `met` gives
-module _ (met : Node → Result Given Fault) (here : Trail) (bytes : List ℕ) where
+module _ (met : Node → Result Given NodeFault) (here : Trail) (bytes : List ℕ) where
   abbrev Says : {A : Type 0} → (A → Type 0) → Rule A → Type 0
   Says P p = Answers met here bytes P p
 

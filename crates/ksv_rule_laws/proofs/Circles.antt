@@ -1,38 +1,41 @@
 -- A circle comes from nodes that ask for each other, and from no rule.
 use Rattle.std.proofs.Common.{◌≡◌, ◌∙◌, ℕ, zero, suc, ◌+◌, ◌-◌, ◌<◌, ◌≤◌, Bool, true, false, cond, List, [], ◌∷◌, length, Option, Some, None, Result, Ok, Err}
-use Rattle.std.proofs.Common.{refl, sym, ap, subst, arith, inl, inr}
+use Rattle.std.proofs.Common.{refl, sym, ap, arith, inl, inr}
 use Rattle.std.specs.Prelude.{Contains}
 use Rattle.std.proofs.lemmas.List.Elements.{Contains-append_left, Contains-append_right, Contains-append_cases, Contains-push, Contains-push_cases}
 use Rattle.ksv_basics.specs.Plan.{Answer, Fail, Ask}
 use Rattle.ksv_expr_value.specs.Trail.{Trail}
-use Rattle.ksv_expr_value.specs.declared.fault.Fault.{Fault}
 use Rattle.ksv_expr_value.specs.declared.fault.FaultKind.TheVariants as kinds
 use Rattle.ksv_desc.specs.Description.{Description}
 use Rattle.ksv_nodes.specs.declared.node.Node.{Node}
+use Rattle.ksv_expr_value.specs.declared.fault.Fault.{Fault}
+use Rattle.ksv_nodes.specs.declared.node_fault.NodeFault.{NodeFault}
+use Rattle.ksv_nodes.specs.declared.node_fault.NodeFault.TheVariants as faults
 use Rattle.ksv_nodes.specs.declared.given.Given.{Given}
 use Rattle.ksv_nodes.specs.Reading.{Seen, look}
-use Rattle.ksv_nodes.specs.Rule.{Rule, Here, There, Of, See}
+use Rattle.ksv_nodes.specs.Rule.{Rule, Of, See}
 use Rattle.ksv_nodes.specs.Truth.{answer_of, asks_of, with_given, with_seen, behind_given, behind_seen}
-use Rattle.ksv_nodes.specs.Turning.{fault_at}
+use Rattle.ksv_nodes.specs.Turning.{fault_at, raised}
 use Rattle.ksv_nodes.specs.Numbers.{node_number, node_bound, node_number-one, node_number-below}
 use Rattle.ksv_memo_rules.specs.Evaluation.{is_among}
 use Rattle.ksv_memo_rules.specs.Meaning.{Standing, IsSettled, on}
 use Rattle.ksv_memo_rules.specs.Right.{AreDistinct}
 use Rattle.ksv_memo_rules.proofs.Evals.{few, AreDistinct-cons}
-use Rattle.ksv_rule_meaning.specs.Meaning.{meaning_of, rule_of}
+use Rattle.ksv_rule_meaning.specs.Meaning.{rule_of}
 use Rattle.ksv_rule_meaning.specs.FromNothing.{circle, answer_within, from_nothing}
 use Rattle.ksv_rule_meaning.specs.Described.{described}
 use Rattle.ksv_rule_meaning.specs.Lemmas.Bounds.{settles}
 use Rattle.ksv_rule_laws.specs.Laws.{NoRuleMakesCircles, LeadsBack, CirclesLeadBack}
 use Rattle.ksv_rule_meaning.proofs.Direct.{answers_follow_rules}
-use Rattle.ksv_rule_laws.proofs.Expressions.{IsOwn}
-use Rattle.ksv_rule_laws.proofs.Rules.{Answers}
-use Rattle.ksv_rule_laws.proofs.Shaping.{answer_is}
 
 -- ---- where a circle comes from
 
-err_is : {A : Type 0} (e f : Fault) → ◌≡◌ {A = Result A Fault} (Err e) (Err f) → e ≡ f
+err_is : {A : Type 0} (e f : NodeFault) → ◌≡◌ {A = Result A NodeFault} (Err e) (Err f) → e ≡ f
 err_is e f h = cc
+
+-- what a rule raises is no circle
+raised_is : {A : Type 0} (f : Fault) (q : Trail) → ◌≡◌ {A = Result A NodeFault} (Err (faults.Raised f)) (Err (faults.Circle q)) → ⊥
+raised_is f q h = let same : faults.Raised f ≡ faults.Circle q = err_is _ _ h in cc
 
 no_member : {A : Type 0} (x : A) → Contains [] x → ⊥
 no_member x h = let lt = h.1 in omega arith
@@ -40,45 +43,44 @@ no_member x h = let lt = h.1 in omega arith
 first_in : {A : Type 0} (x : A) (xs : List A) → Contains (x ∷ xs) x
 first_in x xs = Contains-append_left (x ∷ []) xs x (Contains-push [] x)
 
-module _ (met : Node → Result Given Fault) (here : Trail) (bytes : List ℕ) where
+module _ (met : Node → Result Given NodeFault) (here : Trail) (bytes : List ℕ) where
   -- the node whose fault it is
-  abbrev pub Source : {A : Type 0} → Rule A → Fault → Type 0
+  abbrev pub Source : {A : Type 0} → Rule A → NodeFault → Type 0
   Source p f = (m : Node) × Contains (asks_of met here bytes p) m × (met m ≡ Err f)
 
-  from_asked : {A : Type 0} (P : A → Type 0) (p : Rule A) (f : Fault) → Answers met here bytes P p → f.kind ≡ kinds.Circle
-      → answer_of met here bytes p ≡ Err f → Source p f
-  from_asked P (Answer a) f own is h = absurd (cc)
-  from_asked P (Fail (Here k)) f own is h = absurd (subst IsOwn (ap (λ (e : Fault). e.kind) (err_is (fault_at here k) f h) ∙ is) own)
-  from_asked P (Fail (There k q)) f own is h = absurd (subst IsOwn (ap (λ (e : Fault). e.kind) (err_is (fault_at q k) f h) ∙ is) own)
-  from_asked {A = A} P (Ask (Of n) k) f own is h = by_given (met n) refl h (λ g e. from_asked P (k g) f (own g e) is)
+  -- a circle in which a rule ends is that of a node that it asks
+  from_asked : {A : Type 0} (p : Rule A) (q : Trail) → answer_of met here bytes p ≡ Err (faults.Circle q) → Source p (faults.Circle q)
+  from_asked (Answer a) q h = absurd (cc)
+  from_asked (Fail e) q h = absurd (raised_is (raised e here) q h)
+  from_asked {A = A} (Ask (Of n) k) q h = by_given (met n) refl h (λ g e. from_asked (k g) q e)
     where
-      by_given : (r : Result Given Fault) → met n ≡ r → with_given r (λ g. answer_of met here bytes (k g)) ≡ Err f
-          → ((g : Given) → met n ≡ Ok g → answer_of met here bytes (k g) ≡ Err f → Source (k g) f)
-          → (m : Node) × Contains (n ∷ behind_given r (λ g. asks_of met here bytes (k g))) m × (met m ≡ Err f)
-      by_given (Ok g) e e' later = let s = later g e e' in (s.0, Contains-append_right (n ∷ []) (asks_of met here bytes (k g)) s.0 s.1, s.2)
-      by_given (Err e'') e e' later = (n, first_in n [], e ∙ ap Err (err_is e'' f e'))
-  from_asked {A = A} P (Ask (See r) k) f own is h = by_seen (look r bytes).seen refl h (λ x e. from_asked P (k x) f (own x e) is)
+      by_given : (r : Result Given NodeFault) → met n ≡ r → with_given r (λ g. answer_of met here bytes (k g)) ≡ Err (faults.Circle q)
+          → ((g : Given) → answer_of met here bytes (k g) ≡ Err (faults.Circle q) → Source (k g) (faults.Circle q))
+          → (m : Node) × Contains (n ∷ behind_given r (λ g. asks_of met here bytes (k g))) m × (met m ≡ Err (faults.Circle q))
+      by_given (Ok g) e e' later = let s = later g e' in (s.0, Contains-append_right (n ∷ []) (asks_of met here bytes (k g)) s.0 s.1, s.2)
+      by_given (Err f) e e' later = (n, first_in n [], e ∙ ap Err (err_is f (faults.Circle q) e'))
+  from_asked {A = A} (Ask (See r) k) q h = by_seen (look r bytes).seen h (λ x e. from_asked (k x) q e)
     where
-      by_seen : (o : Option (Seen r)) → (look r bytes).seen ≡ o → with_seen here o (λ x. answer_of met here bytes (k x)) ≡ Err f
-          → ((x : Seen r) → (look r bytes).seen ≡ Some x → answer_of met here bytes (k x) ≡ Err f → Source (k x) f)
-          → (m : Node) × Contains (behind_seen o (λ x. asks_of met here bytes (k x))) m × (met m ≡ Err f)
-      by_seen (Some x) e e' later = later x e e'
-      by_seen None e' e later = absurd (let same : kinds.EndOfBytes ≡ kinds.Circle =
-          ap (λ (e' : Fault). e'.kind) (err_is (fault_at here kinds.EndOfBytes) f e) ∙ is in cc)
+      by_seen : (o : Option (Seen r)) → with_seen here o (λ x. answer_of met here bytes (k x)) ≡ Err (faults.Circle q)
+          → ((x : Seen r) → answer_of met here bytes (k x) ≡ Err (faults.Circle q) → Source (k x) (faults.Circle q))
+          → (m : Node) × Contains (behind_seen o (λ x. asks_of met here bytes (k x))) m × (met m ≡ Err (faults.Circle q))
+      by_seen (Some x) e later = later x e
+      by_seen None e later = absurd (raised_is (fault_at here kinds.EndOfBytes) q e)
 
   -- a fault of a node that it asks is the rule's
-  asked_fault : {A : Type 0} (p : Rule A) (m : Node) (f : Fault) → met m ≡ Err f → Contains (asks_of met here bytes p) m → answer_of met here bytes p ≡ Err f
+  asked_fault : {A : Type 0} (p : Rule A) (m : Node) (f : NodeFault) → met m ≡ Err f → Contains (asks_of met here bytes p) m
+      → answer_of met here bytes p ≡ Err f
   asked_fault (Answer a) m f is h = absurd (no_member m h)
   asked_fault (Fail e) m f is h = absurd (no_member m h)
   asked_fault {A = A} (Ask (Of n) k) m f is h = by_given (met n) refl h (λ g. asked_fault (k g) m f is)
     where
-      by_given : (r : Result Given Fault) → met n ≡ r → Contains (n ∷ behind_given r (λ g. asks_of met here bytes (k g))) m
+      by_given : (r : Result Given NodeFault) → met n ≡ r → Contains (n ∷ behind_given r (λ g. asks_of met here bytes (k g))) m
           → ((g : Given) → Contains (asks_of met here bytes (k g)) m → answer_of met here bytes (k g) ≡ Err f)
           → with_given r (λ g. answer_of met here bytes (k g)) ≡ Err f
       by_given (Ok g) e c later = elim (Contains-append_cases (n ∷ []) (asks_of met here bytes (k g)) m c) [
         | inl front ↦ elim (Contains-push_cases [] n m front) [
           | inl none ↦ absurd (no_member m none)
-          | inr same ↦ absurd (let clash : ◌≡◌ {A = Result Given Fault} (Ok g) (Err f) = sym e ∙ ap met same ∙ is in cc)
+          | inr same ↦ absurd (let clash : ◌≡◌ {A = Result Given NodeFault} (Ok g) (Err f) = sym e ∙ ap met same ∙ is in cc)
         ]
         | inr back ↦ later g back
       ]
@@ -94,15 +96,9 @@ module _ (met : Node → Result Given Fault) (here : Trail) (bytes : List ℕ) w
       by_seen (Some x) c later = later x c
       by_seen None c later = absurd (no_member m c)
 
--- a circle in which a rule ends is that of a node that it asks
-source : (d : Description) (bytes : List ℕ) (met : Node → Result Given Fault) (n : Node) (f : Fault) → f.kind ≡ kinds.Circle
-    → answer_of met n.path bytes (rule_of d n) ≡ Err f → Source met n.path bytes (rule_of d n) f
-unfolding rule_of
-source d bytes met n f is h = from_asked met n.path bytes _ (meaning_of d n.kind n.path) f (answer_is met n.path bytes d n.kind) is h
-
 pub no_rule_makes_circles : NoRuleMakesCircles
-no_rule_makes_circles d bytes met n f h is =
-    let s = source d bytes met n f is h in
+no_rule_makes_circles d bytes met n p h =
+    let s = from_asked met n.path bytes (rule_of d n) p h in
     record { node = s.0; asked = s.1; answer = s.2 }
 
 -- ---- the way of a circle
@@ -128,37 +124,36 @@ module _ (d : Description) (bytes : List ℕ) where
   Back opened n p = (way : List Node) × LeadsBack d bytes opened n way p
 
   -- where the node is open, the way has no further node
-  by_open : (opened : List Node) (n : Node) (p : Trail) → from_nothing d bytes opened n ≡ Err (fault_at p kinds.Circle)
+  by_open : (opened : List Node) (n : Node) (p : Trail) → from_nothing d bytes opened n ≡ Err (faults.Circle p)
       → (is_among node_number opened n ≡ false → Back opened n p) → Back opened n p
   by_open opened n p h other = by_test (is_among node_number opened n) refl
     where
+      one_path : (q r : Trail) → faults.Circle q ≡ faults.Circle r → q ≡ r
+      one_path q r e = cc
+
       by_test : (b : Bool) → is_among node_number opened n ≡ b → Back opened n p
       by_test true e = (
         [],
-        (
-          e,
-          ap (λ (f : Fault). f.path)
-              (err_is {A = Given} (fault_at n.path kinds.Circle) (fault_at p kinds.Circle) (sym (open_circle opened n e) ∙ h)),
-        ),
+        (e, one_path n.path p (err_is {A = Given} (faults.Circle n.path) (faults.Circle p) (sym (open_circle opened n e) ∙ h))),
       )
       by_test false e = other e
 
   leads_back : (k : ℕ) (opened : List Node) (n : Node) (p : Trail) → AreDistinct rules opened → node_bound ≤ k + length opened
-      → from_nothing d bytes opened n ≡ Err (fault_at p kinds.Circle) → Back opened n p
+      → from_nothing d bytes opened n ≡ Err (faults.Circle p) → Back opened n p
   leads_back zero opened n p distinct deep h = by_open opened n p h
       (λ e. absurd (let most : length (n ∷ opened) ≤ node_bound = few rules settled (n ∷ opened) (AreDistinct-cons rules n opened e distinct) in omega arith))
   leads_back (suc k) opened n p distinct deep h = by_open opened n p h (λ e.
       let follows = answers_follow_rules d bytes opened n (record { distinct = distinct; apart = e }) in
-      let s = source d bytes (from_nothing d bytes (n ∷ opened)) n (fault_at p kinds.Circle) refl (sym follows ∙ h) in
+      let s = from_asked (from_nothing d bytes (n ∷ opened)) n.path bytes (rule_of d n) p (sym follows ∙ h) in
       let way = leads_back k (n ∷ opened) s.0 p (AreDistinct-cons rules n opened e distinct) (omega arith) s.2 in
       (s.0 ∷ way.0, (e, s.1, way.1)))
 
   is_circle : (way : List Node) (opened : List Node) (n : Node) (p : Trail) → AreDistinct rules opened → LeadsBack d bytes opened n way p
-      → from_nothing d bytes opened n ≡ Err (fault_at p kinds.Circle)
-  is_circle [] opened n p distinct h = open_circle opened n h.0 ∙ ap (λ q. Err (fault_at q kinds.Circle)) h.1
+      → from_nothing d bytes opened n ≡ Err (faults.Circle p)
+  is_circle [] opened n p distinct h = open_circle opened n h.0 ∙ ap (λ q. Err (faults.Circle q)) h.1
   is_circle (m ∷ way) opened n p distinct h =
       answers_follow_rules d bytes opened n (record { distinct = distinct; apart = h.0 })
-      ∙ asked_fault (from_nothing d bytes (n ∷ opened)) n.path bytes (rule_of d n) m (fault_at p kinds.Circle)
+      ∙ asked_fault (from_nothing d bytes (n ∷ opened)) n.path bytes (rule_of d n) m (faults.Circle p)
       (is_circle way (n ∷ opened) m p (AreDistinct-cons rules n opened h.0 distinct) h.2) h.1
 
 pub circles_lead_back : CirclesLeadBack

@@ -6,11 +6,11 @@ use Rattle.std.proofs.lemmas.Bool.Decides.{nat_tests}
 use Rattle.ksv_expr_tree.specs.Tree.{Tree}
 use Rattle.ksv_expr_value.specs.Places.{Place}
 use Rattle.ksv_expr_value.specs.Trail.{Trail, child, parent, last, first_step, all_but_last, trail_of, trail_of-true}
-use Rattle.ksv_expr_value.specs.declared.fault.Fault.{Fault}
 use Rattle.ksv_expr_value.specs.declared.step.Step.{Step}
 use Rattle.ksv_expr_value.specs.declared.step.Step.TheVariants as steps
 use Rattle.ksv_desc.specs.Description.{Description, Field, Repeat, Once, Eos, Expr, Until}
 use Rattle.ksv_nodes.specs.declared.node.Node.{Node}
+use Rattle.ksv_nodes.specs.declared.node_fault.NodeFault.{NodeFault}
 use Rattle.ksv_nodes.specs.declared.node.NodeKind.{NodeKind}
 use Rattle.ksv_nodes.specs.declared.node.NodeKind.TheVariants as nodes
 use Rattle.ksv_nodes.specs.declared.given.Given.{Given}
@@ -39,7 +39,7 @@ own_part p step is = by_steps p.upward refl is
         let whole : step ∷ (parent p).upward ≡ p.upward = ap (λ t. t ∷ all_but_last p.upward) (sym same) ∙ ap (λ u. s ∷ all_but_last u) e ∙ sym e in
         ap trail_of whole ∙ trail_of-true p
 
-module _ (met : Node → Result Given Fault) where
+module _ (met : Node → Result Given NodeFault) where
   -- ---- from an element on
 
   is_same : (n : ℕ) → (n == n) ≡ true
@@ -92,7 +92,7 @@ module _ (met : Node → Result Given Fault) where
   IsCounted p _ = Unit {0}
 
 -- what the nodes that are asked answer counts so; all of it is what they answer in the end
-module _ (d : Description) (bytes : List ℕ) (met all : Node → Result Given Fault) (same : (m : Node) (g : Given) → met m ≡ Ok g → all m ≡ Ok g)
+module _ (d : Description) (bytes : List ℕ) (met all : Node → Result Given NodeFault) (same : (m : Node) (g : Given) → met m ≡ Ok g → all m ≡ Ok g)
     (lies : (m : Node) (g : Given) → met m ≡ Ok g → IsCounted all m.path g) (here : Trail) where
   rest_counts : (i c : ℕ) (place : Place) → last here ≡ Some (steps.Index i) → IsRest d met here bytes (Some (steps.Index i)) c place
       → Counts all (parent here) i c place
@@ -137,11 +137,11 @@ rests_count d bytes opened p c place is e = first_counts d bytes opened p c plac
 
 -- ---- counts that are told
 
-list_of_given : (a b : lists.List) → ◌≡◌ {A = Result Given Fault} (Ok (givens.Head (heads.List a))) (Ok (givens.Head (heads.List b))) → a ≡ b
+list_of_given : (a b : lists.List) → ◌≡◌ {A = Result Given NodeFault} (Ok (givens.Head (heads.List a))) (Ok (givens.Head (heads.List b))) → a ≡ b
 list_of_given a b e = cc
 
 -- the last element has the number that the list's count tells
-told : (d : Description) (bytes : List ℕ) (met : Node → Result Given Fault) (p : Trail) (i n : ℕ) (place : Place) (so : Bool) (g : lists.List) (f : Field)
+told : (d : Description) (bytes : List ℕ) (met : Node → Result Given NodeFault) (p : Trail) (i n : ℕ) (place : Place) (so : Bool) (g : lists.List) (f : Field)
     (c : Tree) → IsLastOf d met p bytes i place so
     → met (head_node (parent p)) ≡ Ok (givens.Head (heads.List g)) → IsFieldOf d g.origin.member f → f.repeat ≡ Expr c → g.count ≡ Some n → so ≡ (n == i + 1)
 unfolding is_last
@@ -157,7 +157,7 @@ told_counts d bytes opened p c place g n is answered holder count =
     let r = heads_are_read d bytes opened (parent p) (heads.List g) holder in
     by_repeat r.field r.is r.field.repeat refl r.so
   where
-    met : Node → Result Given Fault
+    met : Node → Result Given NodeFault
     met = from_nothing d bytes opened
 
     some_is : (a b : ℕ) → Some a ≡ Some b → a ≡ b

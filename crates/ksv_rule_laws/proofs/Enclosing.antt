@@ -9,7 +9,6 @@ use Rattle.ksv_expr_value.specs.Places.{Place, at_byte, byte_of, further}
 use Rattle.ksv_expr_value.proofs.Places.{of_aligned}
 use Rattle.ksv_rule_laws.proofs.Starts.{of_start, at_most, at_least}
 use Rattle.ksv_expr_value.specs.Trail.{Trail, parent, last}
-use Rattle.ksv_expr_value.specs.declared.fault.Fault.{Fault}
 use Rattle.ksv_expr_value.specs.declared.step.Step.{Step}
 use Rattle.ksv_expr_value.specs.declared.step.Step.TheVariants as steps
 use Rattle.ksv_expr_value.specs.declared.value.Stream.{Stream}
@@ -17,6 +16,7 @@ use Rattle.ksv_expr_value.specs.declared.value.Value.{Value}
 use Rattle.ksv_expr_value.specs.declared.value.Value.TheVariants as values
 use Rattle.ksv_desc.specs.Description.{Choice, Description, MemberOfType, MemberKind, Parameter, Attribute, ParseInstance, ValueInstance, Field}
 use Rattle.ksv_nodes.specs.declared.node.Node.{Node}
+use Rattle.ksv_nodes.specs.declared.node_fault.NodeFault.{NodeFault}
 use Rattle.ksv_nodes.specs.declared.node.NodeKind.{NodeKind}
 use Rattle.ksv_nodes.specs.declared.node.NodeKind.TheVariants as nodes
 use Rattle.ksv_nodes.specs.declared.given.Given.{Given}
@@ -63,26 +63,26 @@ same_stream _ w w' a b = absurd a
 some_is : {A : Type 0} (x y : A) → ◌≡◌ {A = Option A} (Some x) (Some y) → x ≡ y
 some_is x y e = cc
 
-head_of_given : (x y : Head) → ◌≡◌ {A = Result Given Fault} (Ok (givens.Head x)) (Ok (givens.Head y)) → x ≡ y
+head_of_given : (x y : Head) → ◌≡◌ {A = Result Given NodeFault} (Ok (givens.Head x)) (Ok (givens.Head y)) → x ≡ y
 head_of_given x y e = cc
 
 -- ---- the parts of an object that rules ask for
 
 -- an attribute is read in the stream of its object
-for_own : (met : Node → Result Given Fault) (bytes : List ℕ) (p : Trail) (o : Object) (k : MemberKind) (w : Stream) → is_attribute k ≡ true
+for_own : (met : Node → Result Given NodeFault) (bytes : List ℕ) (p : Trail) (o : Object) (k : MemberKind) (w : Stream) → is_attribute k ≡ true
     → IsStreamFor met bytes p o k w → o.stream ≡ w
 for_own met bytes p o (Attribute f) w own is = is
 for_own met bytes p o _ w own is = absurd (cc)
 
 -- so is an element in that of its list
-read_own : (d : Description) (met : Node → Result Given Fault) (bytes : List ℕ) (p : Trail) (k : Head) (step : Step) (w : Stream)
+read_own : (d : Description) (met : Node → Result Given NodeFault) (bytes : List ℕ) (p : Trail) (k : Head) (step : Step) (w : Stream)
     → IsBeside d k step → IsReadIn d met bytes p k (Some step) w → IsStreamOf k w
 read_own d met bytes p (heads.Object o) (steps.Name x) w beside is = for_own met bytes p o is.0.kind w (beside is.0 is.1) is.2
 read_own d met bytes p (heads.List g) (steps.Index i) w beside is = is
 read_own d met bytes p _ step w beside is = absurd is
 
 -- all elements of a list are read in one stream
-read_beside : (d : Description) (met : Node → Result Given Fault) (bytes : List ℕ) (r p : Trail) (k : Head) (i j : ℕ) (w : Stream)
+read_beside : (d : Description) (met : Node → Result Given NodeFault) (bytes : List ℕ) (r p : Trail) (k : Head) (i j : ℕ) (w : Stream)
     → IsReadIn d met bytes r k (Some (steps.Index i)) w → IsReadIn d met bytes p k (Some (steps.Index j)) w
 read_beside d met bytes r p (heads.List g) i j w is = is
 read_beside d met bytes r p _ i j w is = absurd is
@@ -188,27 +188,27 @@ module _ (bytes : List ℕ) where
 
 module _ (d : Description) (bytes : List ℕ) where
   -- what a head, an end and a rest are in the stream of what holds them; nothing holds the root
-  abbrev pub HeadLies : (Node → Result Given Fault) → Trail → Option Step → Head → Type 0
+  abbrev pub HeadLies : (Node → Result Given NodeFault) → Trail → Option Step → Head → Type 0
   HeadLies met p None h = BeginsIn bytes h
   HeadLies met p (Some step) h = IsLeftOut d bytes met p h ⊎ IsHeld d bytes met p (λ w. LiesIn bytes w h)
 
-  abbrev pub EndLies : (Node → Result Given Fault) → Trail → Option Step → Place → Type 0
+  abbrev pub EndLies : (Node → Result Given NodeFault) → Trail → Option Step → Place → Type 0
   EndLies met p None place = Unit {0}
   EndLies met p (Some step) place = IsHeld d bytes met p (λ w. IsBetween bytes w (byte_of place))
 
-  abbrev pub Lies : (Node → Result Given Fault) → NodeKind → Trail → Given → Type 0
+  abbrev pub Lies : (Node → Result Given NodeFault) → NodeKind → Trail → Given → Type 0
   Lies met nodes.Head p (givens.Head h) = HeadLies met p (last p) h
   Lies met nodes.End p (givens.End place is_last) = EndLies met p (last p) place
   Lies met nodes.Rest p (givens.Rest count place) = IsHeld d bytes met p (λ w. IsBetween bytes w (byte_of place))
   Lies met _ p g = Unit {0}
 
-  head_begins : (met : Node → Result Given Fault) (p : Trail) (o : Option Step) (h : Head) → HeadLies met p o h → BeginsIn bytes h
+  head_begins : (met : Node → Result Given NodeFault) (p : Trail) (o : Option Step) (h : Head) → HeadLies met p o h → BeginsIn bytes h
   head_begins met p None h is = is
   head_begins met p (Some step) h (inl out) = subst (BeginsIn bytes) (sym out.nowhere) tt
   head_begins met p (Some step) h (inr is) = begins_in bytes is.stream h is.lies
 
 -- what the nodes that are asked answer lies so; all of it is what they answer in the end
-module _ (d : Description) (distinct : HasDistinctNames d) (bytes : List ℕ) (met all : Node → Result Given Fault)
+module _ (d : Description) (distinct : HasDistinctNames d) (bytes : List ℕ) (met all : Node → Result Given NodeFault)
     (same : (m : Node) (g : Given) → met m ≡ Ok g → all m ≡ Ok g)
     (lies : (m : Node) (g : Given) → met m ≡ Ok g → Lies d bytes all m.kind m.path g) (here : Trail) where
   abbrev Between : Stream → ℕ → Type 0

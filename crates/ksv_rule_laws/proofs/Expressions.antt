@@ -1,8 +1,8 @@
--- What a plan of an expression gives, by its parts: bytes and streams that it was told of, and no fault that is a circle.
+-- What a plan of an expression gives, by its parts: bytes and streams that it was told of.
 use Rattle.std.proofs.Common.{codes, ℕ, ◌+◌, ◌-◌, ◌==◌, Bool, true, false, nat_lt, if◌then◌else◌, ℤ, pos, negsuc, List, [], ◌∷◌, Option, Some, None, Result, Ok}
 use Rattle.std.proofs.Common.{Err, bytes_eq}
 use Rattle.std.specs.Ordering.{int_eq}
-use Rattle.ksv_basics.specs.Plan.{Plan, Answer, Fail, Ask, bind, translate}
+use Rattle.ksv_basics.specs.Plan.{Answer, Fail, Ask, bind}
 use Rattle.ksv_expr_tree.specs.Tree.{Tree, Word, Constant, integer, truth, string, no_arguments, argument, literal, named, special, member, unary, binary}
 use Rattle.ksv_expr_tree.specs.Tree.{logical, choice, field, special_field, call, index, cast}
 use Rattle.ksv_expr_tree.specs.declared.tree.UnaryOperator.{UnaryOperator}
@@ -13,7 +13,7 @@ use Rattle.ksv_expr_tree.specs.declared.tree.SpecialName.{SpecialName}
 use Rattle.ksv_expr_tree.specs.declared.tree.SpecialName.TheVariants as specials
 use Rattle.ksv_expr_tree.specs.declared.tree.EnumMember.{EnumMember}
 use Rattle.ksv_expr_value.specs.Places.{byte_of}
-use Rattle.ksv_expr_value.specs.Trail.{Trail, holder, element_limit, child}
+use Rattle.ksv_expr_value.specs.Trail.{Trail, holder}
 use Rattle.ksv_expr_value.specs.Range.{ranged, in_range}
 use Rattle.ksv_expr_value.specs.Setting.{Setting, Element, NoElement, ElementAt, Made}
 use Rattle.ksv_expr_value.specs.Encodings.{encoding_named, decoded}
@@ -29,53 +29,22 @@ use Rattle.ksv_expr_meaning.specs.Methods.{method_named}
 use Rattle.ksv_expr_meaning.specs.Texts.{joined, substring, text_number, number_of, written_in}
 use Rattle.ksv_expr_meaning.specs.Operators.{exactly, shifted_left_by, shifted_right_by, matched, integers_of, same_truth, joined_text, texts_of, members_of}
 use Rattle.ksv_expr_meaning.specs.Operators.{unary_of, as_value, substring_of}
-use Rattle.ksv_expr_meaning.specs.Heard.{Heard, Valued, Opened, Numbered, Decided, Read}
-use Rattle.ksv_expr_meaning.specs.Asked.{Eval, given, in_opened, value_for, opened_for, raise, number_for, truth_for, bytes_for}
+use Rattle.ksv_expr_meaning.specs.Heard.{Heard, Valued, Opened}
+use Rattle.ksv_expr_meaning.specs.Asked.{Eval, given, in_opened, value_for, opened_for, number_for, truth_for, bytes_for}
 use Rattle.ksv_expr_meaning.specs.Meaning.{member_value, element_value, holder_of, stream_of, index_value, element_read, special_value, literal_value}
 use Rattle.ksv_expr_meaning.specs.Meaning.{ranged_member, enum_member, truth_value, decides, bytes_with, integer_and, truth_and, text_and, bytes_and}
 use Rattle.ksv_expr_meaning.specs.Meaning.{member_and, binary_of, distance, size_to, stream_size, at_end, stream_method, list_size, last_element, list_method}
 use Rattle.ksv_expr_meaning.specs.Meaning.{method_of, method_by, field_of, is_own_stream, object_special, special_of, decoded_text, decoded_by, text_in}
 use Rattle.ksv_expr_meaning.specs.Meaning.{bytes_call, call_one, call_two, first_byte, byte_from, byte_at, list_at, bytes_at, item_at, object_of_type}
-use Rattle.ksv_expr_meaning.specs.Meaning.{object_as, cast_to, value_of, in_path, member_path, element_path, element_count, in_truth_value, same_bytes}
+use Rattle.ksv_expr_meaning.specs.Meaning.{object_as, cast_to, value_of, member_path, element_path, element_count, in_truth_value, same_bytes}
 use Rattle.ksv_expr_value.specs.declared.fault.FaultKind.TheVariants as kinds
-use Rattle.ksv_expr_value.specs.declared.step.Step.TheVariants as steps
-
--- ---- plans
-
--- each failure of a plan is so, whatever is answered
-abbrev pub FailsAs : {Q : Type 0} {R : Q → Type 0} {F A : Type 0} → (F → Type 0) → Plan Q R F A → Type 0
-FailsAs P (Answer a) = Unit {0}
-FailsAs P (Fail e) = P e
-FailsAs {R = R} P (Ask q k) = (r : R q) → FailsAs P (k r)
-
-pub fails_bind : {Q : Type 0} {R : Q → Type 0} {F A B : Type 0} (P : F → Type 0) (p : Plan Q R F A) (f : A → Plan Q R F B) → FailsAs P p
-    → ((a : A) → FailsAs P (f a)) → FailsAs P (bind p f)
-unfolding bind
-fails_bind P (Answer a) f h g = g a
-fails_bind P (Fail e) f h g = h
-fails_bind P (Ask q k) f h g = λ r. fails_bind P (k r) f (h r) g
-
-pub fails_translate : {Q Q' : Type 0} {R : Q → Type 0} {R' : Q' → Type 0} {F F' A : Type 0} (P : F → Type 0) (P' : F' → Type 0)
-    (t : (q : Q) → Plan Q' R' F' (R q)) (raise : F → F') (p : Plan Q R F A)
-    → ((q : Q) → FailsAs P' (t q)) → ((e : F) → P e → P' (raise e)) → FailsAs P p → FailsAs P' (translate t raise p)
-fails_translate P P' t raise (Answer a) each so h = tt
-fails_translate P P' t raise (Fail e) each so h = so e h
-fails_translate P P' t raise (Ask q k) each so h =
-    fails_bind P' (t q) (λ r. translate t raise (k r)) (each q) (λ r. fails_translate P P' t raise (k r) each so (h r))
-
--- ---- kinds
-
--- any kind but circle
-abbrev pub IsOwn : FaultKind → Type 0
-IsOwn kinds.Circle = ⊥
-IsOwn _ = Unit {0}
 
 -- ---- what a plan gives
 
--- each answer of a plan is so, where each reply is one of these; no failure of its own is a circle
+-- each answer of a plan is so, where each reply is one of these
 abbrev pub GivesIn : {A : Type 0} → (Heard → Type 0) → (A → Type 0) → Eval A → Type 0
 GivesIn K P (Answer a) = P a
-GivesIn K P (Fail e) = IsOwn e
+GivesIn K P (Fail e) = Unit {0}
 GivesIn K P (Ask w k) = (h : Heard) → K h → GivesIn K P (k h)
 
 gives_bind : {A B : Type 0} (K : Heard → Type 0) (P : A → Type 0) (T : B → Type 0) (p : Eval A) (f : A → Eval B) → GivesIn K P p
@@ -136,9 +105,14 @@ module _ (S : Stream → Type 0) (B : ℕ → ℕ → Type 0) where
   abbrev Own : {A : Type 0} → Eval A → Type 0
   Own p = Gives (λ a. Unit {0}) p
 
+  unknown : {A : Type 0} (p : Eval A) → Own p
+  unknown (Answer a) = tt
+  unknown (Fail e) = tt
+  unknown (Ask w k) = λ h known. unknown (k h)
+
   abbrev RangedResult : Result Value FaultKind → Type 0
   RangedResult (Ok v) = IsSoValue v
-  RangedResult (Err k) = IsOwn k
+  RangedResult (Err k) = Unit {0}
 
   after : {A B : Type 0} (P : A → Type 0) (T : B → Type 0) (p : Eval A) (f : A → Eval B) → Gives P p → ((a : A) → P a → Gives T (f a)) → Gives T (bind p f)
   after P T p f h g = gives_bind IsSoHeard P T p f h g
@@ -211,16 +185,16 @@ module _ (S : Stream → Type 0) (B : ℕ → ℕ → Type 0) where
   unary_ranges _ (values.Bool b) = tt
   unary_ranges op _ = tt
 
-  exact_own : (r : Bool) (z : ℤ) → RangedResult (as_value (if r then Ok z else Err kinds.Overflow))
-  exact_own true z = tt
-  exact_own false z = tt
+  exact_ranges : (r : Bool) (z : ℤ) → RangedResult (as_value (if r then Ok z else Err kinds.Overflow))
+  exact_ranges true z = tt
+  exact_ranges false z = tt
 
   number_ranges : (radix : ℤ) (t : List ℕ) → RangedResult (as_value (text_number radix t))
   number_ranges radix t = by_number (written_in radix t)
     where
       by_number : (o : Option ℤ) → RangedResult (as_value (number_of o))
       by_number None = tt
-      by_number (Some z) = exact_own (in_range z) z
+      by_number (Some z) = exact_ranges (in_range z) z
 
   substring_ranges : (t : Option (List ℕ)) → RangedResult (substring_of t)
   substring_ranges None = tt
@@ -236,56 +210,13 @@ module _ (S : Stream → Type 0) (B : ℕ → ℕ → Type 0) where
   value_for_ranges w (Valued v) known = known
   value_for_ranges w _ known = tt
 
-  opened_for_own : (w : Want) → Own (opened_for w)
-  opened_for_own w (Opened t u) known = tt
-  opened_for_own w _ known = tt
-
-  number_for_own : (w : Want) → Own (number_for w)
-  number_for_own w (Numbered n) known = tt
-  number_for_own w _ known = tt
-
-  truth_for_own : (w : Want) → Own (truth_for w)
-  truth_for_own w (Decided b) known = tt
-  truth_for_own w _ known = tt
-
-  bytes_for_own : (w : Want) → Own (bytes_for w)
-  bytes_for_own w (Read bs) known = tt
-  bytes_for_own w _ known = tt
-
-  in_path_own : (p : Option Trail) → Own (in_path p)
-  in_path_own None = tt
-  in_path_own (Some p) = tt
-
-  member_path_own : (q : Trail) (x : Option ℕ) → Own (member_path q x)
-  unfolding member_path
-  member_path_own q None = tt
-  member_path_own q (Some x) = in_path_own (child q (steps.Name x))
-
-  element_path_own : (l : Trail) (i : ℤ) → Own (element_path l i)
-  unfolding element_path
-  element_path_own l (pos i) = choose _ (nat_lt i element_limit) _ _ (in_path_own (child l (steps.Index i))) tt
-  element_path_own l (negsuc i) = tt
-
-  count_own : (l : Trail) → Own (element_count l)
-  unfolding element_count
-  count_own l = after _ _ _ _ (in_path_own (child l (steps.Index 0))) (λ p known. number_for_own (wants.Rest p))
-
-  truth_own : (v : Value) → Own (in_truth_value v)
-  truth_own (values.Bool b) = tt
-  truth_own _ = tt
-
-  same_bytes_own : (f t f' t' : ℕ) → Own (same_bytes f t f' t')
-  unfolding same_bytes
-  same_bytes_own f t f' t' = choose _ ((t - f) == (t' - f')) _ _
-      (after _ _ _ _ (bytes_for_own (wants.Bytes f t)) (λ a known. after _ _ _ _ (bytes_for_own (wants.Bytes f' t')) (λ b known. tt))) tt
-
   member_ranges : (q : Trail) (x : Option ℕ) → Ranges (member_value q x)
   unfolding member_value
-  member_ranges q x = after _ _ _ _ (member_path_own q x) (λ p known. value_for_ranges (wants.Value p))
+  member_ranges q x = after _ _ _ _ (unknown (member_path q x)) (λ p known. value_for_ranges (wants.Value p))
 
   element_ranges : (l : Trail) (i : ℤ) → Ranges (element_value l i)
   unfolding element_value
-  element_ranges l i = after _ _ _ _ (element_path_own l i) (λ p known. value_for_ranges (wants.Value p))
+  element_ranges l i = after _ _ _ _ (unknown (element_path l i)) (λ p known. value_for_ranges (wants.Value p))
 
   holder_ranges : (p : Option Trail) → Ranges (holder_of p)
   holder_ranges None = tt
@@ -325,12 +256,12 @@ module _ (S : Stream → Type 0) (B : ℕ → ℕ → Type 0) where
 
   truth_value_ranges : (v : Value) → Ranges (truth_value v)
   unfolding truth_value
-  truth_value_ranges v = after _ _ _ _ (truth_own v) (λ b known. tt)
+  truth_value_ranges v = after _ _ _ _ (unknown (in_truth_value v)) (λ b known. tt)
 
   bytes_with_ranges : (op : BinaryOperator) (f t f' t' : ℕ) → Ranges (bytes_with op f t f' t')
   unfolding bytes_with
-  bytes_with_ranges operators.Equal f t f' t' = after _ _ _ _ (same_bytes_own f t f' t') (λ b known. tt)
-  bytes_with_ranges operators.NotEqual f t f' t' = after _ _ _ _ (same_bytes_own f t f' t') (λ b known. tt)
+  bytes_with_ranges operators.Equal f t f' t' = after _ _ _ _ (unknown (same_bytes f t f' t')) (λ b known. tt)
+  bytes_with_ranges operators.NotEqual f t f' t' = after _ _ _ _ (unknown (same_bytes f t f' t')) (λ b known. tt)
   bytes_with_ranges _ f t f' t' = tt
 
   integer_and_ranges : (op : BinaryOperator) (a : ℤ) (w : Value) → Ranges (integer_and op a w)
@@ -373,7 +304,7 @@ module _ (S : Stream → Type 0) (B : ℕ → ℕ → Type 0) where
   distance_ranges end start = given_ranges _ (exactly_ranges _)
 
   size_ranges : (from : ℕ) (to : Option ℕ) → Ranges (size_to from to)
-  size_ranges from None = after _ _ _ _ (number_for_own wants.Size) (λ n known. distance_ranges n from)
+  size_ranges from None = after _ _ _ _ (unknown (number_for wants.Size)) (λ n known. distance_ranges n from)
   size_ranges from (Some to) = distance_ranges to from
 
   stream_size_ranges : (w : Stream) → Ranges (stream_size w)
@@ -382,15 +313,15 @@ module _ (S : Stream → Type 0) (B : ℕ → ℕ → Type 0) where
 
   end_ranges : Ranges at_end
   unfolding at_end
-  end_ranges = after _ _ _ _ (truth_for_own wants.Done) (λ b known. tt)
+  end_ranges = after _ _ _ _ (unknown (truth_for wants.Done)) (λ b known. tt)
 
   list_size_ranges : (l : Trail) → Ranges (list_size l)
   unfolding list_size
-  list_size_ranges l = after _ _ _ _ (count_own l) (λ n known. tt)
+  list_size_ranges l = after _ _ _ _ (unknown (element_count l)) (λ n known. tt)
 
   last_ranges : (l : Trail) → Ranges (last_element l)
   unfolding last_element
-  last_ranges l = after _ _ _ _ (count_own l) (λ n known. element_ranges l _)
+  last_ranges l = after _ _ _ _ (unknown (element_count l)) (λ n known. element_ranges l _)
 
   method_ranges : (s : Setting) (own : Bool) (v : Value) (name : List ℕ) → Ranges (method_by s own v (method_named name))
   unfolding method_of list_method stream_method
@@ -438,7 +369,7 @@ module _ (S : Stream → Type 0) (B : ℕ → ℕ → Type 0) where
 
   text_in_ranges : (f t : ℕ) (e : List ℕ) → Ranges (text_in f t e)
   unfolding text_in
-  text_in_ranges f t e = after _ _ _ _ (bytes_for_own (wants.Bytes f t)) (λ bs known. decoded_by_ranges (encoding_named e) bs)
+  text_in_ranges f t e = after _ _ _ _ (unknown (bytes_for (wants.Bytes f t))) (λ bs known. decoded_by_ranges (encoding_named e) bs)
 
   -- a method with one value in parentheses, and with two
   to_text_ranges : (f t : ℕ) (a : Value) → Ranges (call_one (values.Bytes f t) (method_named (codes "to_s")) a)
@@ -474,7 +405,7 @@ module _ (S : Stream → Type 0) (B : ℕ → ℕ → Type 0) where
 
   byte_from_ranges : (p : ℕ) → Ranges (byte_from p)
   unfolding byte_from
-  byte_from_ranges p = after _ _ _ _ (bytes_for_own (wants.Bytes p (p + 1))) (λ bs known. first_byte_ranges bs)
+  byte_from_ranges p = after _ _ _ _ (unknown (bytes_for (wants.Bytes p (p + 1)))) (λ bs known. first_byte_ranges bs)
 
   byte_at_ranges : (f t : ℕ) (i : ℤ) → Ranges (byte_at f t i)
   unfolding byte_at
@@ -499,7 +430,7 @@ module _ (S : Stream → Type 0) (B : ℕ → ℕ → Type 0) where
 
   type_ranges : (q : Trail) (t : ℕ) → Ranges (object_of_type q t)
   unfolding object_of_type
-  type_ranges q t = after _ _ _ _ (opened_for_own (wants.Head q)) (λ o known. choose _ (o.type_number == t) _ _ tt tt)
+  type_ranges q t = after _ _ _ _ (unknown (opened_for (wants.Head q))) (λ o known. choose _ (o.type_number == t) _ _ tt tt)
 
   as_ranges : (q : Trail) (t : Option ℕ) → Ranges (object_as q t)
   as_ranges q None = tt
@@ -531,10 +462,10 @@ module _ (S : Stream → Type 0) (B : ℕ → ℕ → Type 0) where
     value_ranges (unary op e) = after _ _ _ _ (value_ranges e) (λ v is. given_ranges _ (unary_ranges op v))
     value_ranges (binary op l r) = after _ _ _ _ (value_ranges l) (λ v is. after _ _ _ _ (value_ranges r) (λ w is'. binary_ranges op v w))
     value_ranges (logical op l r) =
-        after _ _ _ _ (value_ranges l) (λ v is. after _ _ _ _ (truth_own v)
+        after _ _ _ _ (value_ranges l) (λ v is. after _ _ _ _ (unknown (in_truth_value v))
         (λ b any. choose _ (decides op b) _ _ tt (after _ _ _ _ (value_ranges r) (λ w is'. truth_value_ranges w))))
     value_ranges (choice c y n) = after _ _ _ _ (value_ranges c)
-        (λ v is. after _ _ _ _ (truth_own v) (λ b any. choose _ b _ _ (value_ranges y) (value_ranges n)))
+        (λ v is. after _ _ _ _ (unknown (in_truth_value v)) (λ b any. choose _ b _ _ (value_ranges y) (value_ranges n)))
     value_ranges (field e n) = after _ _ _ _ (value_ranges e) (λ v is. field_ranges s (is_own_stream e) v n)
     value_ranges (special_field e n) = after _ _ _ _ (value_ranges e) (λ v is. special_of_ranges v n)
     value_ranges (call e m no_arguments) = tt
@@ -544,34 +475,3 @@ module _ (S : Stream → Type 0) (B : ℕ → ℕ → Type 0) where
     value_ranges (call e m (argument a (argument b (argument c more)))) = tt
     value_ranges (index e i) = after _ _ _ _ (value_ranges e) (λ v is. after _ _ _ _ (value_ranges i) (λ w is'. item_ranges v w))
     value_ranges (cast e t) = after _ _ _ _ (value_ranges e) (λ v is. cast_ranges v t.number)
-
--- ---- no expression fails as a circle
-
-abbrev AnyStream : Stream → Type 0
-AnyStream w = Unit {0}
-
-abbrev AnyBytes : ℕ → ℕ → Type 0
-AnyBytes from to = Unit {0}
-
-any_value : (v : Value) → IsSoValue AnyStream AnyBytes v
-any_value (values.Bytes from to) = tt
-any_value (values.Stream w) = tt
-any_value _ = tt
-
-any_heard : (h : Heard) → IsSoHeard AnyStream AnyBytes h
-any_heard (Valued v) = any_value v
-any_heard (Opened t w) = tt
-any_heard _ = tt
-
-any_element : (x : Element) → IsSoElement AnyStream AnyBytes x
-any_element NoElement = tt
-any_element (ElementAt p) = tt
-any_element (Made v) = any_value v
-
-fails_own : {A : Type 0} (P : A → Type 0) (p : Eval A) → GivesIn (IsSoHeard AnyStream AnyBytes) P p → FailsAs IsOwn p
-fails_own P (Answer a) h = tt
-fails_own P (Fail e) h = h
-fails_own P (Ask w k) h = λ r. fails_own P (k r) (h r (any_heard r))
-
-pub value_own : (s : Setting) (e : Tree) → FailsAs IsOwn (value_of s e)
-value_own s e = fails_own _ (value_of s e) (value_ranges AnyStream AnyBytes s (tt, any_element s.element) e)

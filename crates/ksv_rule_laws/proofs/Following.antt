@@ -5,12 +5,12 @@ use Rattle.std.specs.List.{AllByRecursion}
 use Rattle.std.proofs.lemmas.Bool.Decides.{nat_tests}
 use Rattle.ksv_expr_value.specs.Places.{Place, at_byte, byte_of, aligned}
 use Rattle.ksv_expr_value.specs.Trail.{Trail, parent, last}
-use Rattle.ksv_expr_value.specs.declared.fault.Fault.{Fault}
 use Rattle.ksv_expr_value.specs.declared.step.Step.TheVariants.{Name}
 use Rattle.ksv_desc.specs.Description.{Description, MemberOfType, MemberKind, Parameter, Attribute, ParseInstance, ValueInstance, Field, Choice, Always, Switch}
 use Rattle.ksv_desc.specs.Description.{Repeat, Once, Eos, Expr, Until}
 use Rattle.ksv_desc.specs.Description as contents
 use Rattle.ksv_nodes.specs.declared.node.Node.{Node}
+use Rattle.ksv_nodes.specs.declared.node_fault.NodeFault.{NodeFault}
 use Rattle.ksv_nodes.specs.declared.given.Given.{Given}
 use Rattle.ksv_nodes.specs.declared.given.Given.TheVariants as givens
 use Rattle.ksv_nodes.specs.declared.given.Object.{Object}
@@ -87,7 +87,7 @@ begins_after (ParseInstance x io f) e s attribute is = absurd (cc)
 begins_after (ValueInstance v) e s attribute is = absurd (cc)
 
 -- where a member begins, of an object whose head is answered
-module _ (d : Description) (bytes : List ℕ) (met : Node → Result Given Fault) (p : Trail) where
+module _ (d : Description) (bytes : List ℕ) (met : Node → Result Given NodeFault) (p : Trail) where
   abbrev Starts : Object → Option ℕ → Choice → Place → Type 0
   Starts o before c s = IsStart d met p bytes o before c s
 
@@ -100,7 +100,7 @@ module _ (d : Description) (bytes : List ℕ) (met : Node → Result Given Fault
   one_member : (a b : Sought) → ◌≡◌ {A = Option Sought} (Some a) (Some b) → a ≡ b
   one_member a b e = cc
 
-  one_object : (a b : Object) → ◌≡◌ {A = Result Given Fault} (Ok (givens.Head (heads.Object a))) (Ok (givens.Head (heads.Object b))) → a ≡ b
+  one_object : (a b : Object) → ◌≡◌ {A = Result Given NodeFault} (Ok (givens.Head (heads.Object a))) (Ok (givens.Head (heads.Object b))) → a ≡ b
   one_object a b e = cc
 
   -- the object at the holder's path is the one that the rule asked for

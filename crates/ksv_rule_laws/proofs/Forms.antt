@@ -1,11 +1,11 @@
 -- An answer has its node's form; a value is one of the head at its path, and meets what it must.
 use Rattle.std.proofs.Common.{◌≡◌, ℕ, List, Result, Ok, subst, inl, inr}
 use Rattle.ksv_expr_value.specs.Trail.{Trail}
-use Rattle.ksv_expr_value.specs.declared.fault.Fault.{Fault}
 use Rattle.ksv_expr_value.specs.declared.value.Value.{Value}
 use Rattle.ksv_expr_value.specs.declared.value.Value.TheVariants as values
 use Rattle.ksv_desc.specs.Description.{Description}
 use Rattle.ksv_nodes.specs.declared.node.Node.{Node}
+use Rattle.ksv_nodes.specs.declared.node_fault.NodeFault.{NodeFault}
 use Rattle.ksv_nodes.specs.declared.node.NodeKind.{NodeKind}
 use Rattle.ksv_nodes.specs.declared.node.NodeKind.TheVariants as nodes
 use Rattle.ksv_nodes.specs.declared.given.Given.{Given}
@@ -19,7 +19,7 @@ use Rattle.ksv_rule_laws.proofs.Shaping.{by_shape}
 use Rattle.ksv_rule_laws.proofs.Sources.{heads_are_read}
 use Rattle.ksv_rule_laws.specs.Laws.{ValueMeets, ValuesMeetChecks, IsNoStream, HasForm, AnswersHaveForms, IsRead, IsOfHead, HasHead, ValuesHaveHeads}
 
-module _ (d : Description) (met : Node → Result Given Fault) (here : Trail) (bytes : List ℕ) where
+module _ (d : Description) (met : Node → Result Given NodeFault) (here : Trail) (bytes : List ℕ) where
   plain_is : (w v : Value) → IsPlain d met here bytes w v → IsNoStream v
   plain_is w v is = elim is [
     | inl own ↦ subst (λ u. IsNoStream u) own.1 own.0
@@ -68,7 +68,7 @@ answers_have_forms d bytes opened n g h = form_is d bytes opened n.kind n.path g
 pub values_have_heads : ValuesHaveHeads
 values_have_heads d bytes opened p v h = value_is d bytes opened p v (by_shape d bytes opened (value_node p) (givens.Value v) h)
 
-one_head : (r : Result Given Fault) (x y : Head) → r ≡ Ok (givens.Head x) → r ≡ Ok (givens.Head y) → x ≡ y
+one_head : (r : Result Given NodeFault) (x y : Head) → r ≡ Ok (givens.Head x) → r ≡ Ok (givens.Head y) → x ≡ y
 one_head r x y h h' = cc
 
 pub values_meet_checks : ValuesMeetChecks

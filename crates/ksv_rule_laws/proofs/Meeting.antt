@@ -8,26 +8,26 @@ use Rattle.ksv_expr_value.specs.Trail.{Trail}
 use Rattle.ksv_expr_meaning.specs.Heard.{Heard}
 use Rattle.ksv_expr_value.specs.Setting.{Setting}
 use Rattle.ksv_expr_meaning.specs.Asked.{Eval}
-use Rattle.ksv_expr_meaning.specs.Replying.{fault_at}
+use Rattle.ksv_nodes.specs.NodeFaults.{raised_at}
 use Rattle.ksv_expr_meaning.specs.Meaning.{value_of}
-use Rattle.ksv_expr_value.specs.declared.fault.Fault.{Fault}
 use Rattle.ksv_expr_meaning.specs.declared.want.Want.{Want}
 use Rattle.ksv_nodes.specs.Reading.{look}
 use Rattle.ksv_nodes.specs.Rule.{Rule, Of, See, Here}
 use Rattle.ksv_nodes.specs.Truth.{answer_of, asks_of, uses_of, with_given, with_seen}
 use Rattle.ksv_nodes.specs.Truth.{behind_given as given_list, behind_seen as seen_list}
 use Rattle.ksv_nodes.specs.declared.node.Node.{Node}
+use Rattle.ksv_nodes.specs.declared.node_fault.NodeFault.{NodeFault}
 use Rattle.ksv_nodes.specs.declared.given.Given.{Given}
 use Rattle.ksv_rule_meaning.specs.Wanted.{wanted, expression}
 use Rattle.ksv_rule_laws.specs.Expressions.{ExpressionsAreMet}
 
 -- going on behind an answer by two functions that agree
-same_then : {A B : Type 0} (r : Result A Fault) (f g : A → Result B Fault) → ((a : A) → f a ≡ g a) → and_then r f ≡ and_then r g
+same_then : {A B : Type 0} (r : Result A NodeFault) (f g : A → Result B NodeFault) → ((a : A) → f a ≡ g a) → and_then r f ≡ and_then r g
 same_then (Ok a) f g same = same a
 same_then (Err e) f g same = refl
 
-module _ (met : Node → Result Given Fault) (here : Trail) (bytes : List ℕ) where
-  met_behind_given : {A B : Type 0} (r : Result Given Fault) (k : Given → Rule A) (f : A → Rule B)
+module _ (met : Node → Result Given NodeFault) (here : Trail) (bytes : List ℕ) where
+  met_behind_given : {A B : Type 0} (r : Result Given NodeFault) (k : Given → Rule A) (f : A → Rule B)
       → ((g : Given) → answer_of met here bytes (bind (k g) f) ≡ and_then (answer_of met here bytes (k g)) (λ a. answer_of met here bytes (f a)))
       → with_given r (λ g. answer_of met here bytes (bind (k g) f)) ≡ and_then (with_given r (λ g. answer_of met here bytes (k g)))
       (λ a. answer_of met here bytes (f a))
@@ -52,19 +52,19 @@ module _ (met : Node → Result Given Fault) (here : Trail) (bytes : List ℕ) w
 
   -- a plan over wants, translated
   met_plan : {A : Type 0} (s : Setting) (p : Eval A)
-      → answer_of met here bytes (translate (wanted s) Here p) ≡ plan_answer (fault_at here) (λ w. answer_of met here bytes (wanted s w)) p
+      → answer_of met here bytes (translate (wanted s) Here p) ≡ plan_answer (raised_at here) (λ w. answer_of met here bytes (wanted s w)) p
   met_plan s (Answer a) = refl
   met_plan s (Fail k) = refl
   met_plan s (Ask w k) =
       answer_bind (wanted s w) (λ h. translate (wanted s) Here (k h))
       ∙ same_then (answer_of met here bytes (wanted s w)) (λ h. answer_of met here bytes (translate (wanted s) Here (k h)))
-      (λ h. plan_answer (fault_at here) (λ v. answer_of met here bytes (wanted s v)) (k h)) (λ h. met_plan s (k h))
+      (λ h. plan_answer (raised_at here) (λ v. answer_of met here bytes (wanted s v)) (k h)) (λ h. met_plan s (k h))
 
   -- what one rule behind another asks
   asked_given : {A B : Type 0} (n : Node) (k : Given → Rule A) (f : A → Rule B)
       → ((g : Given) → asks_of met here bytes (bind (k g) f) ≡ asks_of met here bytes (k g) ++ asks_behind (answer_of met here bytes (k g))
       (λ a. asks_of met here bytes (f a)))
-      → (r : Result Given Fault) → n ∷ given_list r (λ g. asks_of met here bytes (bind (k g) f)) ≡
+      → (r : Result Given NodeFault) → n ∷ given_list r (λ g. asks_of met here bytes (bind (k g) f)) ≡
       (n ∷ given_list r (λ g. asks_of met here bytes (k g))) ++ asks_behind (with_given r (λ g. answer_of met here bytes (k g)))
       (λ a. asks_of met here bytes (f a))
   asked_given n k f same (Ok g) = ap (λ ns. n ∷ ns) (same g)
@@ -90,7 +90,7 @@ module _ (met : Node → Result Given Fault) (here : Trail) (bytes : List ℕ) w
   used_given : {A B : Type 0} (k : Given → Rule A) (f : A → Rule B)
       → ((g : Given) → uses_of met here bytes (bind (k g) f) ≡ uses_of met here bytes (k g) ++ asks_behind (answer_of met here bytes (k g))
       (λ a. uses_of met here bytes (f a)))
-      → (r : Result Given Fault) → given_list r (λ g. uses_of met here bytes (bind (k g) f)) ≡ given_list r
+      → (r : Result Given NodeFault) → given_list r (λ g. uses_of met here bytes (bind (k g) f)) ≡ given_list r
       (λ g. uses_of met here bytes (k g)) ++ asks_behind (with_given r (λ g. answer_of met here bytes (k g))) (λ a. uses_of met here bytes (f a))
   used_given k f same (Ok g) = same g
   used_given k f same (Err e) = refl
@@ -115,12 +115,12 @@ module _ (met : Node → Result Given Fault) (here : Trail) (bytes : List ℕ) w
 
   -- a plan over wants, translated, asks and uses what its wants do
   module _ (s : Setting) where
-    abbrev heard_of : Want → Result Heard Fault
+    abbrev heard_of : Want → Result Heard NodeFault
     heard_of w = answer_of met here bytes (wanted s w)
 
     -- what some rules ask or use, one for each want
     rest_same : {X : Type 0} (each : Want → List X) (w : Want) (behind : Heard → List X) (wants : Heard → List Want)
-        → ((h : Heard) → behind h ≡ flat_map each (wants h)) → (r : Result Heard Fault)
+        → ((h : Heard) → behind h ≡ flat_map each (wants h)) → (r : Result Heard NodeFault)
         → each w ++ asks_behind r behind ≡ each w ++ flat_map each (asks_behind r wants)
     rest_same each w behind wants same (Ok h) = ap (λ xs. each w ++ xs) (same h)
     rest_same each w behind wants same (Err e) = refl

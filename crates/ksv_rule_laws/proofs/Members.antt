@@ -4,11 +4,11 @@ use Rattle.std.proofs.Common.{subst, arith}
 use Rattle.ksv_expr_tree.specs.Tree.{Tree}
 use Rattle.ksv_expr_value.specs.Setting.{Setting}
 use Rattle.ksv_expr_value.specs.Trail.{Trail}
-use Rattle.ksv_expr_value.specs.declared.fault.Fault.{Fault}
 use Rattle.ksv_expr_value.specs.declared.value.Value.{Value}
 use Rattle.ksv_desc.specs.Description.{Description, MemberOfType, MemberKind, Attribute, ParseInstance, Content, Case, Choice, Always, Switch}
 use Rattle.ksv_desc.specs.Description as contents
 use Rattle.ksv_nodes.specs.declared.node.Node.{Node}
+use Rattle.ksv_nodes.specs.declared.node_fault.NodeFault.{NodeFault}
 use Rattle.ksv_nodes.specs.declared.given.Given.{Given}
 use Rattle.ksv_nodes.specs.declared.given.MemberRef.{MemberRef}
 use Rattle.ksv_nodes.specs.Rule.{Rule}
@@ -16,7 +16,7 @@ use Rattle.ksv_rule_meaning.specs.Wanted.{expression}
 use Rattle.ksv_rule_meaning.specs.Choosing.{Chosen, is_case_of, is_default, first_case, or_default, case_for, switched, choose, in_case, content_of}
 use Rattle.ksv_rule_meaning.specs.Fields.{members_of, Sought, in_sought, read_by, in_kind, kind_of, field_of}
 use Rattle.ksv_rule_laws.specs.Laws.{Reads, IsFieldOf, IsContentOf}
-use Rattle.ksv_rule_laws.proofs.Rules.{Answers, join, expression_is}
+use Rattle.ksv_rule_laws.proofs.Rules.{Answers, join, exact}
 
 -- what was chosen is a case of these, of which the first has this number
 record IsOneOf (cases : List Case) (i : ℕ) (c : Chosen) : Type 0 where
@@ -71,14 +71,14 @@ switch_is on cases v (Some c) e =
     let at : 0 + r.place ≡ r.place = omega arith in
     subst (λ k. IsContentOf (Switch on cases) k c.content) (sym (r.is ∙ ap Some at)) (r.one, r.there, r.content)
 
-module _ (met : Node → Result Given Fault) (here : Trail) (bytes : List ℕ) where
+module _ (met : Node → Result Given NodeFault) (here : Trail) (bytes : List ℕ) where
   abbrev Says : {A : Type 0} → (A → Type 0) → Rule A → Type 0
   Says P p = Answers met here bytes P p
 
   pub choice_is : (at : Setting) (choice : Choice) → Says (λ o. IsChosen choice o) (choose at choice)
   unfolding choose switched
   choice_is at (Always c) = refl
-  choice_is at (Switch on cases) = join met here bytes _ _ (expression at on) _ (expression_is met here bytes at on)
+  choice_is at (Switch on cases) = join met here bytes _ _ (expression at on) _ (exact met here bytes (expression at on))
       (λ v is. switch_is on cases v (case_for v cases) refl)
 
   -- the content of a case is the one by which something is read

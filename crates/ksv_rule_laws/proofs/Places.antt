@@ -3,7 +3,6 @@ use Rattle.std.proofs.Common.{◌≡◌, ℕ, ◌≤◌, true, List, length, Opt
 use Rattle.ksv_expr_value.specs.Places.{Place, at_byte, byte_of}
 use Rattle.ksv_expr_value.proofs.Places.{of_aligned}
 use Rattle.ksv_expr_value.specs.Trail.{Trail, parent, last}
-use Rattle.ksv_expr_value.specs.declared.fault.Fault.{Fault}
 use Rattle.ksv_expr_value.specs.declared.step.Step.{Step}
 use Rattle.ksv_expr_value.specs.declared.step.Step.TheVariants as steps
 use Rattle.ksv_expr_value.specs.declared.value.Stream.{Stream}
@@ -11,6 +10,7 @@ use Rattle.ksv_expr_value.specs.declared.value.Value.{Value}
 use Rattle.ksv_expr_value.specs.declared.value.Value.TheVariants as values
 use Rattle.ksv_desc.specs.Description.{Choice, Description, MemberKind, Parameter, Attribute, ParseInstance, ValueInstance, Field}
 use Rattle.ksv_nodes.specs.declared.node.Node.{Node}
+use Rattle.ksv_nodes.specs.declared.node_fault.NodeFault.{NodeFault}
 use Rattle.ksv_nodes.specs.declared.node.NodeKind.{NodeKind}
 use Rattle.ksv_nodes.specs.declared.node.NodeKind.TheVariants as nodes
 use Rattle.ksv_nodes.specs.declared.given.Given.{Given}
@@ -39,7 +39,7 @@ use Rattle.ksv_rule_laws.proofs.Shapes.{IsObjectEnd, IsEnd, IsRest, IsAnswer}
 use Rattle.ksv_rule_laws.proofs.Shaping.{by_shapes}
 
 -- what the nodes that are asked answer lies in the file
-module _ (d : Description) (bytes : List ℕ) (opened : List Node) (met : Node → Result Given Fault)
+module _ (d : Description) (bytes : List ℕ) (opened : List Node) (met : Node → Result Given NodeFault)
     (same : (m : Node) (g : Given) → met m ≡ Ok g → from_nothing d bytes opened m ≡ Ok g)
     (lies : (m : Node) (g : Given) → met m ≡ Ok g → IsKnown (length bytes) g) (here : Trail) where
   abbrev size : ℕ

@@ -4,7 +4,6 @@ use Rattle.ksv_basics.specs.Plan.{Answer, Fail, Ask, translate}
 use Rattle.ksv_expr_tree.specs.Tree.{Tree}
 use Rattle.ksv_expr_value.specs.Trail.{Trail}
 use Rattle.ksv_expr_value.specs.Setting.{Setting, Element}
-use Rattle.ksv_expr_value.specs.declared.fault.Fault.{Fault}
 use Rattle.ksv_expr_value.specs.declared.value.Stream.{Stream}
 use Rattle.ksv_expr_value.specs.declared.value.Value.{Value}
 use Rattle.ksv_expr_value.specs.declared.value.Value.TheVariants as values
@@ -14,6 +13,7 @@ use Rattle.ksv_expr_meaning.specs.Heard.{Heard, Valued, Opened, Numbered, Decide
 use Rattle.ksv_expr_meaning.specs.Asked.{Eval}
 use Rattle.ksv_expr_meaning.specs.Meaning.{value_of}
 use Rattle.ksv_nodes.specs.declared.node.Node.{Node}
+use Rattle.ksv_nodes.specs.declared.node_fault.NodeFault.{NodeFault}
 use Rattle.ksv_nodes.specs.declared.given.Given.{Given}
 use Rattle.ksv_nodes.specs.declared.given.Given.TheVariants as givens
 use Rattle.ksv_nodes.specs.declared.given.Head.{Head}
@@ -50,7 +50,7 @@ abbrev pub IsKnown : ℕ → Given → Type 0
 IsKnown size (givens.Value v) = IsValueIn size v × IsNoStream v
 IsKnown size g = IsIn size g
 
-module _ (met : Node → Result Given Fault) (here : Trail) (bytes : List ℕ) (lies : (m : Node) (g : Given) → met m ≡ Ok g → IsKnown (length bytes) g) where
+module _ (met : Node → Result Given NodeFault) (here : Trail) (bytes : List ℕ) (lies : (m : Node) (g : Given) → met m ≡ Ok g → IsKnown (length bytes) g) where
   abbrev size : ℕ
   size = length bytes
 
@@ -62,7 +62,7 @@ module _ (met : Node → Result Given Fault) (here : Trail) (bytes : List ℕ) (
   asked_value : (p : Trail) (v : Value) → answer_of met here bytes (ask_value p) ≡ Ok v → IsRanged size v
   asked_value p v e = by_given (met (value_node p)) refl e
     where
-      by_given : (r : Result Given Fault) → met (value_node p) ≡ r → with_given r (λ g. answer_of met here bytes (in_value g)) ≡ Ok v
+      by_given : (r : Result Given NodeFault) → met (value_node p) ≡ r → with_given r (λ g. answer_of met here bytes (in_value g)) ≡ Ok v
           → IsRanged (length bytes) v
       by_given (Ok (givens.Value v')) is e' = subst (IsRanged (length bytes)) (ok_is v' v e') (value_told v' (lies (value_node p) (givens.Value v') is))
       by_given (Ok _) is e' = absurd (cc)

@@ -5,7 +5,6 @@ use Rattle.ksv_expr_tree.specs.Tree.{Tree}
 use Rattle.ksv_expr_value.specs.Places.{Place, at_byte, byte_of, aligned}
 use Rattle.ksv_expr_value.specs.Setting.{Setting, NoElement}
 use Rattle.ksv_expr_value.specs.Trail.{Trail, child, parent, last}
-use Rattle.ksv_expr_value.specs.declared.fault.Fault.{Fault}
 use Rattle.ksv_expr_value.specs.declared.step.Step.{Step}
 use Rattle.ksv_expr_value.specs.declared.step.Step.TheVariants as steps
 use Rattle.ksv_expr_value.specs.declared.value.Stream.{Stream}
@@ -13,6 +12,7 @@ use Rattle.ksv_expr_value.specs.declared.value.Value.{Value}
 use Rattle.ksv_expr_value.specs.declared.value.Value.TheVariants as values
 use Rattle.ksv_desc.specs.Description.{Choice, Description, MemberKind, Parameter, Attribute, ParseInstance, ValueInstance, Field}
 use Rattle.ksv_nodes.specs.declared.node.Node.{Node}
+use Rattle.ksv_nodes.specs.declared.node_fault.NodeFault.{NodeFault}
 use Rattle.ksv_nodes.specs.declared.node.NodeKind.{NodeKind}
 use Rattle.ksv_nodes.specs.declared.node.NodeKind.TheVariants as nodes
 use Rattle.ksv_nodes.specs.declared.given.Given.{Given}
@@ -79,13 +79,13 @@ module _ (bytes : List ℕ) (origin : Origin) (w : Stream) (s : Place) (f : Fiel
   IsHeadAt (heads.List g) = IsListAt g
 
 -- from the part of q on to which this step leads, a list has so many elements and ends here
-pub record RestsAt (met : Node → Result Given Fault) (q : Trail) (step : Step) (count : ℕ) (place : Place) : Type 0 where
+pub record RestsAt (met : Node → Result Given NodeFault) (q : Trail) (step : Step) (count : ℕ) (place : Place) : Type 0 where
   pub path : Trail
   pub is : child q step ≡ Some path
   pub rested : met (rest_node path) ≡ Ok (givens.Rest count place)
 
 -- the answers of the rules of the node's path, where each asked node has the answer that `met` gives
-module _ (d : Description) (met : Node → Result Given Fault) (here : Trail) (bytes : List ℕ) where
+module _ (d : Description) (met : Node → Result Given NodeFault) (here : Trail) (bytes : List ℕ) where
   -- ---- members
 
   -- an attribute begins where its object does, or after the attribute before it

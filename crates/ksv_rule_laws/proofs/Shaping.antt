@@ -11,7 +11,6 @@ use Rattle.ksv_expr_value.specs.Places.{Place, at_byte, byte_of, further, is_sam
 use Rattle.ksv_expr_value.proofs.Places.{of_further}
 use Rattle.ksv_expr_value.specs.Setting.{Setting}
 use Rattle.ksv_expr_value.specs.Trail.{element_limit, Trail, child, parent, last, first_step, all_but_last, same_trail, trail_of-steps}
-use Rattle.ksv_expr_value.specs.declared.fault.Fault.{Fault}
 use Rattle.ksv_expr_value.specs.declared.step.Step.{Step}
 use Rattle.ksv_expr_value.specs.declared.step.Step.TheVariants as steps
 use Rattle.ksv_expr_value.specs.declared.value.Stream.{Stream}
@@ -19,6 +18,7 @@ use Rattle.ksv_desc.specs.Description.{Choice, Description, MemberOfType, Member
 use Rattle.ksv_desc.specs.Description.{Extent, Sized, SizeEos, ByItself, Repeat, Once, Eos, Expr, Until, Terminator}
 use Rattle.ksv_desc.specs.Description as contents
 use Rattle.ksv_nodes.specs.declared.node.Node.{Node}
+use Rattle.ksv_nodes.specs.declared.node_fault.NodeFault.{NodeFault}
 use Rattle.ksv_nodes.specs.declared.node.NodeKind.{NodeKind}
 use Rattle.ksv_nodes.specs.declared.node.NodeKind.TheVariants as nodes
 use Rattle.ksv_nodes.specs.declared.given.Given.{Given}
@@ -40,7 +40,7 @@ use Rattle.ksv_nodes.specs.Rule.{Rule, part, ask_head, ask_end, ask_rest, head_n
 use Rattle.ksv_nodes.specs.Truth.{answer_of}
 use Rattle.ksv_nodes.proofs.First.{first_at_below}
 use Rattle.ksv_rule_meaning.specs.Choosing.{Chosen, choose}
-use Rattle.ksv_rule_meaning.specs.Wanted.{in_object, holds, size_of, stream_for}
+use Rattle.ksv_rule_meaning.specs.Wanted.{in_object, truth_of, holds, size_of, stream_for}
 use Rattle.ksv_rule_meaning.specs.Fields.{members_of, Sought, sought, in_sought, member_named, last_attribute, field_of}
 use Rattle.ksv_rule_meaning.specs.Heads.{leaf, bits_leaf, leaf_to_end, terminated_at, terminated, run_of, sized_leaf, bytes_at, sized_object, object_at}
 use Rattle.ksv_rule_meaning.specs.Heads.{content_at, unchosen_at, chosen_at, shape_at, count_of, counted, until_eos, repeated, attribute_at, part_end}
@@ -54,15 +54,14 @@ use Rattle.ksv_rule_meaning.specs.Meaning.{meaning_of}
 use Rattle.ksv_rule_meaning.specs.FromNothing.{from_nothing}
 use Rattle.ksv_rule_laws.specs.Laws.{IsContentOf, IsLeafOf, IsCountedBy, EndsAt}
 use Rattle.ksv_rule_laws.proofs.Answering.{by_rule, by_rules}
-use Rattle.ksv_rule_laws.proofs.Rules.{Answers, join, either, so, answered, asked_head, asked_end, asked_rest, path_is, size_is, holds_is, stream_is, done_is}
-use Rattle.ksv_rule_laws.proofs.Rules.{truth_said}
+use Rattle.ksv_rule_laws.proofs.Rules.{Answers, join, either, so, answered, asked_head, asked_end, asked_rest, path_is, exact}
 use Rattle.ksv_rule_laws.proofs.Members.{IsChosen, choice_is, field_found, sought_is}
 use Rattle.ksv_rule_laws.proofs.Values.{made_is}
 use Rattle.ksv_rule_laws.proofs.Starts.{at_most, at_least}
 use Rattle.ksv_rule_laws.proofs.Shapes.{IsBehind, IsHeadAt, IsStart, IsPlaced, IsMember, IsMemberOf, EndsBefore, IsElementOf, IsHead, IsFieldsEnd, IsObjectEnd}
 use Rattle.ksv_rule_laws.proofs.Shapes.{RestsAt, IsEnd, IsLast, IsEndOf, IsRestFrom, IsRest, IsAnswer}
 
-module _ (met : Node → Result Given Fault) (here : Trail) (bytes : List ℕ) where
+module _ (met : Node → Result Given NodeFault) (here : Trail) (bytes : List ℕ) where
   abbrev Says : {A : Type 0} → (A → Type 0) → Rule A → Type 0
   Says P p = Answers met here bytes P p
 
@@ -159,7 +158,7 @@ module _ (met : Node → Result Given Fault) (here : Trail) (bytes : List ℕ) w
 
         sized_are : (at : Setting) (e : Tree) → Says Shaped (sized_leaf at by w s e)
         unfolding sized_leaf
-        sized_are at e = after _ _ (size_of at e) _ (size_is met here bytes at e) (λ n was. some_are n)
+        sized_are at e = after _ _ (size_of at e) _ (exact met here bytes (size_of at e)) (λ n was. some_are n)
 
         up_to : (e : ℕ) → e ≡ end_in bytes w.to → Shaped (heads.Leaf (leaf_to (at_byte e) (at_byte e)))
         up_to e is =
@@ -195,7 +194,7 @@ module _ (met : Node → Result Given Fault) (here : Trail) (bytes : List ℕ) w
       object_is : (at : Setting) (t : ℕ) (given : Arguments) (x : Extent) → IsContentOf f.choice case (contents.Object t given)
           → Says Shaped (object_at at by t w s x)
       unfolding object_at sized_object
-      object_is at t given (Sized e) own = after _ _ (size_of at e) _ (size_is met here bytes at e)
+      object_is at t given (Sized e) own = after _ _ (size_of at e) _ (exact met here bytes (size_of at e))
           (λ n was. after _ _ (reach w (byte_of s + n)) _ (reached w (byte_of s + n)) (λ x low.
           record {
             start = refl;
@@ -253,7 +252,7 @@ module _ (met : Node → Result Given Fault) (here : Trail) (bytes : List ℕ) w
 
     count_is : (at : Setting) (e : Tree) → Says (λ n. Unit {0}) (count_of at e)
     unfolding count_of
-    count_is at e = after _ _ (size_of at e) _ (size_is met here bytes at e) (λ n was. test _ (nat_lt element_limit n) _ _ (λ many. tt) (λ few. tt))
+    count_is at e = after _ _ (size_of at e) _ (exact met here bytes (size_of at e)) (λ n was. test _ (nat_lt element_limit n) _ _ (λ many. tt) (λ few. tt))
 
     list_is : (r : Repeat) (g : lists.List) → f.repeat ≡ r → g.start ≡ s → g.stream ≡ w → g.origin ≡ origin → IsCountedBy r g → Shaped (heads.List g)
     list_is r g is start stream by so' = record { start = start; stream = stream; is = by; read = subst (λ q. IsCountedBy q g) (sym is) so' }
@@ -262,12 +261,12 @@ module _ (met : Node → Result Given Fault) (here : Trail) (bytes : List ℕ) w
     unfolding repeated counted until_eos
     repeated_is at Once is = shape_is at
     repeated_is at (Expr e) is = after _ _ (count_of at e) _ (count_is at e) (λ n any. list_is (Expr e) _ is refl refl refl (n, refl, refl))
-    repeated_is at Eos is = after _ _ (done w s) _ (done_is met here bytes w s) (λ b was. list_is Eos _ is refl refl refl refl)
+    repeated_is at Eos is = after _ _ (done w s) _ (exact met here bytes (done w s)) (λ b was. list_is Eos _ is refl refl refl refl)
     repeated_is at (Until c) is = list_is (Until c) _ is refl refl refl refl
 
     attribute_is : (at : Setting) → Says Shaped (attribute_at at origin w s f)
     unfolding attribute_at
-    attribute_is at = after _ _ (holds at f.condition) _ (holds_is met here bytes at f.condition)
+    attribute_is at = after _ _ (holds at f.condition) _ (exact met here bytes (holds at f.condition))
         (λ there was. test _ there _ _ (λ e. repeated_is at f.repeat refl) (λ e. refl))
 
   -- ---- what was asked for
@@ -324,8 +323,8 @@ module _ (met : Node → Result Given Fault) (here : Trail) (bytes : List ℕ) w
     unfolding positioned positioned_in
     placed_is o m e io f =
         let at = instance_setting here (parent here) o in
-        after _ _ (stream_for at io) (λ x. positioned_in at (origin_of o m) x e f) (stream_is met here bytes at io) (λ w named.
-        after _ _ (size_of at e) _ (size_is met here bytes at e) (λ n was.
+        after _ _ (stream_for at io) (λ x. positioned_in at (origin_of o m) x e f) (exact met here bytes (stream_for at io)) (λ w named.
+        after _ _ (size_of at e) _ (exact met here bytes (size_of at e)) (λ n was.
         after _ _ (reach w (w.from + n)) _ (reached w (w.from + n)) (λ x low.
         hence _ _ (repeated (record at { place = at_byte (w.from + n) }) (origin_of o m) w (at_byte (w.from + n)) f f.repeat)
         (repeated_is (origin_of o m) w (at_byte (w.from + n)) f (record at { place = at_byte (w.from + n) }) f.repeat refl)
@@ -340,12 +339,12 @@ module _ (met : Node → Result Given Fault) (here : Trail) (bytes : List ℕ) w
         (attribute_is (origin_of o m) o.stream s f (attribute_setting here (parent here) (origin_of o m) s)) (λ h is. (s, starts, is)))
     member_is o m (ParseInstance e io f) =
         let at = instance_setting here (parent here) o in
-        after _ _ (holds at f.condition) _ (holds_is met here bytes at f.condition) (λ there was.
+        after _ _ (holds at f.condition) _ (exact met here bytes (holds at f.condition)) (λ there was.
         test _ there _ _ (λ yes. hence _ _ (positioned at (origin_of o m) e io f) (placed_is o m e io f) (λ h is. inr is))
         (λ no. inl (unmet at f.condition there was no, refl)))
     member_is o m (ValueInstance v) =
         let at = instance_setting here (parent here) o in
-        after _ _ (holds at v.condition) _ (holds_is met here bytes at v.condition)
+        after _ _ (holds at v.condition) _ (exact met here bytes (holds at v.condition))
         (λ there was. test _ there _ _ (λ yes. inr refl) (λ no. inl (unmet at v.condition there was no, refl)))
 
     member_head_is : (x : ℕ) → Says (IsMemberOf d met here bytes x) (member_head d here (parent here) x)
@@ -416,8 +415,8 @@ module _ (met : Node → Result Given Fault) (here : Trail) (bytes : List ℕ) w
     unfolding is_last
     last_is g i e Once = tt
     last_is g i e (Expr n) = refl
-    last_is g i e Eos = done_is met here bytes g.stream e
-    last_is g i e (Until c) = truth_said met here bytes (behind_element (parent (parent here)) g here i e) c
+    last_is g i e Eos = exact met here bytes (done g.stream e)
+    last_is g i e (Until c) = exact met here bytes (truth_of (behind_element (parent (parent here)) g here i e) c)
 
     not_empty_is : (r : Repeat) (start e : Place) → Says (λ u. Unit {0}) (not_empty r start e)
     unfolding not_empty
@@ -509,7 +508,7 @@ module _ (d : Description) (bytes : List ℕ) (opened : List Node) where
 
   -- what is so of each shape where it is so of what was asked for, is so of each answer
   pub by_shapes : (P : Node → Given → Type 0)
-      → ((met : Node → Result Given Fault) → ((m : Node) (g : Given) → met m ≡ Ok g → from_nothing d bytes opened m ≡ Ok g)
+      → ((met : Node → Result Given NodeFault) → ((m : Node) (g : Given) → met m ≡ Ok g → from_nothing d bytes opened m ≡ Ok g)
       → ((m : Node) (g : Given) → met m ≡ Ok g → P m g)
       → (n : Node) (g : Given) → IsAnswer d met n.path bytes n.kind g → P n g)
       → (n : Node) (g : Given) → from_nothing d bytes opened n ≡ Ok g → P n g

@@ -3,12 +3,12 @@ use Rattle.std.proofs.Common.{◌≡◌, ◌∙◌, ℕ, suc, ◌+◌, ◌==◌,
 use Rattle.std.proofs.Common.{sym, ap, subst, arith, inl, inr}
 use Rattle.ksv_expr_value.specs.Places.{Place, at_byte}
 use Rattle.ksv_expr_value.specs.Trail.{Trail, parent, last}
-use Rattle.ksv_expr_value.specs.declared.fault.Fault.{Fault}
 use Rattle.ksv_expr_value.specs.declared.step.Step.{Step}
 use Rattle.ksv_expr_value.specs.declared.step.Step.TheVariants as steps
 use Rattle.ksv_expr_value.specs.declared.value.Stream.{Stream}
 use Rattle.ksv_desc.specs.Description.{Description, MemberOfType, MemberKind, Parameter, Attribute, ParseInstance, ValueInstance, Field}
 use Rattle.ksv_nodes.specs.declared.node.Node.{Node}
+use Rattle.ksv_nodes.specs.declared.node_fault.NodeFault.{NodeFault}
 use Rattle.ksv_nodes.specs.declared.node.NodeKind.{NodeKind}
 use Rattle.ksv_nodes.specs.declared.node.NodeKind.TheVariants as nodes
 use Rattle.ksv_nodes.specs.declared.given.Given.{Given}
@@ -72,7 +72,7 @@ IsSo d (givens.Head h) = IsReadSo d h
 IsSo d _ = Unit {0}
 
 -- what the nodes that are asked answer is read so
-module _ (d : Description) (bytes : List ℕ) (met : Node → Result Given Fault) (lies : (m : Node) (g : Given) → met m ≡ Ok g → IsSo d g) (here : Trail) where
+module _ (d : Description) (bytes : List ℕ) (met : Node → Result Given NodeFault) (lies : (m : Node) (g : Given) → met m ≡ Ok g → IsSo d g) (here : Trail) where
   at_read : (origin : Origin) (w : Stream) (s : Place) (f : Field) (h : Head) → IsFieldOf d origin.member f → origin.case ≡ None
       → IsHeadAt bytes origin w s f h → IsReadSo d h
   at_read origin w s f (heads.Absent at) own none is = (tt, tt)

@@ -21,7 +21,6 @@ use Rattle.ksv_expr_value.specs.Trail.{Trail, parent, last}
 use Rattle.ksv_expr_value.specs.Range.{ranged}
 use Rattle.ksv_expr_value.specs.Encodings.{decoded}
 use Rattle.ksv_expr_value.specs.declared.encoding.Encoding.{Encoding}
-use Rattle.ksv_expr_value.specs.declared.fault.Fault.{Fault}
 use Rattle.ksv_expr_value.specs.declared.value.Value.{Value}
 use Rattle.ksv_expr_value.specs.declared.value.Value.TheVariants as values
 use Rattle.ksv_desc.specs.declared.order.ByteOrder.{ByteOrder}
@@ -29,6 +28,7 @@ use Rattle.ksv_desc.specs.Description.{is_truth, Description, MemberOfType, Memb
 use Rattle.ksv_desc.specs.Description.{Always, Switch, Content, Terminator}
 use Rattle.ksv_desc.specs.Description as contents
 use Rattle.ksv_nodes.specs.declared.node.Node.{Node}
+use Rattle.ksv_nodes.specs.declared.node_fault.NodeFault.{NodeFault}
 use Rattle.ksv_nodes.specs.declared.given.Given.{Given}
 use Rattle.ksv_nodes.specs.declared.given.Head.{Head}
 use Rattle.ksv_nodes.specs.declared.given.Head.TheVariants as heads
@@ -43,7 +43,7 @@ use Rattle.ksv_rule_meaning.specs.Integers.{integer_value}
 use Rattle.ksv_rule_meaning.specs.Values.{in_number, number_value, of_bits, bits_value, fixed_value, cut_by, kept_of, kept, cut_bytes, bytes_value, in_text}
 use Rattle.ksv_rule_meaning.specs.Values.{cut_text, text_value, content_value, leaf_value, value_at, given_by, arguments_for, in_no_stream, plain_value}
 use Rattle.ksv_rule_meaning.specs.Values.{parameter_value, instance_value, value_of, calculated, in_enum, argument_at, calc_value, argument_value}
-use Rattle.ksv_rule_laws.proofs.Rules.{Answers, join, either, so, asked_head, expression_is}
+use Rattle.ksv_rule_laws.proofs.Rules.{Answers, join, either, so, asked_head, exact}
 use Rattle.ksv_rule_laws.proofs.Members.{field_found, kind_found, content_found}
 use Rattle.ksv_rule_laws.proofs.Checking.{value_meets}
 use Rattle.ksv_rule_laws.proofs.Shapes.{IsPlain, IsCalculatedIn, IsValueAt, IsMadeOf}
@@ -65,7 +65,7 @@ same_field d r f g a b =
     member_same o m n e e' = cc
 
 -- where each asked node has the answer that `met` gives
-module _ (met : Node → Result Given Fault) (here : Trail) (bytes : List ℕ) where
+module _ (met : Node → Result Given NodeFault) (here : Trail) (bytes : List ℕ) where
   abbrev Says : {A : Type 0} → (A → Type 0) → Rule A → Type 0
   Says P p = Answers met here bytes P p
 
@@ -187,7 +187,7 @@ module _ (met : Node → Result Given Fault) (here : Trail) (bytes : List ℕ) w
         → Says (λ v. IsCalculatedIn d met here bytes o v) (instance_value (holder_setting here q o) e enum)
     unfolding instance_value
     instance_is q o e enum =
-        after _ _ (expression (holder_setting here q o) e) _ (expression_is met here bytes (holder_setting here q o) e) (λ w was.
+        after _ _ (expression (holder_setting here q o) e) _ (exact met here bytes (expression (holder_setting here q o) e)) (λ w was.
         hence _ _ (in_enum enum w) (enum_is enum w) (λ v plain. record {
           setting = holder_setting here q o;
           tree = e;
@@ -204,12 +204,12 @@ module _ (met : Node → Result Given Fault) (here : Trail) (bytes : List ℕ) w
     unfolding plain_value
     argument_is q (Some (steps.Index i)) o g e is =
         let at = element_setting here (parent (parent q)) g o.start i in
-        after _ _ (expression at e) _ (expression_is met here bytes at e)
+        after _ _ (expression at e) _ (exact met here bytes (expression at e))
         (λ w was. hence _ _ (in_no_stream w) (plain_is w)
         (λ v plain. record { setting = at; tree = e; first = w; was = was; stream = inr (g, is, refl); element = refl; plain = plain }))
     argument_is q _ o g e is =
         let at = attribute_setting here (parent q) g o.start in
-        after _ _ (expression at e) _ (expression_is met here bytes at e)
+        after _ _ (expression at e) _ (exact met here bytes (expression at e))
         (λ w was. hence _ _ (in_no_stream w) (plain_is w)
         (λ v plain. record { setting = at; tree = e; first = w; was = was; stream = inr (g, is, refl); element = refl; plain = plain }))
 

@@ -8,8 +8,6 @@ use Rattle.ksv_expr_value.specs.Trail.{Trail, child, parent, last}
 use Rattle.ksv_expr_value.specs.declared.step.Step.{Step}
 use Rattle.ksv_expr_value.specs.declared.step.Step.TheVariants.{Index, Name}
 use Rattle.ksv_expr_value.specs.declared.value.Stream.{Stream}
-use Rattle.ksv_expr_value.specs.declared.fault.Fault.{Fault}
-use Rattle.ksv_expr_value.specs.declared.fault.FaultKind.TheVariants as kinds
 use Rattle.ksv_expr_value.specs.declared.value.Value.{Value}
 use Rattle.ksv_expr_value.specs.declared.value.Value.TheVariants as values
 use Rattle.ksv_expr_tree.specs.Tree.{Tree, Arguments}
@@ -19,6 +17,8 @@ use Rattle.ksv_memo_rules.specs.Evaluation.{is_among}
 use Rattle.ksv_memo_rules.specs.Meaning.{on}
 use Rattle.ksv_memo_rules.specs.Right.{AreDistinct}
 use Rattle.ksv_nodes.specs.declared.node.Node.{Node}
+use Rattle.ksv_nodes.specs.declared.node_fault.NodeFault.{NodeFault}
+use Rattle.ksv_nodes.specs.declared.node_fault.NodeFault.TheVariants as faults
 use Rattle.ksv_nodes.specs.declared.node.NodeKind.{NodeKind}
 use Rattle.ksv_nodes.specs.declared.node.NodeKind.TheVariants as nodes
 use Rattle.ksv_nodes.specs.declared.given.Given.{Given}
@@ -35,7 +35,6 @@ use Rattle.ksv_nodes.specs.Numbers.{node_number}
 use Rattle.ksv_nodes.specs.Reading.{end_in}
 use Rattle.ksv_nodes.specs.Rule.{head_node, value_node, end_node, rest_node}
 use Rattle.ksv_nodes.specs.Truth.{answer_of, asks_of}
-use Rattle.ksv_nodes.specs.Turning.{fault_at}
 use Rattle.ksv_rule_meaning.specs.Ends.{start_of}
 use Rattle.ksv_rule_meaning.specs.Fields.{members_of, is_attribute, Sought, sought}
 use Rattle.ksv_rule_meaning.specs.Heads.{member_setting, instance_setting, holder_setting, holder_of}
@@ -106,11 +105,11 @@ ValuesHaveHeads = (d : Description) (bytes : List ℕ) (opened : List Node) (p :
 -- ---- checks
 
 -- a condition is true, or false, in the rule of what is at the path `here`, where each asked node has the answer that `met` gives
-abbrev pub Gives : (Node → Result Given Fault) → Trail → List ℕ → Setting → Bool → Tree → Type 0
+abbrev pub Gives : (Node → Result Given NodeFault) → Trail → List ℕ → Setting → Bool → Tree → Type 0
 Gives met here bytes at b e = answer_of met here bytes (expression at e) ≡ Ok (values.Bool b)
 
 -- one of some conditions is true, and all before it are false
-pub record HasTrue (met : Node → Result Given Fault) (here : Trail) (bytes : List ℕ) (at : Setting) (es : List Tree) : Type 0 where
+pub record HasTrue (met : Node → Result Given NodeFault) (here : Trail) (bytes : List ℕ) (at : Setting) (es : List Tree) : Type 0 where
   pub front : List Tree
   pub condition : Tree
   pub rest : List Tree
@@ -119,21 +118,21 @@ pub record HasTrue (met : Node → Result Given Fault) (here : Trail) (bytes : L
   pub holds : Gives met here bytes at true condition
 
 -- what a value must meet is met
-abbrev pub IsMet : (Node → Result Given Fault) → Trail → List ℕ → Setting → Valid → Type 0
+abbrev pub IsMet : (Node → Result Given NodeFault) → Trail → List ℕ → Setting → Valid → Type 0
 IsMet met here bytes at (AnyOf es) = HasTrue met here bytes at es
 IsMet met here bytes at (AllOf es) = AllByRecursion (Gives met here bytes at true) es
 
 -- a value meets what the values of the member at this place must; `_` is that value
-abbrev pub MeetsMember : (Node → Result Given Fault) → Trail → List ℕ → Description → MemberRef → Setting → Value → Type 0
+abbrev pub MeetsMember : (Node → Result Given NodeFault) → Trail → List ℕ → Description → MemberRef → Setting → Value → Type 0
 MeetsMember met here bytes d r at v = (m : MemberOfType) (x : Valid) → slice_get (members_of d r.type_number) r.member ≡ Some m → valid_of m.kind ≡ Some x → IsMet met here bytes (record at { element = Made v }) x
 
 -- The same of what is at a path: bytes and an object by the member that reads them, where they are and with their number in a list; the
 -- value of what is calculated, in its object. Of a list nothing is asked.
-abbrev pub ObjectMeets : (Node → Result Given Fault) → List ℕ → Description → Trail → Object → Option Origin → Value → Type 0
+abbrev pub ObjectMeets : (Node → Result Given NodeFault) → List ℕ → Description → Trail → Object → Option Origin → Value → Type 0
 ObjectMeets met bytes d p o None v = Unit {0}
 ObjectMeets met bytes d p o (Some g) v = MeetsMember met p bytes d g.member (member_setting p p (last p) g o.start) v
 
-abbrev pub ValueMeets : (Node → Result Given Fault) → List ℕ → Description → Trail → Head → Value → Type 0
+abbrev pub ValueMeets : (Node → Result Given NodeFault) → List ℕ → Description → Trail → Head → Value → Type 0
 ValueMeets met bytes d p (heads.Absent at) v = Unit {0}
 ValueMeets met bytes d p (heads.Calc c) v = MeetsMember met p bytes d (record { type_number = c.object.type_number; member = c.member }) (holder_setting p (parent p) c.object) v
 ValueMeets met bytes d p (heads.Leaf l) v = MeetsMember met p bytes d l.origin.member (member_setting p p (last p) l.origin l.from) v
@@ -148,14 +147,14 @@ ValuesMeetChecks = (d : Description) (bytes : List ℕ) (opened : List Node) (p 
 -- ---- circles
 
 -- a node that the rule of another asked answered this fault, where each asked node has the answer that `met` gives
-pub record HasSource (d : Description) (bytes : List ℕ) (met : Node → Result Given Fault) (n : Node) (f : Fault) : Type 0 where
+pub record HasSource (d : Description) (bytes : List ℕ) (met : Node → Result Given NodeFault) (n : Node) (f : NodeFault) : Type 0 where
   pub node : Node
   pub asked : Contains (asks_of met n.path bytes (rule_of d n)) node
   pub answer : met node ≡ Err f
 
 -- No rule makes a circle: whatever the nodes that it asks answer, a fault of this kind is the answer of one of them.
 abbrev pub NoRuleMakesCircles : Type 0
-NoRuleMakesCircles = (d : Description) (bytes : List ℕ) (met : Node → Result Given Fault) (n : Node) (f : Fault) → answer_of met n.path bytes (rule_of d n) ≡ Err f → f.kind ≡ kinds.Circle → HasSource d bytes met n f
+NoRuleMakesCircles = (d : Description) (bytes : List ℕ) (met : Node → Result Given NodeFault) (n : Node) (p : Trail) → answer_of met n.path bytes (rule_of d n) ≡ Err (faults.Circle p) → HasSource d bytes met n (faults.Circle p)
 
 -- A way from a node on: each node of it is asked by the one before, while that one and all before it are open, and the last is open
 -- already; that one is of this path.
@@ -165,7 +164,7 @@ LeadsBack d bytes opened n (m ∷ way) p = (is_among node_number opened n ≡ fa
 
 -- A node answers the fault circle at a path just where such a way leads from it to an open node of this path.
 abbrev pub CirclesLeadBack : Type 0
-CirclesLeadBack = (d : Description) (bytes : List ℕ) (opened : List Node) (n : Node) (p : Trail) → AreDistinct (on (described d) bytes) opened → (from_nothing d bytes opened n ≡ Err (fault_at p kinds.Circle)) ↔ ((way : List Node) × LeadsBack d bytes opened n way p)
+CirclesLeadBack = (d : Description) (bytes : List ℕ) (opened : List Node) (n : Node) (p : Trail) → AreDistinct (on (described d) bytes) opened → (from_nothing d bytes opened n ≡ Err (faults.Circle p)) ↔ ((way : List Node) × LeadsBack d bytes opened n way p)
 
 -- ---- sources
 
@@ -270,7 +269,7 @@ pub record Follows (ms : List MemberOfType) (y x : ℕ) : Type 0 where
   pub apart : AllByRecursion (λ m. (m.name == x) ≡ false) (front ++ first ∷ between)
 
 -- the part of q to which this step leads ends here
-pub record EndsAt (met : Node → Result Given Fault) (q : Trail) (step : Step) (place : Place) : Type 0 where
+pub record EndsAt (met : Node → Result Given NodeFault) (q : Trail) (step : Step) (place : Place) : Type 0 where
   pub path : Trail
   pub is : child q step ≡ Some path
   pub is_last : Bool
@@ -293,7 +292,7 @@ BeginsAfter (Attribute f) e s = (AreBits f.choice → s ≡ e) × ((AreBits f.ch
 BeginsAfter _ e s = ⊥
 
 -- the part of q to which this step leads ends somewhere, and a member begins after that place
-pub record FollowsPart (met : Node → Result Given Fault) (q : Trail) (step : Step) (k : MemberKind) (s : Place) : Type 0 where
+pub record FollowsPart (met : Node → Result Given NodeFault) (q : Trail) (step : Step) (k : MemberKind) (s : Place) : Type 0 where
   pub place : Place
   pub ends : EndsAt met q step place
   pub begins : BeginsAfter k place s
@@ -322,7 +321,7 @@ ElementsTouch = (d : Description) (bytes : List ℕ) (opened : List Node) (p : T
 -- ---- counts
 
 -- the element j of l ends; it is the last just where j + 1 is c, and then it ends at this place
-pub record EndsAsOf (met : Node → Result Given Fault) (l : Trail) (j c : ℕ) (place : Place) : Type 0 where
+pub record EndsAsOf (met : Node → Result Given NodeFault) (l : Trail) (j c : ℕ) (place : Place) : Type 0 where
   pub path : Trail
   pub is : child l (Index j) ≡ Some path
   pub ends : Place
@@ -330,12 +329,12 @@ pub record EndsAsOf (met : Node → Result Given Fault) (l : Trail) (j c : ℕ) 
   pub last_ends : j + 1 ≡ c → ends ≡ place
 
 -- l has the elements i to c - 1, the last of which ends at this place
-pub record AreElements (met : Node → Result Given Fault) (l : Trail) (i c : ℕ) (place : Place) : Type 0 where
+pub record AreElements (met : Node → Result Given NodeFault) (l : Trail) (i c : ℕ) (place : Place) : Type 0 where
   pub some : i < c
   pub each : (j : ℕ) → i ≤ j → j < c → EndsAsOf met l j c place
 
 -- l is a list without elements, which ends where it begins
-pub record IsEmptyList (met : Node → Result Given Fault) (l : Trail) (c : ℕ) (place : Place) : Type 0 where
+pub record IsEmptyList (met : Node → Result Given NodeFault) (l : Trail) (c : ℕ) (place : Place) : Type 0 where
   pub list : lists.List
   pub answered : met (head_node l) ≡ Ok (givens.Head (heads.List list))
   pub empty : list.is_empty ≡ true
@@ -420,18 +419,18 @@ LiesIn bytes w (heads.List g) = IsBetween bytes w (byte_of g.start) × (g.stream
 
 -- The stream in which a member of an object, at the path p, is read: of a parse instance with `io` the one that its `io` answers,
 -- evaluated where its object begins; of any other member the object's own.
-abbrev pub IsStreamFor : (Node → Result Given Fault) → List ℕ → Trail → Object → MemberKind → Stream → Type 0
+abbrev pub IsStreamFor : (Node → Result Given NodeFault) → List ℕ → Trail → Object → MemberKind → Stream → Type 0
 IsStreamFor met bytes p o (ParseInstance e (Some io) f) w = answer_of met p bytes (expression (instance_setting p (parent p) o) io) ≡ Ok (values.Stream w)
 IsStreamFor met bytes p o _ w = o.stream ≡ w
 
 -- the stream in which what a step of an object or a list leads to is read: an element in its list's
-abbrev pub IsReadIn : Description → (Node → Result Given Fault) → List ℕ → Trail → Head → Option Step → Stream → Type 0
+abbrev pub IsReadIn : Description → (Node → Result Given NodeFault) → List ℕ → Trail → Head → Option Step → Stream → Type 0
 IsReadIn d met bytes p (heads.Object o) (Some (Name x)) w = (s : Sought) × (sought x 0 None (members_of d o.type_number) ≡ Some s) × IsStreamFor met bytes p o s.kind w
 IsReadIn d met bytes p (heads.List g) (Some (Index i)) w = g.stream ≡ w
 IsReadIn d met bytes p _ step w = ⊥
 
 -- this is true of the stream in which what is at a path is read
-pub record IsHeld (d : Description) (bytes : List ℕ) (met : Node → Result Given Fault) (p : Trail) (P : Stream → Type 0) : Type 0 where
+pub record IsHeld (d : Description) (bytes : List ℕ) (met : Node → Result Given NodeFault) (p : Trail) (P : Stream → Type 0) : Type 0 where
   pub holder : Head
   pub answered : met (head_node (parent p)) ≡ Ok (givens.Head holder)
   pub stream : Stream
@@ -439,18 +438,18 @@ pub record IsHeld (d : Description) (bytes : List ℕ) (met : Node → Result Gi
   pub lies : P stream
 
 -- the condition of an instance of an object, evaluated where the object begins, is false
-abbrev pub IsUnmet : (Node → Result Given Fault) → List ℕ → Trail → Object → MemberKind → Type 0
+abbrev pub IsUnmet : (Node → Result Given NodeFault) → List ℕ → Trail → Object → MemberKind → Type 0
 IsUnmet met bytes p o (ParseInstance e io f) = answer_of met p bytes (holds (instance_setting p (parent p) o) f.condition) ≡ Ok false
 IsUnmet met bytes p o (ValueInstance v) = answer_of met p bytes (holds (instance_setting p (parent p) o) v.condition) ≡ Ok false
 IsUnmet met bytes p o _ = ⊥
 
 -- this step of an object leads to such an instance
-abbrev pub IsUnmetAt : Description → (Node → Result Given Fault) → List ℕ → Trail → Object → Option Step → Type 0
+abbrev pub IsUnmetAt : Description → (Node → Result Given NodeFault) → List ℕ → Trail → Object → Option Step → Type 0
 IsUnmetAt d met bytes p o (Some (Name x)) = (s : Sought) × (sought x 0 None (members_of d o.type_number) ≡ Some s) × IsUnmet met bytes p o s.kind
 IsUnmetAt d met bytes p o _ = ⊥
 
 -- what is at a path is an instance, of the object above, whose condition is false: it lies nowhere
-pub record IsLeftOut (d : Description) (bytes : List ℕ) (met : Node → Result Given Fault) (p : Trail) (h : Head) : Type 0 where
+pub record IsLeftOut (d : Description) (bytes : List ℕ) (met : Node → Result Given NodeFault) (p : Trail) (h : Head) : Type 0 where
   pub nowhere : h ≡ heads.Absent None
   pub object : Object
   pub answered : met (head_node (parent p)) ≡ Ok (givens.Head (heads.Object object))

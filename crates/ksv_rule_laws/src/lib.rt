@@ -25,7 +25,7 @@
 //! - `Circles`: a circle comes from nodes that ask for each other, and from no rule
 //! - `Counting`: the count of a list is that of the elements that end
 //! - `Enclosing`: what is read is in the stream of the object or list that holds it
-//! - `Expressions`: what an expression gives, by its parts, and that none fails as a circle
+//! - `Expressions`: what an expression gives, by its parts
 //! - `Following`: an attribute begins after the one before it
 //! - `Forms`: an answer has its node's form, and a value fits its head and meets what it must
 //! - `Members`: how the members of a description read, and the case that a switch chose

@@ -17,11 +17,12 @@ use Rattle.ksv_memo_rules.specs.Evaluation.{is_among, Told, only_circle, after, 
 use Rattle.ksv_memo_rules.proofs.Evals.{tells-free}
 use Rattle.ksv_nodes.specs.declared.node.Node.{Node}
 use Rattle.ksv_nodes.specs.declared.given.Given.{Given}
+use Rattle.ksv_nodes.specs.declared.node_fault.NodeFault.{NodeFault}
 use Rattle.ksv_nodes.specs.Numbers.{node_number, node_bound, node_number-one, node_number-below}
 use Rattle.ksv_nodes.specs.Reading.{Reading, Seen, look}
 use Rattle.ksv_nodes.specs.Rule.{Rule, Of, See, There}
 use Rattle.ksv_nodes.specs.Turning.{State, fault_at, raised, seen_in, turns}
-use Rattle.ksv_nodes.specs.Truth.{answer_of, asks_of, uses_of, with_given, with_seen, behind_given, behind_seen}
+use Rattle.ksv_nodes.specs.Truth.{answer_of, plain_answer, asks_of, uses_of, with_given, with_seen, behind_given, behind_seen}
 use Rattle.ksv_nodes.proofs.Truth.{ends, needs}
 use Rattle.ksv_rule_meaning.specs.Meaning.{rule_of}
 use Rattle.ksv_rule_meaning.specs.FromNothing.{circle, answer_within, from_nothing}
@@ -48,7 +49,7 @@ module _ (d : Description) (bytes : List ℕ) (n : Node) (ask : Node → Outcome
   abbrev w : Standing Node (Result Given Fault)
   w = on (described d) bytes
 
-  abbrev met : Node → Result Given Fault
+  abbrev met : Node → Result Given NodeFault
   met m = flattened (ask m)
 
   abbrev at : List (Result Given Fault) → List Use → State
@@ -79,7 +80,8 @@ module _ (d : Description) (bytes : List ℕ) (n : Node) (ask : Node → Outcome
   moved t u us p e h = rw e h
 
   -- the rule is done
-  ended_meets : (a : Result Given Fault) (us vs : List Use) (p : Rule Given) → a ≡ answer_of met n.path bytes p → [] ≡ asks_of met n.path bytes p → us ≡ vs ++ uses_of met n.path bytes p → Meets (record { outcome = Answered a; asked = []; uses = us }) vs p
+  ended_meets : (a : Result Given Fault) (us vs : List Use) (p : Rule Given) → flattened (Answered a) ≡ answer_of met n.path bytes p
+      → [] ≡ asks_of met n.path bytes p → us ≡ vs ++ uses_of met n.path bytes p → Meets (record { outcome = Answered a; asked = []; uses = us }) vs p
   ended_meets a us vs p answer asks uses = record { outcome = answer; asked = asks; uses = same_uses us (vs ++ uses_of met n.path bytes p) uses }
 
   -- the node that is needed has this outcome
@@ -174,7 +176,8 @@ module _ (d : Description) (bytes : List ℕ) where
   abbrev rules : Standing Node (Result Given Fault)
   rules = on (described d) bytes
 
-  level_direct : (b : Bool) (n : Node) (ask : Node → Outcome Node (Result Given Fault)) (met' : Node → Result Given Fault) → ((m : Node) → flattened (ask m) ≡ met' m)
+  level_direct : (b : Bool) (n : Node) (ask : Node → Outcome Node (Result Given Fault)) (met' : Node → Result Given NodeFault)
+      → ((m : Node) → flattened (ask m) ≡ met' m)
       → flattened (cond b (only_circle n) (told rules ask n (suc rules.replies) [])).outcome ≡ cond b (circle n) (answer_of met' n.path bytes (rule_of d n))
   level_direct true n ask met' same = refl
   level_direct false n ask met' same = (meets_rule d bytes n ask).outcome ∙ ap (λ f. answer_of f n.path bytes (rule_of d n)) (fun_ext same)
@@ -243,7 +246,7 @@ module _ (d : Description) (bytes : List ℕ) (met : Node → Result Given Fault
   abbrev last_state : State
   last_state = record { here = n.path; bytes = bytes; replies = []; uses = uses_of met n.path bytes (rule_of d n) }
 
-  ends_so : resumed d bytes n (map met all_asked) ≡ ended (answer_of met n.path bytes (rule_of d n)) last_state
+  ends_so : resumed d bytes n (map met all_asked) ≡ ended (plain_answer met n.path bytes (rule_of d n)) last_state
   ends_so = ap (resumed d bytes n) (sym (append-nil (map met all_asked))) ∙ ends met n.path bytes (rule_of d n) [] []
 
   needs_so : (i : ℕ) → i < length all_asked → NeedsNext d bytes met n i
@@ -253,10 +256,10 @@ module _ (d : Description) (bytes : List ℕ) (met : Node → Result Given Fault
 
   pub truth_met : MeetsTruth d bytes met n
   truth_met = record {
-    step = ap step_of ends_so ∙ ended_step (answer_of met n.path bytes (rule_of d n)) last_state;
-    uses = ap (λ (r : Ran Node Fault State Given). (behind r).uses) ends_so ∙ ended_uses (answer_of met n.path bytes (rule_of d n)) last_state;
+    step = ap step_of ends_so ∙ ended_step (plain_answer met n.path bytes (rule_of d n)) last_state;
+    uses = ap (λ (r : Ran Node Fault State Given). (behind r).uses) ends_so ∙ ended_uses (plain_answer met n.path bytes (rule_of d n)) last_state;
     goes_on = needs_so;
   }
 
 pub next_meets_truth : NextMeetsTruth
-next_meets_truth d bytes opened n = truth_met d bytes (from_nothing d bytes (n ∷ opened)) n
+next_meets_truth d bytes met n = truth_met d bytes met n

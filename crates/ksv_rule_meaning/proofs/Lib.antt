@@ -2,5 +2,4 @@
 -- The lemmas of this crate.
 pub mod Direct
 pub mod Integers
-pub mod Answering
 pub mod Completing

@@ -1,6 +1,6 @@
 -- Evaluation from nothing is said twice: for every engine by replies (`ksv_memo`), and for a description by direct recursion on
 -- its rules (`FromNothing`). Here is what it means that both are the same. These laws are this project's own.
-use Rattle.std.specs.Prelude.{◌≡◌, ◌↔◌, ℕ, ◌<◌, false, List, ◌∷◌, length, map, take, slice_get, Some, Contains, Result}
+use Rattle.std.specs.Prelude.{◌≡◌, ◌↔◌, ℕ, ◌<◌, false, List, ◌∷◌, length, map, take, slice_get, Some, Contains, Result, Ok, Err}
 use Rattle.ksv_bytes.specs.declared.uses.Use.{Use}
 use Rattle.ksv_expr_value.specs.declared.fault.Fault.{Fault}
 use Rattle.ksv_desc.specs.Description.{Description}
@@ -12,15 +12,19 @@ use Rattle.ksv_memo_rules.specs.Evaluation.{is_among, tells}
 use Rattle.ksv_memo_rules.specs.Right.{AreDistinct}
 use Rattle.ksv_nodes.specs.declared.node.Node.{Node}
 use Rattle.ksv_nodes.specs.declared.given.Given.{Given}
+use Rattle.ksv_nodes.specs.declared.node_fault.NodeFault.{NodeFault}
+use Rattle.ksv_nodes.specs.declared.node_fault.NodeFault.TheVariants as faults
 use Rattle.ksv_nodes.specs.Numbers.{node_number}
-use Rattle.ksv_nodes.specs.Truth.{answer_of, asks_of, uses_of}
+use Rattle.ksv_nodes.specs.Truth.{answer_of, plain_answer, asks_of, uses_of}
 use Rattle.ksv_rule_meaning.specs.Meaning.{rule_of}
 use Rattle.ksv_rule_meaning.specs.FromNothing.{circle, from_nothing, asks, uses}
 use Rattle.ksv_rule_meaning.specs.Described.{described}
 
--- an outcome as an answer: a node that was asked while it was open is the fault circle at its path
-abbrev pub flattened : Outcome Node (Result Given Fault) → Result Given Fault
-flattened (Answered a) = a
+-- an outcome as an answer: a fault of the rule's is one that it raised, and a node that was asked while it was open is the fault
+-- circle at its path
+abbrev pub flattened : Outcome Node (Result Given Fault) → Result Given NodeFault
+flattened (Answered (Ok g)) = Ok g
+flattened (Answered (Err f)) = Err (faults.Raised f)
 flattened (Circle c) = circle c
 
 -- the same uses, in whatever order and however often
@@ -73,11 +77,11 @@ module _ (d : Description) (bytes : List ℕ) (met : Node → Result Given Fault
 
   -- with all of them it is done, and has used just its uses
   pub record MeetsTruth : Type 0 where
-    pub step : (described d).follow bytes n (map met asked_by) ≡ Done (answer_of met n.path bytes (rule_of d n))
+    pub step : (described d).follow bytes n (map met asked_by) ≡ Done (plain_answer met n.path bytes (rule_of d n))
     pub uses : (described d).added bytes n (map met asked_by) ≡ uses_of met n.path bytes (rule_of d n)
     pub goes_on : (i : ℕ) → i < length asked_by → NeedsNext i
 
--- Where the replies are true, a node asks one node after the other of those that its rule asks, and is then done with the answer
--- of its rule.
+-- Whatever nodes answer, but for circles, which are no replies: where the replies are true, a node asks one node after the other of
+-- those that its rule asks, and is then done with the answer of its rule.
 abbrev pub NextMeetsTruth : Type 0
-NextMeetsTruth = (d : Description) (bytes : List ℕ) (opened : List Node) (n : Node) → MeetsTruth d bytes (from_nothing d bytes (n ∷ opened)) n
+NextMeetsTruth = (d : Description) (bytes : List ℕ) (met : Node → Result Given Fault) (n : Node) → MeetsTruth d bytes met n

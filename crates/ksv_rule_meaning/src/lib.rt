@@ -40,7 +40,6 @@
 //!
 //! Lemmas (`proofs/`):
 //!
-//! - `Answering`: a node has an answer by replies if each node that it asks has one, and only then
 //! - `Completing`: what an engine completes, touches and counts is what the direct definitions say
 //! - `Direct`: evaluation by replies is the direct one
 //! - `Integers`: integers of bytes one by one, and of two slices

@@ -35,8 +35,7 @@ use Rattle.ksv_rule_meaning.specs.Direct.{IsDirect}
 use Rattle.ksv_rule_meaning.specs.FromNothing.{asks as asks_of_node}
 use Rattle.ksv_rule_meaning.specs.Lemmas.Lawful.{described_lawful}
 use Rattle.ksv_rule_meaning.proofs.Direct.{asks_are_direct}
-use Rattle.ksv_questions.specs.Asking.{Heard}
-use Rattle.ksv_questions.specs.Engines.{HasAsked, HasAskedSome, completed_by, is_circle, meets_circle as meets_circle_by_replies, turns_with, world}
+use Rattle.ksv_questions.specs.Engines.{HasAsked, HasAskedSome, Ruled, completed_by, is_circle, meets_circle as meets_circle_by_replies, turns_with, world}
 use Rattle.ksv_questions.proofs.Asked.{some_none, some_of}
 use Rattle.ksv_questions.proofs.Fresh.{among_more, fresh_same}
 use Rattle.ksv_questions.specs.Answers.{asking, asks}
@@ -131,7 +130,7 @@ first_and : (f : Node → ℕ) (n : Node) (ns : List Node) → f n + sum_by f ns
 first_and f n ns = let rest = sum_from f (0 + f n) ns in omega arith
 
 module _ (d : Description) (b : List ℕ) where
-  abbrev w : Standing Node Heard
+  abbrev w : Standing Node Ruled
   w = world d b
 
   settled : IsSettled w
@@ -144,7 +143,7 @@ module _ (d : Description) (b : List ℕ) where
   unfolding meets_circle_by_replies
   circles_are [] = refl
   circles_are (n ∷ ns) =
-      ap (λ c. c || meets_circle_by_replies w ns) (circle_is (tells w [] n).outcome (meets_circle d b [] n) (answered_direct d b [] n alone))
+      ap (λ c. c || meets_circle_by_replies w ns) (circle_is (tells w [] n).outcome (meets_circle d b [] n) (answered_direct d b [] n))
       ∙ ap (λ c. meets_circle d b [] n || c) (circles_are ns)
 
   costs_are : (ns : List Node) → costs w ns ≡ sum_by (calls d b) ns
@@ -182,7 +181,7 @@ module _ (d : Description) (b : List ℕ) where
         ∙ counted_is (sum_by (calls d b) (fresh node_number kept (all_completed d b ns))))
 
   -- what kept nodes ask is kept
-  asks_kept : (now : List Node) (es : List (Entry Node Heard)) → AllByRecursion (IsRightEntry w now) es
+  asks_kept : (now : List Node) (es : List (Entry Node Ruled)) → AllByRecursion (IsRightEntry w now) es
       → AllByRecursion (λ n. AllByRecursion (λ a. is_among node_number now a ≡ true) (asks_of_node d b [] n)) (nodes_of es)
   asks_kept now [] h = tt
   asks_kept now (e ∷ es) h =
@@ -207,14 +206,15 @@ module _ (d : Description) (b : List ℕ) where
 
   -- ---- sessions
 
-  pub asked_holds : (ns : List Node) (m : Memory) (old new : Memo Node Heard) (s : Explored) → AreTheSame (nodes_of old.kept) m.kept → old.turns ≡ Some 0 → HasAsked w ns old new
+  pub asked_holds : (ns : List Node) (m : Memory) (old new : Memo Node Ruled) (s : Explored) → AreTheSame (nodes_of old.kept) m.kept → old.turns ≡ Some 0
+      → HasAsked w ns old new
       → s.kept ≡ nodes_of new.kept → s.turns ≡ new.turns → Holds s (after_asking d b ns m)
   asked_holds ns m old new s same begun asked kept turns = record {
     kept = subst (λ ks. AreTheSame ks (kept_with d b m.kept ns)) (sym kept) (kept_more (nodes_of old.kept) m.kept ns same (nodes_of new.kept) asked.kept);
     turns = turns ∙ asked.turns ∙ ap (turns_with w (nodes_of old.kept) ns) begun ∙ turns_are (nodes_of old.kept) m.kept ns same;
   }
 
-  pub asked_some : (ns : List Node) (m : Memory) (old new : Memo Node Heard) (s : Explored) → AreTheSame (nodes_of old.kept) m.kept → HasAskedSome w ns old new
+  pub asked_some : (ns : List Node) (m : Memory) (old new : Memo Node Ruled) (s : Explored) → AreTheSame (nodes_of old.kept) m.kept → HasAskedSome w ns old new
       → s.kept ≡ nodes_of new.kept → s.turns ≡ None → HoldsSome d b ns m s
   asked_some ns m old new s same asked kept turns =
       let P : List Node → Type 0 = λ ks. HoldsSome d b ns m (record s { kept = ks }) in
@@ -229,15 +229,15 @@ module _ (d : Description) (b : List ℕ) where
 -- ---- the same of a session, by its view
 
 -- a session's view
-abbrev pub seen : Pieces → List ℕ → Memo Node Heard → Option ℕ → Explored
+abbrev pub seen : Pieces → List ℕ → Memo Node Ruled → Option ℕ → Explored
 seen p b e turns = record { pieces = p; bytes = b; kept = nodes_of e.kept; turns = turns }
 
-module _ (p : Pieces) (b : List ℕ) (e : Memo Node Heard) (turns : Option ℕ) (x : Explored) (is : seen p b e turns ≡ x) (m : Memory) (h : Holds x m) where
+module _ (p : Pieces) (b : List ℕ) (e : Memo Node Ruled) (turns : Option ℕ) (x : Explored) (is : seen p b e turns ≡ x) (m : Memory) (h : Holds x m) where
   held : AreTheSame (nodes_of e.kept) m.kept
   held = subst (λ (s : Explored). AreTheSame s.kept m.kept) (sym is) h.kept
 
   -- a question that was answered
-  pub answered_holds : (ask : Description → List ℕ → List Node) (begun new : Memo Node Heard) (now : Option ℕ) → begun.kept ≡ e.kept → begun.turns ≡ Some 0
+  pub answered_holds : (ask : Description → List ℕ → List Node) (begun new : Memo Node Ruled) (now : Option ℕ) → begun.kept ≡ e.kept → begun.turns ≡ Some 0
       → HasAsked (world (plain_pieces p) b) (ask (plain_pieces p) b) begun new → now ≡ new.turns → Holds (seen p b new now) (after_asking (description_of x) x.bytes (ask (description_of x) x.bytes) m)
   unfolding description_of
   answered_holds ask begun new now same zeroed asked turned =
@@ -246,7 +246,7 @@ module _ (p : Pieces) (b : List ℕ) (e : Memo Node Heard) (turns : Option ℕ) 
       subst P is (asked_holds (plain_pieces p) b (ask (plain_pieces p) b) m begun new (seen p b new now) old zeroed asked refl turned)
 
   -- one that was refused memory
-  pub refused_holds : (ask : Description → List ℕ → List Node) (begun new : Memo Node Heard) → begun.kept ≡ e.kept
+  pub refused_holds : (ask : Description → List ℕ → List Node) (begun new : Memo Node Ruled) → begun.kept ≡ e.kept
       → HasAskedSome (world (plain_pieces p) b) (ask (plain_pieces p) b) begun new → HoldsSome (description_of x) x.bytes (ask (description_of x) x.bytes) m (seen p b new None)
   unfolding description_of
   refused_holds ask begun new same asked =
@@ -255,12 +255,12 @@ module _ (p : Pieces) (b : List ℕ) (e : Memo Node Heard) (turns : Option ℕ) 
       subst P is (asked_some (plain_pieces p) b (ask (plain_pieces p) b) m begun new (seen p b new None) old asked refl refl)
 
   -- one whose reply was refused memory once all was asked
-  pub unknown_holds : (ask : Description → List ℕ → List Node) (begun new : Memo Node Heard) → begun.kept ≡ e.kept
+  pub unknown_holds : (ask : Description → List ℕ → List Node) (begun new : Memo Node Ruled) → begun.kept ≡ e.kept
       → HasAsked (world (plain_pieces p) b) (ask (plain_pieces p) b) begun new → HoldsSome (description_of x) x.bytes (ask (description_of x) x.bytes) m (seen p b new None)
   unknown_holds ask begun new same asked = refused_holds ask begun new same (some_of (world (plain_pieces p) b) begun new (ask (plain_pieces p) b) asked)
 
   -- an edit that was done
-  pub edited_holds : (edit : List ℕ → Result (List ℕ) EditRefusal) (change : Change) (after : List ℕ) (new : Memo Node Heard) → edit b ≡ Ok after
+  pub edited_holds : (edit : List ℕ → Result (List ℕ) EditRefusal) (change : Change) (after : List ℕ) (new : Memo Node Ruled) → edit b ≡ Ok after
       → AreExactly (world (plain_pieces p) b) (nodes_of new.kept) (left_after (world (plain_pieces p) b) change (nodes_of e.kept))
       → Holds (seen p after new turns) (after_edit (description_of x) x.bytes change (edit x.bytes) m)
   unfolding description_of

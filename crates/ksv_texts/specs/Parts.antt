@@ -6,12 +6,13 @@ use Rattle.serde_json.specs.Find.{of_integer}
 use Rattle.ksv_desc.specs.Description.{Description}
 use Rattle.ksv_expr_value.specs.Trail.{Trail}
 use Rattle.ksv_expr_value.specs.contracts.path.PathPartialEq.TheImpl.{ghosts as path_tests}
-use Rattle.ksv_expr_value.specs.declared.fault.Fault.{Fault}
 use Rattle.ksv_expr_value.specs.declared.fault.FaultKind.{FaultKind}
 use Rattle.ksv_expr_value.specs.declared.fault.FaultKind.TheVariants as kinds
 use Rattle.ksv_expr_value.specs.declared.value.Value.{Value}
 use Rattle.ksv_expr_value.specs.declared.value.Value.TheVariants as values
-use Rattle.ksv_nodes.specs.Turning.{fault_at}
+use Rattle.ksv_nodes.specs.declared.node_fault.NodeFault.{NodeFault}
+use Rattle.ksv_nodes.specs.declared.node_fault.NodeFault.TheVariants as faults
+use Rattle.ksv_nodes.specs.NodeFaults.{fault_path, raised_at}
 use Rattle.ksv_texts.specs.Texts.{fault_words, member_name}
 
 -- an object of one member
@@ -19,23 +20,27 @@ abbrev pub one_member : List ℕ → Data → Data
 one_member key d = object (member key d no_members)
 
 -- a fault by its words
-unfoldable pub fault_part : Description → Fault → Data
+unfoldable pub fault_part : Description → NodeFault → Data
 fault_part d f = one_member (codes "fault") (string (fault_words d f))
 
-abbrev pub is_absence : FaultKind → Bool
-is_absence kinds.Absent = true
-is_absence _ = false
+abbrev pub is_absent : FaultKind → Bool
+is_absent kinds.Absent = true
+is_absent _ = false
+
+abbrev pub is_absence : NodeFault → Bool
+is_absence (faults.Raised f) = is_absent f.kind
+is_absence (faults.Circle p) = false
 
 -- what is absent at the part's own path is null
-unfoldable pub failed_part : Description → Trail → Fault → Data
-failed_part d p f = if is_absence f.kind && path_tests.eq f.path p then null else fault_part d f
+unfoldable pub failed_part : Description → Trail → NodeFault → Data
+failed_part d p f = if is_absence f && path_tests.eq (fault_path f) p then null else fault_part d f
 
 -- an answer that doesn't fit its node, which never occurs
 abbrev pub misfit_part : Description → Trail → Data
-misfit_part d p = fault_part d (fault_at p kinds.BadType)
+misfit_part d p = fault_part d (raised_at p kinds.BadType)
 
 abbrev pub too_long_part : Description → Trail → Data
-too_long_part d p = fault_part d (fault_at p kinds.PathTooLong)
+too_long_part d p = fault_part d (raised_at p kinds.PathTooLong)
 
 -- a number of an enum, by its enum's id and its own
 unfoldable pub member_part : Description → ℕ → ℤ → Data

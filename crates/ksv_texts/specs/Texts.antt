@@ -6,9 +6,9 @@ use Rattle.hex.specs.Hex.{encode_lower}
 use Rattle.serde_json.specs.Data.{string}
 use Rattle.serde_json.specs.Written.{compact_text}
 use Rattle.ksv_desc.specs.Description.{Description, enum_id, member_id, name}
-use Rattle.ksv_expr_value.specs.Faults.{name_of}
 use Rattle.ksv_expr_value.specs.Places.{Place, byte_in, bit_in}
-use Rattle.ksv_expr_value.specs.declared.fault.Fault.{Fault}
+use Rattle.ksv_nodes.specs.declared.node_fault.NodeFault.{NodeFault}
+use Rattle.ksv_nodes.specs.NodeFaults.{fault_name, fault_path}
 use Rattle.ksv_paths.specs.PathTexts.{path_text}
 use Rattle.ksv_texts.specs.declared.refusal.Refusal.{Refusal}
 use Rattle.ksv_texts.specs.declared.refusal.Refusal.TheVariants as refusals
@@ -42,10 +42,10 @@ unfoldable pub place_text : Place → List ℕ
 place_text p = if bit_in p == 0 then decimal (byte_in p) else decimal (byte_in p) ++ codes "." ++ decimal (bit_in p)
 
 -- a fault by its kind and the path where it arose
-unfoldable pub fault_words : Description → Fault → List ℕ
-fault_words d f = name_of f.kind ++ codes " at " ++ path_text d f.path
+unfoldable pub fault_words : Description → NodeFault → List ℕ
+fault_words d f = fault_name f ++ codes " at " ++ path_text d (fault_path f)
 
-unfoldable pub fault_text : Description → Fault → List ℕ
+unfoldable pub fault_text : Description → NodeFault → List ℕ
 fault_text d f = codes "fault " ++ fault_words d f
 
 abbrev pub refusal_text : Refusal → List ℕ

@@ -10,7 +10,8 @@ use crate::refusal::Refusal;
 use itoa::Buffer as Digits;
 use ksv_bytes::{Buffer, Window};
 use ksv_desc::Desc;
-use ksv_expr_value::{Fault, Integer, Path, Place, Step, Text};
+use ksv_expr_value::{Integer, Path, Place, Step, Text};
+use ksv_nodes::NodeFault;
 use serde_json::Value as Json;
 use std::alloc::{AllocError, Global};
 
@@ -50,16 +51,20 @@ fn push_path(text: &mut String, desc: &Desc, path: &Path) -> Result<(), AllocErr
 
 /// Appends a fault: its kind, and the path where it arose.
 #[tactic(auto, unfolding(crate::specs::Texts::fault_words))]
-fn push_fault(text: &mut String, desc: &Desc, fault: &Fault) -> Result<(), AllocError>
+fn push_fault(text: &mut String, desc: &Desc, fault: &NodeFault) -> Result<(), AllocError>
     ensures { OnOk result (string_bytes text.new ≡ string_bytes text.old ++ fault_words (plain_pieces desc.now) fault.now) }
 {
-    text.push_str(fault.kind.name())?;
+    text.push_str(fault.name())?;
     text.push_str(" at ")?;
-    push_path(text, desc, &fault.path)
+    push_path(text, desc, fault.path())
 }
 
 /// The text of a fault: its kind, and the path where it arose.
-pub(crate) fn fault_words(alloc: Global, desc: &Desc, fault: &Fault) -> Result<String, AllocError>
+pub(crate) fn fault_words(
+    alloc: Global,
+    desc: &Desc,
+    fault: &NodeFault,
+) -> Result<String, AllocError>
     ensures { IfOk result (λ text. string_bytes text ≡ fault_words (plain_pieces desc.now) fault.now) }
 {
     let mut text = String::new(alloc);
@@ -69,7 +74,7 @@ pub(crate) fn fault_words(alloc: Global, desc: &Desc, fault: &Fault) -> Result<S
 
 /// The reply to a question that a fault prevents, its LF aside.
 #[tactic(auto, unfolding(crate::specs::Texts::fault_text))]
-pub fn fault_text(alloc: Global, desc: &Desc, fault: &Fault) -> Result<String, AllocError>
+pub fn fault_text(alloc: Global, desc: &Desc, fault: &NodeFault) -> Result<String, AllocError>
     ensures { IfOk result (λ text. string_bytes text ≡ fault_text (plain_pieces desc.now) fault.now) }
 {
     let mut text = String::from_str(alloc, "fault ")?;

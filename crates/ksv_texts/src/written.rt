@@ -5,13 +5,14 @@ ghost use Rattle.serde_json.specs.Data.{number as json_number, put};
 ghost use Rattle.serde_json.specs.Find.{of_integer};
 ghost use Rattle.serde_json.specs.View.{members_view, view};
 ghost use Rattle.ksv_desc.specs.Whole.{plain_pieces};
-ghost use Rattle.ksv_nodes.specs.Turning.{fault_at};
-ghost use Rattle.ksv_texts.specs.Parts.{failed_part, fault_part, is_absence, member_part, one_member, plain_part};
+ghost use Rattle.ksv_nodes.specs.NodeFaults.{raised_at};
+ghost use Rattle.ksv_texts.specs.Parts.{failed_part, fault_part, is_absence, is_absent, member_part, one_member, plain_part};
 
 use crate::text::{fault_words, member_name, window};
 use ksv_bytes::Buffer;
 use ksv_desc::Desc;
 use ksv_expr_value::{Fault, FaultKind, Integer, Path, Value};
+use ksv_nodes::NodeFault;
 use serde_json::{Map, Number, Value as Json};
 use std::alloc::{AllocError, Global};
 
@@ -49,7 +50,7 @@ fn one_member(alloc: Global, key: &str, json: Json) -> Result<Json, AllocError>
 
 /// The part of a fault.
 #[tactic(auto, unfolding(crate::specs::Parts::fault_part))]
-pub fn fault_part(alloc: Global, desc: &Desc, fault: &Fault) -> Result<Json, AllocError>
+pub fn fault_part(alloc: Global, desc: &Desc, fault: &NodeFault) -> Result<Json, AllocError>
     ensures { IfOk result (λ json. view json ≡ fault_part (plain_pieces desc.now) fault.now) }
 {
     let words = fault_words(alloc, desc, fault)?;
@@ -63,19 +64,29 @@ pub fn kind_part(
     path: &Path,
     kind: FaultKind,
 ) -> Result<Json, AllocError>
-    ensures { IfOk result (λ json. view json ≡ fault_part (plain_pieces desc.now) (fault_at path.now kind)) }
+    ensures { IfOk result (λ json. view json ≡ fault_part (plain_pieces desc.now) (raised_at path.now kind)) }
 {
     let path = path.copy(alloc)?;
-    fault_part(alloc, desc, &Fault { kind, path })
+    fault_part(alloc, desc, &NodeFault::Raised(Fault { kind, path }))
 }
 
 /// Whether something is absent.
-fn is_absence(kind: FaultKind) -> bool
-    ensures { result ≡ is_absence kind }
+fn is_absent(kind: FaultKind) -> bool
+    ensures { result ≡ is_absent kind }
 {
     match kind {
         FaultKind::Absent => true,
         _ => false,
+    }
+}
+
+/// Whether a fault is that something is absent.
+fn is_absence(fault: &NodeFault) -> bool
+    ensures { result ≡ is_absence fault.now }
+{
+    match fault {
+        NodeFault::Raised(fault) => is_absent(fault.kind),
+        NodeFault::Circle(_) => false,
     }
 }
 
@@ -85,11 +96,11 @@ pub fn failed_part(
     alloc: Global,
     desc: &Desc,
     path: &Path,
-    fault: &Fault,
+    fault: &NodeFault,
 ) -> Result<Json, AllocError>
     ensures { IfOk result (λ json. view json ≡ failed_part (plain_pieces desc.now) path.now fault.now) }
 {
-    if is_absence(fault.kind) && fault.path == *path {
+    if is_absence(fault) && *fault.path() == *path {
         return Ok(Json::Null);
     }
     fault_part(alloc, desc, fault)

@@ -2,7 +2,7 @@ use Rattle.std.proofs.Common.{◌∙◌, Err, None, subst, sym}
 use Rattle.std.proofs.lemmas.Result.{err_from_is_err_and}
 use Rattle.ksv_expr_value.specs.declared.fault.FaultKind.TheVariants.{PathTooLong}
 use Rattle.ksv_nodes.specs.Rule.{rest_node}
-use Rattle.ksv_nodes.specs.Turning.{fault_at}
+use Rattle.ksv_nodes.specs.NodeFaults.{raised_at}
 use Rattle.ksv_questions.specs.Code.{Runs, bytes_of, desc_of}
 use Rattle.ksv_questions.specs.Questions.{first_asked, in_rest}
 use Rattle.ksv_questions.proofs.AskLemmas.{asked_ended, asked_failed}
@@ -16,7 +16,7 @@ returns-in_default g c =
     let b = bytes_of c.args.file.now in
     subst (λ o. Runs d b (first_asked c.args.path.now c.args.list.now o) (λ n. n) c.args.engine.now c.args.engine.now (Err c.fault_at.result)) (sym c.in_default.is ∙ c.in_ok-first.ensures)
     (runs_settled d b (first_asked c.args.path.now c.args.list.now None) (λ n. n) c.args.engine.now (Err c.fault_at.result) c.requires
-    (settled_fault d b (fault_at c.args.list.now PathTooLong) (λ n. n) c.fault_at.result c.fault_at.ensures))
+    (settled_fault d b (raised_at c.args.list.now PathTooLong) (λ n. n) c.fault_at.result c.fault_at.ensures))
 
 pub returns-in_err-given : goal.returns-in_err-given
 unfolding first_asked

@@ -1,7 +1,9 @@
-use Rattle.std.proofs.Common.{length, sym, ◌∙◌, ap, arith}
+use Rattle.std.proofs.Common.{◌≡◌, inl, ◌≤◌, length, sym, ◌∙◌, ap, subst, arith}
 use Rattle.std.proofs.lemmas.List.{get_or_read}
+use Rattle.ksv_memo_links.specs.Shelved.{row}
 use Rattle.ksv_memo_links.specs.Linked.{item_at}
-use Rattle.ksv_memo_links.proofs.Items.{lists-length, cursor}
+use Rattle.ksv_memo_links.specs.Chained.{Chained}
+use Rattle.ksv_memo_links.proofs.Items.{lists-length, cursor, no-item}
 use Rattle.ksv_memo_links.proofs.chains.Chains.first_item.Goals as goal
 
 pub index-requires : goal.index-requires
@@ -19,3 +21,8 @@ returns-clause-result c =
     get_or_read c.self.inside.first.items c.args.list c.index.result.now (omega arith) c.index.ensures 0
     ∙ sym (cursor c.self.inside.entries.items c.self.inside.blocks.items c.self.inside.first.items c.self.invariant c.args.list 0 (omega arith))
     ∙ ap (λ x. (item_at x.lists c.args.list 0).at) c.self.view_is
+
+pub returns-clause-none : goal.returns-clause-none
+returns-clause-none c z =
+    let P : Chained → Type 0 = λ x. c.index.result.now ≡ (item_at x.lists c.args.list 0).at → length (row x.lists c.args.list) ≤ 0 in
+    subst P c.self.view_is (no-item c.self.inside.entries.items c.self.inside.blocks.items c.self.inside.first.items c.self.invariant c.index.result.now c.args.list 0 (inl z)) (returns-clause-result c)

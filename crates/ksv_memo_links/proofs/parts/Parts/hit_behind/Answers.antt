@@ -10,15 +10,15 @@ use Rattle.ksv_memo_links.proofs.parts.Parts.hit_behind.Goals as goal
 pub returns : goal.returns
 returns c =
     let p = c.args.self.now in
-    let q1 = c.hit_ends.new.self in
-    let q2 = c.hit_ends-2.new.self in
+    let q1 = c.hit_size.new.self in
+    let q2 = c.hit_ends.new.self in
     let r = c.hit_pages.new.self in
     let x = c.args.change in
     let place = c.args.at in
     let f = c.linked.ensures.fits in
     let s = c.saturating_add.ensures in
-    let a = c.hit_ends.ensures in
-    let b0 = c.hit_ends-2.ensures in
+    let a = c.hit_size.ensures in
+    let b0 = c.hit_ends.ensures in
     let n = count-ends p.uses.lists in
     let e : min c.saturating_add.result (length (end_lists p.uses.lists)) ≡ min (c.args.pages + 1) (length (end_lists p.uses.lists)) = omega arith in
     let P : List (List Item) → Type 0 = λ lists. HitsRows q1 q2 x (end_lists lists) (first_page place + 1) (min c.saturating_add.result (length (end_lists lists))) in

@@ -26,5 +26,5 @@ returns-in-Delete c =
 pub returns-in-Append : goal.returns-in-Append
 returns-in-Append c =
     let p = c.args.self.now in
-    let q = c.hit_ends.new.self in
-    subst (λ x. HitsTouched p q x c.args.pages) (sym c.in-Append.is) (append-touched p q c.args.pages c.linked.ensures.listed (subst (λ x. HitsRows p q x (end_lists p.uses.lists) 0 (min 1 (length (end_lists p.uses.lists)))) c.in-Append.is c.hit_ends.ensures))
+    let q = c.hit_size.new.self in
+    subst (λ x. HitsTouched p q x c.args.pages) (sym c.in-Append.is) (append-touched p q c.args.pages c.linked.ensures.listed (subst (λ x. HitsRows p q x (end_lists p.uses.lists) 0 (min 1 (length (end_lists p.uses.lists)))) c.in-Append.is c.hit_size.ensures))

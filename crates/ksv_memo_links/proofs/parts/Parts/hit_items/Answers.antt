@@ -1,0 +1,64 @@
+use Rattle.std.proofs.Common.{map, sym, subst, arith}
+use Rattle.ksv_memo_links.specs.declared.parts.Parts.{Parts}
+use Rattle.ksv_memo_links.specs.Shelved.{row}
+use Rattle.ksv_memo_links.specs.Placed.{lists_of_uses}
+use Rattle.ksv_memo_links.specs.Linked.{item_at}
+use Rattle.ksv_memo_links.specs.Forgetting.{HitsRow}
+use Rattle.ksv_memo_links.proofs.Hits.{peek-uses, row-none, row-more, row-end, listed-in}
+use Rattle.ksv_memo_links.proofs.Cursors.{seen_to, starts, steps, ended}
+use Rattle.ksv_memo_links.proofs.parts.Parts.hit_items.Goals as goal
+
+pub loop-item-init : goal.loop-item-init
+loop-item-init c =
+    let p = c.args.self.now in
+    let items = row p.uses.lists c.args.list in
+    let start = starts p.uses.lists (map lists_of_uses p.uses.rows) c.args.list c.linked.ensures.listed c.args.first c.requires.begins in
+    record {
+      hits = subst (λ n. HitsRow p p c.args.change items n 0) (sym start.1) (row-none p c.args.change items);
+      at = start.0;
+    }
+
+pub hit-requires-clause-slot_in : goal.hit-requires-clause-slot_in
+hit-requires-clause-slot_in c =
+    let p = c.args.self.now in
+    let i = c.loop-item.invariant in
+    let n = seen_to (row p.uses.lists c.args.list) c.loop-item.at in
+    let step = steps p.uses.lists (map lists_of_uses p.uses.rows) c.args.list c.linked.ensures.listed c.loop-item.self.uses.lists c.loop-item.at c.in-Some.item i.hits.more.same.use_lists i.at c.in-Some.ensures.some in
+    let some = listed-in p.uses.rows p.uses.lists c.args.list n c.linked.ensures.listed step.inside in
+    let there = c.requires.shaped.used_in (item_at p.uses.lists c.args.list n).owner some in
+    let is = step.owner in
+    let same = i.hits.more.same_length in
+    omega arith
+
+pub loop-item-preserved : goal.loop-item-preserved
+loop-item-preserved c =
+    let p = c.args.self.now in
+    let q = c.loop-item.self in
+    let q1 : Parts = record { asks = q.asks; uses = c.item.new.self; marks = q.marks } in
+    let i = c.loop-item.invariant in
+    let h = c.item.ensures in
+    let items = row p.uses.lists c.args.list in
+    let step = steps p.uses.lists (map lists_of_uses p.uses.rows) c.args.list c.linked.ensures.listed q.uses.lists c.loop-item.at c.in-Some.item i.hits.more.same.use_lists i.at c.in-Some.ensures.some in
+    let k = peek-uses q q1.uses h.rows h.lists (let l = c.in-Some.ensures.looks in omega arith) h.grows in
+    record {
+      hits = subst (λ n. HitsRow p c.hit.new.self c.args.change items n 0) (sym step.seen) (row-more p q q1 c.hit.new.self c.args.change items (seen_to items c.loop-item.at) c.in-Some.item.owner i.hits k step.inside step.owner c.hit.ensures);
+      at = step.stands;
+    }
+
+pub loop-item-smaller : goal.loop-item-smaller
+loop-item-smaller c =
+    let p = c.args.self.now in
+    let i = c.loop-item.invariant in
+    (steps p.uses.lists (map lists_of_uses p.uses.rows) c.args.list c.linked.ensures.listed c.loop-item.self.uses.lists c.loop-item.at c.in-Some.item i.hits.more.same.use_lists i.at c.in-Some.ensures.some).less
+
+pub returns : goal.returns
+returns c =
+    let p = c.args.self.now in
+    let q = c.loop-item.self in
+    let q1 : Parts = record { asks = q.asks; uses = c.item.new.self; marks = q.marks } in
+    let i = c.loop-item.invariant in
+    let h = c.item.ensures in
+    let idle = c.in_default.ensures.idle in
+    let items = row p.uses.lists c.args.list in
+    let end = ended p.uses.lists (map lists_of_uses p.uses.rows) c.args.list c.linked.ensures.listed q.uses.lists c.loop-item.at i.hits.more.same.use_lists i.at c.in_default.ensures.none in
+    row-end p q q1 c.args.change items (seen_to items c.loop-item.at) i.hits (peek-uses q q1.uses h.rows h.lists (omega arith) h.grows) (omega arith) end
