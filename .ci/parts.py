@@ -42,8 +42,8 @@ EARLY = (
 )
 PROOFS = Part("rt", ("rt", "ci"))
 EDITS = Part("edits", ("{top}/edits/run", "--gate", "--over", "{copy}", "--rt", "{log}"))
-# Through the program that was proved.
-LATE = (
+# Through the program that was proved: parts of one process each, that run side by side.
+TOGETHER = (
     Part("examples", ("{copy}/examples/run",)),
     Part("reference", ("{copy}/.ci/reference",)),
     Part("program", ("{copy}/.ci/program",)),
@@ -51,6 +51,9 @@ LATE = (
     Part("hints", ("{copy}/.ci/hints",)),
     Part("mend", ("{copy}/.ci/mend",)),
     Part("shell", ("{copy}/.ci/shell",)),
+)
+# The same, one after the other: each takes all processors.
+ALONE = (
     Part("front", ("{copy}/.ci/front",)),
     Part("view", ("{copy}/.ci/view", "--some", "{commit}")),
     Part("saves", ("{copy}/.ci/saves",)),
@@ -60,6 +63,7 @@ LATE = (
     Part("second", ("{copy}/tools/second/run",)),
     Part("self", ("{top}/.ci/self", "--some", "{commit}", "--over", "{copy}")),
 )
+LATE = (*TOGETHER, *ALONE)
 PARTS = (*EARLY, PROOFS, EDITS, *LATE)
 # What can be started and is no part: the gate itself, and what is run by hand.
 TOOLS = (".ci/gate", ".ci/run", ".ci/times", "bench/run", "tools/build/run")
@@ -67,12 +71,14 @@ TOOLS = (".ci/gate", ".ci/run", ".ci/times", "bench/run", "tools/build/run")
 
 @dataclass
 class Said:
-    """What a part said: its numbers by their names in .ci/counts, how much failed, and whether its last line is there."""
+    """What a part said: its numbers by their names in .ci/counts, how much failed, whether its last line is there, and a line for each number that isn't
+    as it is stored."""
 
     text: str
     numbers: dict[str, int] = field(default_factory=dict)
     failed: int = 0
     is_whole: bool = False
+    other: list[str] = field(default_factory=list)
 
 
 def said(name: str, text: str) -> Said:
@@ -137,6 +143,16 @@ def runs_at(top: str) -> list[str]:
     return [*above, *(f"{top}/tools/{name}" for name in sorted(os.listdir(f"{top}/tools")))]
 
 
+# The parts that run at present.
+RUNNING: list[subprocess.Popen[str]] = []
+
+
+def end_all() -> None:
+    """Ends all parts that still run."""
+    for running in [*RUNNING]:
+        end(running)
+
+
 def end(running: subprocess.Popen[str]) -> None:
     """Ends a part that still runs, with all that it began."""
     for how, seconds in ((signal.SIGINT, 20), (signal.SIGKILL, 20)):
@@ -154,6 +170,7 @@ def run(part: Part, places: dict[str, str], settings: dict[str, str], is_shown: 
     words, lines = part.started_by(places), []
     running = subprocess.Popen(words, cwd=places["copy"], env=settings, start_new_session=True, **how)
     try:
+        RUNNING.append(running)
         for line in running.stdout:
             lines.append(line)
             if is_shown:
@@ -161,6 +178,7 @@ def run(part: Part, places: dict[str, str], settings: dict[str, str], is_shown: 
         status = running.wait()
     finally:
         end(running)
+        RUNNING.remove(running)
     found = said(part.name, "".join(lines))
     found.failed = found.failed or (1 if status or not found.is_whole else 0)
     return found

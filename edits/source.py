@@ -9,13 +9,15 @@ from dataclasses import dataclass
 FUNCTION = re.compile(r"( *)(pub(?:\([\w:]+\))? )?(?:const )?(?:unsafe )?fn (\w+)")
 SIGNATURE = re.compile(r"(?:(?:pub(?:\([\w:]+\))? )?(?:const )?(?:unsafe )?fn \w+.*|\).*) \{$")
 BLOCK = re.compile(r"impl|(pub(\([\w:]+\))? )?trait ")
+# What stands above each of the functions that call each other.
+CYCLE = re.compile(r" *#\[cycle\((\w+)\)\]$")
 
 
 @dataclass(frozen=True)
 class Function:
     """A function that has a body: its name without its crate's, its file, and the rows of its signature's begin, of the `{` of its
     body and of the `}`. `is_open`: it is public, and no method of a trait. `is_law`: its body is empty. `is_bound`: a method of a trait, or one
-    of functions that call each other, which have one proof."""
+    of functions that call each other, which have one proof; `cycle`: the name of that proof."""
 
     name: str
     path: str
@@ -25,6 +27,7 @@ class Function:
     is_open: bool
     is_law: bool
     is_bound: bool
+    cycle: str
 
     def has(self, first, last):
         """Whether these rows are in its body."""
@@ -94,8 +97,8 @@ def functions_in(path, text):
             owner = owner_of(block) if indent else ""
             home = home_of(path, text, owner) if owner and " for " not in block else module_of(path)
             full = "::".join(filter(None, (home, owner, name)))
-            in_cycle = any("cycle(" in it for it in marks)
-            found.append(Function(full, path, at, *body, mark == "pub " and not in_trait, body[0] == body[1], in_trait or in_cycle))
+            cycle = next((it[1] for it in map(CYCLE.match, marks) if it), "")
+            found.append(Function(full, path, at, *body, mark == "pub " and not in_trait, body[0] == body[1], in_trait or bool(cycle), cycle))
         marks = []
     return found
 
@@ -111,8 +114,11 @@ def functions_of(folder):
     return [it for path in sources_of(folder) for it in functions_in(path, read(f"{folder}/{path}"))]
 
 
-def has_stub(it, kept):
-    """Whether a function gets a stub where only these are kept: one that is bound to others doesn't."""
+def has_stub(it, functions, kept):
+    """Whether a function of a file with these gets a stub where only these are kept: a method of a trait doesn't, nor one of functions that call each
+    other where one of them is kept."""
+    if it.cycle:
+        return not any(other.name in kept for other in functions if other.cycle == it.cycle)
     return not (it.is_bound or it.is_law or it.name in kept)
 
 
@@ -133,31 +139,38 @@ def clauses_of(folder, path, name):
 def callers(folder, edited):
     """Those of these functions of a crate that name, in their bodies, one that may get a stub: no stub is before the others."""
     functions = functions_of(folder)
-    names = {it.name.split("::")[-1] for it in functions if has_stub(it, ())}
+    names = {it.name.split("::")[-1] for it in functions if has_stub(it, (), ())}
     body = lambda it: "\n".join(read(f"{folder}/{it.path}").split("\n")[it.begin + 1 : it.end])
     return {it.name for it in functions if it.name in edited and names & {*re.findall(r"\w+", body(it))}}
 
 
 def stubbed(path, text, kept):
-    """A file's text in which all functions but these have a stub for their bodies, and the names of those that have."""
-    rows, names = text.split("\n"), []
-    for it in reversed(functions_in(path, text)):
-        if has_stub(it, kept):
+    """A file's text in which all functions but these have a stub for their bodies, and the proofs of those that have: by their names, or as `+NAME` where
+    functions call each other, which these no longer do."""
+    functions = functions_in(path, text)
+    rows, proofs = text.split("\n"), set()
+    for it in reversed(functions):
+        if has_stub(it, functions, kept):
             indent = re.match(" *", rows[it.end])[0]
             rows[it.begin + 1 : it.end] = [f"{indent}    loop {{}}"]
-            names.append(it.name)
-    return "\n".join(rows), names
+            proofs.add(it.name)
+            proofs |= {"::".join(filter(None, (module_of(path), f"+{it.cycle}")))} if it.cycle else set()
+            above = next(at for at in range(it.head, -1, -1) if not at or not rows[at - 1].lstrip().startswith(("#[", "//")))
+            rows[above : it.head] = [row for row in rows[above : it.head] if not CYCLE.match(row)]
+    return "\n".join(rows), proofs
 
 
 def stub(folder, kept):
     """Gives all functions of a copied crate but these a stub, and a proof that isn't one, so that nothing is searched for them."""
     for path in sources_of(folder):
-        text, names = stubbed(path, read(f"{folder}/{path}"), kept)
+        text, proofs = stubbed(path, read(f"{folder}/{path}"), kept)
         write(f"{folder}/{path}", text)
-        for proof in (f"{folder}/proofs/{it.replace('::', '/')}" for it in names):
+        for it in proofs:
+            proof = f"{folder}/proofs/{it.replace('::', '/')}"
             shutil.rmtree(proof, ignore_errors=True)
-            os.makedirs(proof)
-            write(f"{proof}/Proof.antt", "")
+            if "+" not in it:
+                os.makedirs(proof)
+                write(f"{proof}/Proof.antt", "")
 
 
 def header_of(rows, head):

@@ -14,7 +14,7 @@ use Rattle.ksv_desc.specs.declared.order.ByteOrder.{ByteOrder}
 -- ---- what a description holds
 
 -- What is read: bytes; certain bytes; an integer, whether it has a sign, of how many bytes, in which order, as a member of
--- which enum; so many bits, as a member of which enum; a text; or an object of a type, with the arguments for its parameters.
+-- which enum; this many bits, as a member of which enum; a text; or an object of a type, with the arguments for its parameters.
 pub data Content : Type 0 where
   Bytes : Content
   Fixed : List ℕ → Content

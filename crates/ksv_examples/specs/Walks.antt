@@ -113,7 +113,7 @@ new_nodes kept [] = []
 new_nodes kept (m ∷ ms) = elim (is_open kept m) [ true ↦ new_nodes kept ms | false ↦ m ∷ new_nodes (kept ++ m ∷ []) ms ]
 
 module _ (d : Description) (depth : ℕ) (bytes : List ℕ) where
-  -- the calls of these nodes, and so many more
+  -- the calls of these nodes, and this many more
   abbrev pub calls_to : ℕ → List Node → Option ℕ
   calls_to count [] = Some count
   calls_to count (n ∷ ns) = option_and_then (λ w. calls_to (count + (length w.asks + 1)) ns) (walk_at d bytes depth [] n)

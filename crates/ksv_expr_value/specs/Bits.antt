@@ -8,7 +8,7 @@ abbrev pub number_of : List ℕ → ℕ
 number_of [] = 0
 number_of (x ∷ xs) = x * 2 ^ length xs + number_of xs
 
--- the lowest bits of a number, so many of them
+-- the lowest bits of a number, this many of them
 unfoldable pub bits_of_number : ℕ → ℕ → List ℕ
 bits_of_number zero n = []
 bits_of_number (suc count) n = bits_of_number count (n / 2) ++ (n % 2 ∷ [])

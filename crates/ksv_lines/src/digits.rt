@@ -8,7 +8,7 @@ ghost use Rattle.ksv_lines.specs.Lines.{line_limit};
 use std::marker::Model;
 
 /// The most bytes that one line can write: two digits make one.
-const EDIT_LIMIT: usize = 2048;
+pub const EDIT_LIMIT: usize = 2048;
 
 /// The digits of an edit, where they are on the line. Contracts see the bytes that they stand for. These are read from
 /// the digits only where they are written, so that no other line makes room for them.
@@ -29,40 +29,13 @@ impl<'a> Model for EditDigits<'a> {
 }
 
 impl<'a> EditDigits<'a> {
-    /// The bytes.
-    pub fn bytes(&self) -> EditBytes
-        ensures { result ≡ self.now }
-    {
-        let mut room = [0; EDIT_LIMIT];
-        let len = self.digits.len() / 2;
-        hex::decode_to_slice(self.digits, &mut room[..len]).unwrap();
-        EditBytes { room, len }
-    }
-}
-
-/// The bytes of an edit, in an array, so that reading them takes no memory.
-#[derive(Drop)]
-pub struct EditBytes {
-    room: [u8; EDIT_LIMIT],
-    len: usize,
-}
-
-impl Model for EditBytes {
-    ghost use Rattle.std.specs.Prelude.{◌≤◌, List, ℕ, take};
-
-    ghost Value = { List ℕ };
-
-    ghost view = { λ bytes. take bytes.len bytes.room };
-
-    ghost invariant = { λ bytes. bytes.len ≤ 2048 };
-}
-
-impl EditBytes {
-    /// The bytes.
-    pub fn as_slice(&self) -> &[u8]
+    /// The bytes, written into this room.
+    pub fn bytes<'r>(&self, room: &'r mut [u8; EDIT_LIMIT]) -> &'r [u8]
         ensures { result.now ≡ self.now }
     {
-        &self.room[..self.len]
+        let bytes = &mut room[..self.digits.len() / 2];
+        hex::decode_to_slice(self.digits, bytes).unwrap();
+        bytes
     }
 }
 

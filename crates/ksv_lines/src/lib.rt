@@ -48,7 +48,7 @@ mod words;
 
 pub use command_line::{Args, arguments};
 pub use device::{Failed, Sink, Source, send};
-pub use digits::{EditBytes, EditDigits, edit_digits};
+pub use digits::{EDIT_LIMIT, EditDigits, edit_digits};
 pub use line::LineBuffer;
 pub use memory::Memory;
 pub use standard::Std;

@@ -27,7 +27,7 @@ behind w change reach es =
     + sum_by (λ e. length e.asked) (gone_of w change es)
     + sum_by (λ e. length (pages_in e.uses)) (gone_of w change es))
 
--- so many looks are no fewer than the nodes that go, and no more than what is behind
+-- this many looks are no fewer than the nodes that go, and no more than what is behind
 pub record LooksBehind {N A : Type 0} (w : Standing N A) (change : Change) (reach : ℕ) (es : List (Entry N A)) (looked : ℕ) : Type 0 where
   pub least : length (gone_of w change es) ≤ looked
   pub most : looked ≤ behind w change reach es

@@ -1,4 +1,4 @@
--- How the table keeps nodes, and the lists of kept and open nodes that this stands for. Only the table's own contracts
+-- How the table keeps nodes, and the lists of kept and open nodes that this means. Only the table's own contracts
 -- use it.
 use Rattle.std.specs.Prelude.{◌≡◌, ◌≢◌, is_some, ℕ, ◌≤◌, List, [], ◌∷◌, length, map, reverse, take, drop, Option, Some, None, Result, ◌⊎◌, slice_get}
 use Rattle.std.specs.Option.{option_map}

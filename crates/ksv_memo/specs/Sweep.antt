@@ -46,8 +46,8 @@ entries_left ks = entries_with (filter (λ k. not k.goes) ks)
 abbrev pub entries_gone : {N A : Type 0} → List (Mark N A) → List (Entry N A)
 entries_gone ks = entries_with (filter (λ k. k.goes) ks)
 
--- the entries are marked, and those stay that don't go; so many looks were made, where the uses of the entries are
--- within so many pages
+-- the entries are marked, and those stay that don't go; this many looks were made, where the uses of the entries are
+-- within this many pages
 pub record Sweeps {N A : Type 0} (change : Change) (pages : ℕ) (before after : List (Entry N A)) (looked : ℕ) : Type 0 where
   pub marks : List (Mark N A)
   pub entries : entries_with marks ≡ before

@@ -68,7 +68,7 @@ pub struct Frames<N> {
     pub has_grown: bool,
 }
 
-/// A number in 32 bits. A larger one is refused, as memory for so many would be.
+/// A number in 32 bits. A larger one is refused, as memory for this many would be.
 #[inline(always)]
 pub(crate) fn number(count: usize) -> Result<u32, AllocError>
     ensures { IfOk result (λ number. number ≡ count) }

@@ -32,7 +32,7 @@
 //! - `Behind`: how few looks an insert, a delete or an append takes
 //! - `Calls`: what one call of the rules does to frames, for private contracts
 //! - `Emptying`: how slots that are taken are emptied, for private contracts
-//! - `Layout`: how the table keeps nodes, and the lists that this stands for, for private contracts
+//! - `Layout`: how the table keeps nodes, and the lists that this means, for private contracts
 //! - `Moves`: what each call of the table does to slots and frames, for private contracts
 //! - `Near`: how few looks an overwrite takes
 //! - `Nodes`: the table as the machine sees it, for private contracts

@@ -129,7 +129,7 @@ impl<R: Rules> Machine<R> {
         if let Some(outcome) = known {
             return Ok(outcome);
         }
-        // A turn stands here, and not in a function of its own, which would be too large to be inlined.
+        // A turn is here, and not in a function of its own, which would be too large to be inlined.
         loop {
             match self.turn(rules, bytes) {
                 Ok(Next::Done(answer)) => {

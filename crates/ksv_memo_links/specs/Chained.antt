@@ -32,12 +32,12 @@ lists_in entries begin (suc n) = (entry_at entries begin).list ∷ lists_in entr
 abbrev pub named_of : List Entry → List Block → List (List ℕ)
 named_of entries blocks = map (λ (b : Block). lists_in entries b.begin b.count) blocks
 
--- where so many steps along `next` lead to from a place
+-- where this many steps along `next` lead to from a place
 abbrev pub hop : List Entry → ℕ → ℕ → ℕ
 hop entries p zero = p
 hop entries p (suc i) = (entry_at entries (hop entries p i)).next
 
--- the items that so many steps find, each with the place of its entry
+-- the items that this many steps find, each with the place of its entry
 abbrev pub items_from : List Entry → ℕ → ℕ → List Item
 items_from entries p zero = []
 items_from entries p (suc n) = at (entry_at entries p).owner p ∷ items_from entries (entry_at entries p).next n
@@ -50,7 +50,7 @@ rows_from entries named l (f ∷ first) = items_from entries f (naming named l) 
 abbrev pub lists_of : List Entry → List Block → List ℕ → List (List Item)
 lists_of entries blocks first = rows_from entries (named_of entries blocks) 0 first
 
--- where so many steps from a place have come from: 0 at the place itself
+-- where this many steps from a place have come from: 0 at the place itself
 abbrev pub before_of : List Entry → ℕ → ℕ → ℕ
 before_of entries p zero = 0
 before_of entries p (suc i) = hop entries p i
@@ -68,7 +68,7 @@ pub record IsLive (blocks : List Block) (s p : ℕ) : Type 0 where
   pub from : (block_at blocks s).begin ≤ p
   pub until : p < (block_at blocks s).begin + (block_at blocks s).count
 
--- each list's chain has as many entries as name it; each entry of a block stands in the chain of its list, and each of a chain
+-- each list's chain has as many entries as name it; each entry of a block is in the chain of its list, and each of a chain
 -- in the block of its owner
 pub record IsChained (entries : List Entry) (blocks : List Block) (first : List ℕ) : Type 0 where
   pub chains : (l : ℕ) → IsChain entries l (first_at first l) (naming (named_of entries blocks) l)
@@ -117,13 +117,13 @@ pub record IsListed (lists : List (List Item)) (named : List (List ℕ)) : Type 
   pub few : (l : ℕ) → length (row lists l) ≤ naming named l
   pub apart : (l i j : ℕ) → i < j → j ≤ length (row lists l) → (item_at lists l i).at ≢ (item_at lists l j).at
 
--- from a place on there is room for so many entries of an owner: the entries there name it
+-- from a place on there is room for this many entries of an owner: the entries there name it
 pub record IsRoom (entries : List Entry) (owner begin count : ℕ) : Type 0 where
   pub some : 0 < begin
   pub inside : begin + count ≤ length entries
   pub named : (i : ℕ) → i < count → (entry_at entries (begin + i)).owner ≡ owner
 
--- there is room for so many entries more from a place on, after all others
+-- there is room for this many entries more from a place on, after all others
 pub record IsExtended (old new : List Entry) (begin count : ℕ) : Type 0 where
   pub some : 0 < begin
   pub after : length old ≤ begin

@@ -106,7 +106,7 @@ pub record IsWhole (p : Parts) : Type 0 where
   pub waits : (s : ℕ) → Contains p.marks.work s → is_kept p.marks.kept s ≡ false
   pub apart : AllPairs (λ (a b : ℕ). a ≢ b) p.marks.work
 
--- the slots that the change touches were marked, by a look at no more than so many pages
+-- the slots that the change touches were marked, by a look at no more than this many pages
 pub record HitsTouched (p q : Parts) (change : Change) (pages : ℕ) : Type 0 where
   pub more : MarksMore p q (IsEdit change)
   pub hits : (s : ℕ) → IsHit change p.marks.kept p.uses.rows s → is_kept q.marks.kept s ≡ false
@@ -117,7 +117,7 @@ pub record HitsTouched (p q : Parts) (change : Change) (pages : ℕ) : Type 0 wh
 abbrev pub linked_of : Parts → Linked
 linked_of p = record { kept = p.marks.kept; asked = p.asks.named; uses = p.uses.rows; waits = p.marks.work; looks = looks p; marked = p.marks.looks }
 
--- an overwrite took so many looks at most
+-- an overwrite took this many looks at most
 abbrev pub IsNear : Change → Parts → Parts → Type 0
 IsNear change p q = IsOverwrite change → looks q ≤ looks p + pages_met change + 3 * sum_by (met_by change) p.uses.rows + 1 + 4 * length q.marks.work + 2 * asks_of p.asks.named q.marks.work
 
@@ -125,7 +125,7 @@ IsNear change p q = IsOverwrite change → looks q ≤ looks p + pages_met chang
 abbrev pub IsBehind : Change → ℕ → Parts → Parts → Type 0
 IsBehind change pages p q = IsMove change → looks q ≤ looks p + 2 * pages_behind change pages + 3 * sum_by (behind_by change) p.uses.rows + 3 * sum_by (ended_by change) p.uses.rows + 2 + 4 * length q.marks.work + 2 * asks_of p.asks.named q.marks.work
 
--- the uses of the kept slots are within so many pages
+-- the uses of the kept slots are within this many pages
 abbrev pub AreAllWithin : ℕ → Parts → Type 0
 AreAllWithin pages p = (s : ℕ) → is_kept p.marks.kept s ≡ true → AreWithin pages (row p.uses.rows s)
 

@@ -132,7 +132,7 @@ IsMove (Insert at n) = Unit {0}
 IsMove (Delete at n) = Unit {0}
 IsMove Append = Unit {0}
 
--- how many of so many pages are behind an insert or a delete, with the page of its place; an append is behind all
+-- how many of this many pages are behind an insert or a delete, with the page of its place; an append is behind all
 abbrev pub pages_behind : Change → ℕ → ℕ
 pages_behind (Overwrite at n) pages = 0
 pages_behind (Insert at n) pages = pages - first_page at

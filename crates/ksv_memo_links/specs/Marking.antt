@@ -8,7 +8,7 @@ pub record Marked : Type 0 where
   pub work : List ℕ
   pub looks : ℕ
 
--- the worklist has room for all slots; what waits isn't kept; so many are kept
+-- the worklist has room for all slots; what waits isn't kept; this many are kept
 pub record HasRoom (kept : Celled Bool) (work : Celled ℕ) (count : ℕ) : Type 0 where
   pub for_work : length kept.items ≤ work.room
   pub inside : (j : ℕ) → j < length work.items → slice_index_or work.items j 0 < length kept.items
@@ -16,7 +16,7 @@ pub record HasRoom (kept : Celled Bool) (work : Celled ℕ) (count : ℕ) : Type
   pub few : length work.items + count ≤ length kept.items
   pub fits : length kept.items < 2 ^ 32
 
--- each slot that waits was looked at since there were so many looks, as far as these are counted
+-- each slot that waits was looked at since there were this many looks, as far as these are counted
 abbrev pub IsCounted : ℕ → Marked → Type 0
 IsCounted from marks = min (from + length marks.work) (2 ^ 64 - 1) ≤ marks.looks
 

@@ -1,4 +1,4 @@
--- The uses of a slot as a list, and the lists in which a slot with these uses stands.
+-- The uses of a slot as a list, and the lists in which a slot with these uses is.
 use Rattle.std.specs.Prelude.{◌≡◌, ℕ, ◌<◌, ◌≤◌, ◌^◌, ◌+◌, ◌*◌, ◌++◌, Bool, true, false, List, [], ◌∷◌, length, map}
 use Rattle.ksv_bytes.specs.declared.uses.Use.{Use}
 use Rattle.ksv_memo_links.specs.declared.blocks.Item.{Item}
@@ -19,7 +19,7 @@ list_of_end end = 2 * end
 abbrev pub list_of_page : ℕ → ℕ
 list_of_page page = 2 * page + 1
 
--- the lists in which a slot with these uses stands: that of each page that each of them meets, and that of where they end
+-- the lists in which a slot with these uses is: that of each page that each of them meets, and that of where they end
 abbrev pub lists_of_uses : List Use → List ℕ
 lists_of_uses us = map list_of_page (pages_in us) ++ map list_of_end (ends_in us)
 

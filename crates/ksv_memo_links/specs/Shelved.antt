@@ -1,7 +1,7 @@
 -- Rows of items, as contracts see them.
 use Rattle.std.specs.Prelude.{◌≡◌, ◌≤◌, ℕ, ◌+◌, ◌-◌, ◌^◌, min, List, [], ◌∷◌, ◌++◌, length, take, slice_index_or, slice_set}
 
--- a count after so many looks more, and after one: it stops at 2^64 - 1
+-- a count after this many looks more, and after one: it stops at 2^64 - 1
 abbrev pub ticked_by : ℕ → ℕ → ℕ
 ticked_by n looks = min (n + looks) (2 ^ 64 - 1)
 

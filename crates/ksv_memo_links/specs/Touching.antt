@@ -4,7 +4,7 @@ use Rattle.std.specs.List.{flat_map, list_any}
 use Rattle.ksv_bytes.specs.declared.uses.Use.{Use}
 use Rattle.ksv_bytes.specs.declared.uses.Use.TheVariants.{Bytes, Reach, Size}
 
--- so many numbers from one on
+-- this many numbers from one on
 abbrev pub numbers_from : ℕ → ℕ → List ℕ
 numbers_from first zero = []
 numbers_from first (suc n) = first ∷ numbers_from (first + 1) n
@@ -49,7 +49,7 @@ end_at (suc to) = (to / 64 + 1) ∷ []
 abbrev pub ends_in : List Use → List ℕ
 ends_in us = cond (list_any is_size us) (0 ∷ []) (end_at (farthest us))
 
--- these uses are within so many pages
+-- these uses are within this many pages
 pub record AreWithin (pages : ℕ) (us : List Use) : Type 0 where
   pub met : (g : ℕ) → Contains (pages_in us) g → g < pages
   pub ends : (l : ℕ) → Contains (ends_in us) l → l ≤ pages

@@ -23,7 +23,7 @@ pub struct Item {
     pub at: u32,
 }
 
-/// A number in 32 bits. A larger one is refused, as memory for so many would be.
+/// A number in 32 bits. A larger one is refused, as memory for this many would be.
 #[inline(always)]
 pub(crate) fn number(count: usize) -> Result<u32, AllocError>
     ensures { IfOk result (λ number. number ≡ count) }
@@ -60,7 +60,7 @@ fn put_before(entries: &mut Vec<Entry>, at: u32, before: u32)
 }
 
 /// Takes an entry out of the chain of its list. At most three cells are read or written; that of place 0, which is no
-/// entry's, stands after the last entry of each chain.
+/// entry's, comes after the last entry of each chain.
 #[inline(always)]
 fn unlink(entries: &mut Vec<Entry>, first: &mut Vec<u32>, at: u32)
     requires inside { at < length entries.old.items }
@@ -133,7 +133,7 @@ pub(crate) fn clear_block(
     Cleared { count, looks }
 }
 
-/// Whether the places of so many entries from one on were an owner's: the entries there still name it.
+/// Whether the places of this many entries from one on were an owner's: the entries there still name it.
 #[inline(always)]
 pub(crate) fn has_room(entries: &[Entry], owner: u32, begin: u32, count: u32) -> bool
     ensures { IsTrue result → IsRoom entries.now owner begin count }
@@ -149,7 +149,7 @@ pub(crate) fn has_room(entries: &[Entry], owner: u32, begin: u32, count: u32) ->
     true
 }
 
-/// Makes places for so many entries after all others. The first of them; place 0 is no entry's.
+/// Makes places for this many entries after all others. The first of them; place 0 is no entry's.
 #[inline(always)]
 fn extend(entries: &mut Vec<Entry>, count: u32) -> Result<u32, AllocError>
     ensures ok { IfOk result (λ begin. IsExtended entries.old.items entries.new.items begin count) }
@@ -164,7 +164,7 @@ fn extend(entries: &mut Vec<Entry>, count: u32) -> Result<u32, AllocError>
     Ok(begin)
 }
 
-/// The place for so many entries of an owner that has none: where its entries were, if there is room for these, else after
+/// The place for this many entries of an owner that has none: where its entries were, if there is room for these, else after
 /// all others.
 #[inline(always)]
 fn place(
@@ -258,7 +258,7 @@ pub(crate) fn copy_block(
     Ok(())
 }
 
-/// At least so many blocks. The new ones have no entries.
+/// At least this many blocks. The new ones have no entries.
 pub(crate) fn reach_blocks(blocks: &mut Vec<Block>, count: usize) -> Result<(), AllocError>
     ensures ok { OnOk result (blocks.new.items ≡ blocks.old.items ++ replicate (count - length blocks.old.items) (record { begin = 0; count = 0 })) }
     ensures err { OnErr result (blocks.new.items ≡ blocks.old.items) }
@@ -269,7 +269,7 @@ pub(crate) fn reach_blocks(blocks: &mut Vec<Block>, count: usize) -> Result<(), 
     Ok(())
 }
 
-/// At least so many lists. No owner is linked to the new ones.
+/// At least this many lists. No owner is linked to the new ones.
 pub(crate) fn reach_first(first: &mut Vec<u32>, count: usize) -> Result<(), AllocError>
     ensures ok { OnOk result (first.new.items ≡ first.old.items ++ replicate (count - length first.old.items) 0) }
     ensures err { OnErr result (first.new.items ≡ first.old.items) }

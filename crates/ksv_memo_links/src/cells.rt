@@ -112,7 +112,7 @@ impl<T: Copy + Drop> Cells<T> {
         self.items.push_reserved(item);
     }
 
-    /// At least so many items. The new ones are this one.
+    /// At least this many items. The new ones are this one.
     pub(crate) fn reach(&mut self, count: usize, item: T) -> Result<(), AllocError>
         ensures ok { OnOk result (self.new.items ≡ self.old.items ++ replicate (count - length self.old.items) item) }
         ensures err { OnErr result (self.new.items ≡ self.old.items) }
@@ -125,7 +125,7 @@ impl<T: Copy + Drop> Cells<T> {
         Ok(())
     }
 
-    /// Room for so many items in all.
+    /// Room for this many items in all.
     pub(crate) fn reserve(&mut self, count: usize) -> Result<(), AllocError>
         ensures items { self.new.items ≡ self.old.items }
         ensures ok { OnOk result (count ≤ self.new.room) }

@@ -127,7 +127,7 @@ impl Chains {
         self.first.as_slice().len()
     }
 
-    /// At least so many lists. No owner is linked to the new ones.
+    /// At least this many lists. No owner is linked to the new ones.
     pub(crate) fn reach_lists(&mut self, count: u32) -> Result<(), AllocError>
         ensures named { self.new.named ≡ self.old.named }
         ensures lists { length self.old.lists ≤ length self.new.lists }
@@ -138,7 +138,7 @@ impl Chains {
         reach_first(&mut self.first, count as usize)
     }
 
-    /// At least so many owners. The new ones are linked to nothing.
+    /// At least this many owners. The new ones are linked to nothing.
     pub(crate) fn reach_owners(&mut self, count: u32) -> Result<(), AllocError>
         ensures named { HasSameRows self.old.named self.new.named }
         ensures few { length self.new.named ≤ max (length self.old.named) count }
@@ -212,7 +212,7 @@ impl Chains {
         }
     }
 
-    /// Whether so many entries of an owner that has none need new places, and few of those that there are are entries'.
+    /// Whether this many entries of an owner that has none need new places, and few of those that there are are entries'.
     #[inline(always)]
     fn is_worn(&self, owner: u32, count: usize) -> bool
         requires { owner < length self.now.named }
@@ -223,7 +223,7 @@ impl Chains {
         self.entries.as_slice().len() / 2 > most && !self.has_room(owner, count)
     }
 
-    /// Whether so many entries of an owner have room where its entries were.
+    /// Whether this many entries of an owner have room where its entries were.
     fn has_room(&self, owner: u32, count: usize) -> bool
         requires { owner < length self.now.named }
     {

@@ -31,7 +31,7 @@
 //! - `Linked`: items of lists, and how often lists are named, for private contracts
 //! - `Links`: the links as the engine sees them, and what a change reaches along them
 //! - `Marking`: which slots are kept, and which wait to be taken, for private contracts
-//! - `Placed`: the uses of a slot as a list, and the lists in which a slot with these uses stands, for private contracts
+//! - `Placed`: the uses of a slot as a list, and the lists in which a slot with these uses is, for private contracts
 //! - `Shelved`: rows of items, for private contracts
 //! - `Touching`: which pages of 64 bytes a use meets, and where uses end
 //!
@@ -42,7 +42,7 @@
 //! - `Closing`: what is marked is what has to go
 //! - `Counting`: users of slots that go are no more than what these slots asked
 //! - `Counts`: how many names a list has after one more and one less
-//! - `Cursors`: where a walk along the items of a list stands, and how it goes on
+//! - `Cursors`: where a walk along the items of a list is, and how it goes on
 //! - `Edits`: what rows are after a write to one
 //! - `Filling`: a row that is filled number by number
 //! - `Growing`: the chains stay whole when owners and lists are added

@@ -50,7 +50,7 @@ impl Links {
         self.parts.count()
     }
 
-    /// Makes slots until there are at least so many. The new ones aren't kept.
+    /// Makes slots until there are at least this many. The new ones aren't kept.
     #[inline(always)]
     pub fn reach(&mut self, count: u32) -> Result<(), AllocError>
         ensures same { Grows self.old self.new }
@@ -78,14 +78,14 @@ impl Links {
     }
 
     /// Marks the slots that go: those with a use that a change touches, and those that asked one that goes. They are no
-    /// longer kept, and `take` takes them one by one. But for an overwrite, the uses of kept slots are within so many
+    /// longer kept, and `take` takes them one by one. But for an overwrite, the uses of kept slots are within this many
     /// pages. It takes no memory.
     pub fn forget(&mut self, change: Change, pages: usize)
         requires idle { self.old.waits ≡ [] }
         requires within { IsMove change → (s : ℕ) → is_kept self.old.kept s ≡ true → AreWithin pages (row self.old.uses s) }
         ensures forgets { Forgets self.old self.new change }
 
-        // So many looks more.
+        // This many looks more.
         ensures most { IsOverwrite change → self.new.looks ≤ self.old.looks + pages_met change + 3 * sum_by (met_by change) self.old.uses + 1 + 4 * length self.new.waits + 2 * asks_of self.old.asked self.new.waits }
         ensures behind { IsMove change → self.new.looks ≤ self.old.looks + 2 * pages_behind change pages + 3 * sum_by (behind_by change) self.old.uses + 3 * sum_by (ended_by change) self.old.uses + 2 + 4 * length self.new.waits + 2 * asks_of self.old.asked self.new.waits }
         ensures least { min (self.old.marked + length self.new.waits) (2 ^ 64 - 1) ≤ self.new.marked }

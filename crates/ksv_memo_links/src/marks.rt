@@ -76,7 +76,7 @@ impl Marks {
         let _ = &self.work;
     }
 
-    /// At least so many slots, and room for each in the worklist. The new ones aren't kept.
+    /// At least this many slots, and room for each in the worklist. The new ones aren't kept.
     pub(crate) fn reach(&mut self, count: u32) -> Result<(), AllocError>
         ensures kept { HasMore self.old.kept self.new.kept }
         ensures few { length self.new.kept ≤ max (length self.old.kept) count }

@@ -15,7 +15,7 @@ use crate::used::{PAGE, Uses, end_list, page_list};
 use ksv_bytes::{Change, Use};
 use std::alloc::{AllocError, Global};
 
-/// What each slot asked and its users, its uses and the lists in which it stands by them, and whether it is kept. Each of the three
+/// What each slot asked and its users, its uses and the lists in which it is by them, and whether it is kept. Each of the three
 /// counts its looks, and no call sets a count back.
 #[derive(Drop)]
 pub(crate) struct Parts {
@@ -217,7 +217,7 @@ impl Parts {
         self.uses.clear(slot);
     }
 
-    /// Marks the slots that a change touches. But for an overwrite, the uses of kept slots are within so many pages.
+    /// Marks the slots that a change touches. But for an overwrite, the uses of kept slots are within this many pages.
     fn hit_touched(&mut self, change: Change, pages: usize)
         requires whole { IsWhole self.old }
         requires within { IsMove change → AreAllWithin pages self.old }
@@ -233,7 +233,7 @@ impl Parts {
     }
 
     /// Marks each kept slot from which one is reached that a change touches. But for an overwrite, the uses of kept slots
-    /// are within so many pages. It takes no memory.
+    /// are within this many pages. It takes no memory.
     pub(crate) fn forget(&mut self, change: Change, pages: usize)
         requires whole { IsWhole self.old }
         requires within { IsMove change → AreAllWithin pages self.old }
@@ -301,7 +301,7 @@ impl Parts {
         Ok(())
     }
 
-    /// At least so many slots. The new ones aren't kept.
+    /// At least this many slots. The new ones aren't kept.
     #[cold]
     #[inline(never)]
     pub(crate) fn reach(&mut self, count: u32) -> Result<(), AllocError>

@@ -191,7 +191,7 @@ pub(crate) fn page_list(page: u32) -> u32
     2 * page + 1
 }
 
-/// The list of a use, if it stands in just one.
+/// The list of a use, if it is in just one.
 #[inline(always)]
 fn only_list(used: Use) -> Option<u32>
     ensures { IfSome result (λ list. lists_of_uses (used ∷ []) ≡ list ∷ []) }
@@ -334,7 +334,7 @@ fn link_uses(alloc: Global, chains: &mut Chains, slot: u32, uses: &[Use]) -> Res
     }
 }
 
-/// At least so many rows. The new ones have no use.
+/// At least this many rows. The new ones have no use.
 fn reach_rows(rows: &mut Vec<Noted>, count: usize) -> Result<(), AllocError>
     ensures same { HasSameRows (map uses_of rows.old.items) (map uses_of rows.new.items) }
     ensures few { length rows.new.items ≤ max (length rows.old.items) count }
@@ -463,7 +463,7 @@ impl Uses {
         self.chains.lists() / 2
     }
 
-    /// Each slot stands in the lists of its uses.
+    /// Each slot is in the lists of its uses.
     pub(crate) fn linked(&self)
         ensures listed { IsListed self.now.lists (map lists_of_uses self.now.rows) }
         ensures fits { length self.now.lists < 2 ^ 32 }
@@ -486,7 +486,7 @@ impl Uses {
         self.rows[slot as usize] = Noted::Nothing;
     }
 
-    /// At least so many rows, and a block for each of them. The new ones have no use.
+    /// At least this many rows, and a block for each of them. The new ones have no use.
     pub(crate) fn reach(&mut self, count: u32) -> Result<(), AllocError>
         ensures same { HasSameRows self.old.rows self.new.rows }
         ensures ok { OnOk result (count ≤ length self.new.rows) }

@@ -1,23 +1,23 @@
--- Optional origins in the room of one: an origin in a type of the greatest number stands for none. This layout is this project's own.
+-- Optional origins in the room of one: an origin in a type of the greatest number means none. This layout is this project's own.
 use Rattle.std.specs.Prelude.{◌≡◌, ◌==◌, Bool, true, false, Option, Some, None, if◌then◌else◌, refl}
 use Rattle.std.proofs.Common.{sym}
 use Rattle.std.proofs.lemmas.Bool.{eqb-true}
 use Rattle.ksv_nodes.specs.declared.given.Origin.{Origin}
 
--- what an origin stands for
+-- what an origin means
 abbrev pub optional_of : Origin → Option Origin
 optional_of g = if g.member.type_number == 4294967295 then None else Some g
 
--- the origin that stands for it
+-- the origin that means it
 abbrev pub origin_for : Option Origin → Origin
 origin_for None = record { member = record { type_number = 4294967295; member = 0 }; case = None; home = record { from = 0; to = None } }
 origin_for (Some g) = g
 
--- no other stands for none
+-- no other means none
 abbrev pub IsOne : Origin → Type 0
 IsOne g = g.member.type_number ≡ 4294967295 → g ≡ origin_for None
 
--- what an origin stands for is stood for by that origin (a lemma, which a reader may skip)
+-- what an origin means is meant by that origin (a lemma, which a reader may skip)
 pub origin_back : (g : Origin) → IsOne g → origin_for (optional_of g) ≡ g
 origin_back g one = by (g.member.type_number == 4294967295) refl
   where

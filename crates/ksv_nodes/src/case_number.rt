@@ -7,7 +7,7 @@ use std::marker::Model;
 /// Which case a switch chose, by its place among the cases, from 0, in four bytes; or none. Contracts see that optional number.
 #[derive(Clone, Copy)]
 pub struct CaseNumber {
-    /// The place of the case; the greatest number stands for none.
+    /// The place of the case; the greatest number means none.
     number: u32,
 }
 

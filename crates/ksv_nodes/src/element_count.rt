@@ -10,7 +10,7 @@ pub const ELEMENT_LIMIT: u32 = 1_048_576;
 /// How many elements a list has, if that is known beforehand, in four bytes. Contracts see that optional number.
 #[derive(Clone, Copy)]
 pub struct ElementCount {
-    /// That number; the greatest number, which no list reaches, stands for none.
+    /// That number; the greatest number, which no list reaches, means none.
     number: u32,
 }
 

@@ -52,7 +52,7 @@ impl ObjectOrigin {
     }
 
     /// An object that is read so. No contract bounds the types of a description, so a member of the type of the greatest number of
-    /// 32 bits, which stands for the root and is the last of a list of hundreds of gigabytes, is refused as memory is.
+    /// 32 bits, which means the root and is the last of a list of hundreds of gigabytes, is refused as memory is.
     #[inline(always)]
     pub fn new(origin: Origin) -> Result<ObjectOrigin, AllocError>
         ensures same { IfOk result (λ object. object ≡ Some origin) }

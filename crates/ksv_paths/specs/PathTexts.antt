@@ -1,5 +1,5 @@
 -- Paths as texts. The text of a path is `/` for the root, else each step from the first to the last behind a `/`: a member's
--- name that stands somewhere in the description, or an index of an element in decimal. The Kaitai Struct User Guide has no
+-- name that is somewhere in the description, or an index of an element in decimal. The Kaitai Struct User Guide has no
 -- such texts; they are this project's own. An id begins with a letter, so no name is an index.
 use Rattle.std.specs.Prelude.{◌≡◌, ℕ, ◌^◌, ◌==◌, ◌&&◌, ◌||◌, not, nat_lt, Bool, List, [], ◌∷◌, length, reverse, slice_index, Option, Some, None, option_map, option_and_then, decimal, if◌then◌else◌}
 use Rattle.std.specs.Char.{is_ascii_digit}

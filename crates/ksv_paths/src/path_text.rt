@@ -119,14 +119,14 @@ fn step_named(desc: &Desc, text: &[u8]) -> Option<Step>
     }
 }
 
-/// Where the first slash stands.
+/// Where the first slash is.
 fn slash_place(text: &[u8]) -> Option<usize>
     ensures { result ≡ position is_slash text.now }
 {
     text.iter().position(|byte| *byte == b'/')
 }
 
-/// The text up to the first slash, and what stands behind that slash.
+/// The text up to the first slash, and what comes after that slash.
 fn first_piece(text: &[u8]) -> (&[u8], Option<&[u8]>)
     ensures pieces { MatchOption result.1
         (slice_split is_slash text.now ≡ result.0.now ∷ [])
@@ -160,7 +160,7 @@ fn read_steps(desc: &Desc, text: &[u8]) -> Option<Steps>
     Some(steps)
 }
 
-/// The path that stands behind the first slash: none but that slash, or steps between slashes.
+/// The path after the first slash: none but that slash, or steps between slashes.
 fn path_behind(alloc: Global, desc: &Desc, text: &[u8]) -> Result<Option<Path>, AllocError>
     ensures path { IfOk result (λ path. path ≡ path_behind (plain_pieces desc.now) text.now) }
     ensures refused { OnErr result (IsSome (path_behind (plain_pieces desc.now) text.now)) }

@@ -99,7 +99,7 @@ pub record IsFurther (old new : List Link) (r : ℕ) (s : Step) (c : ℕ) : Type
   pub inside : c < length new
   pub is : slice_index_or (paths_of new) c [] ≡ s ∷ slice_index_or (paths_of old) r []
 
--- A walk along steps ended here: at the path of the first so many of them; or there are no paths yet, and both numbers are 0.
+-- A walk along steps ended here: at the path of the first this many of them; or there are no paths yet, and both numbers are 0.
 pub record EndsAt (paths : List (List Step)) (steps : List Step) (t : Trace) : Type 0 where
   pub inside : t.steps ≤ length steps
   pub path : (slice_get paths t.path ≡ Some (reverse (take t.steps steps))) ⊎ ((paths ≡ []) × (t.path ≡ 0) × (t.steps ≡ 0))

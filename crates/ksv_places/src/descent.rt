@@ -7,7 +7,7 @@ use std::alloc::{AllocError, Global};
 use std::marker::Model;
 
 /// The numbers of a top index and of those one after another below it. `down` has them from the top on, so the next below comes at its
-/// end. 0 stands for none.
+/// end. 0 means none.
 #[derive(Drop)]
 pub(crate) struct Descent {
     top: u32,

@@ -5,7 +5,7 @@ ghost use Rattle.ksv_places.specs.Table.{IsPut, number_at};
 use std::alloc::{AllocError, Global};
 use std::marker::Model;
 
-/// A number for each index, in one block of memory up to the last index that has one. 0 stands for none. Contracts see the list of
+/// A number for each index, in one block of memory up to the last index that has one. 0 means none. Contracts see the list of
 /// the numbers.
 #[derive(Drop)]
 pub(crate) struct Numbers {

@@ -13,7 +13,7 @@ const PAGE: u32 = 1024;
 
 /// A number for each index. Those of the first 1,024 indices lie in one block of memory. Further ones are in the descent: the first of
 /// them, and those that come one after another below it. All others lie in pages of 1,024, which are made only where an index has a
-/// number. 0 stands for none. `starts` has the number of each page: its place among the pages, and one more.
+/// number. 0 means none. `starts` has the number of each page: its place among the pages, and one more.
 #[derive(Drop)]
 pub(crate) struct Table {
     alloc: Global,

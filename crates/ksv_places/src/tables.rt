@@ -8,7 +8,7 @@ use crate::table::Table;
 use std::alloc::{AllocError, Global};
 use std::marker::Model;
 
-/// A table for each path, made only where one is needed. 0 stands for none. `starts` has the number of
+/// A table for each path, made only where one is needed. 0 means none. `starts` has the number of
 /// each path's table: its place among the tables, and one more.
 #[derive(Drop)]
 pub(crate) struct Tables {

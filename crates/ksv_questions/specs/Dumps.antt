@@ -103,7 +103,7 @@ members_part d each q left (x ∷ xs) ms = do
   part ← inner d each q left (child q (Name x))
   members_part d each q part.left xs (put (name d x) part.json ms)
 
--- the elements of q from this one on, so many, after those that are written
+-- the elements of q from this one on, this many, after those that are written
 unfoldable pub elements_part : Description → (ℕ → Trail → Asking Part) → Trail → ℕ → ℕ → ℕ → List Data → Asking Part
 elements_part d each q left i zero ds = written (array (items_of ds)) left
 elements_part d each q left i (suc n) ds = do

@@ -31,7 +31,7 @@ struct Tally {
     wrong: usize,
 }
 
-/// Where something stands: a table, and a line of it.
+/// Where something is: a table, and a line of it.
 #[derive(Clone, Copy)]
 struct Place<'a> {
     path: &'a str,

@@ -52,7 +52,7 @@ fn end_over<R: Source, W: Sink>(
     }
 }
 
-/// What a session over a device that fails after so many calls came to, and what it wrote, where that is known.
+/// What a session over a device that fails after this many calls came to, and what it wrote, where that is known.
 fn broken(
     alloc: Global,
     given: Given<'_>,

@@ -16,7 +16,7 @@ pub(crate) struct Given<'a> {
     pub(crate) file: &'a [u8],
 }
 
-/// Adds what a session writes if it is given so many bytes at once, or the message for a description that is refused; returns how the session ends.
+/// Adds what a session writes if it is given this many bytes at once, or the message for a description that is refused; returns how the session ends.
 fn add_output(
     alloc: Global,
     given: Given<'_>,

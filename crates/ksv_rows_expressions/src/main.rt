@@ -98,7 +98,7 @@ struct Tally {
     wrong: usize,
 }
 
-/// Where something stands: a table, a line of it, and the heading above.
+/// Where something is: a table, a line of it, and the heading above.
 #[derive(Clone, Copy)]
 struct Place<'a> {
     path: &'a str,

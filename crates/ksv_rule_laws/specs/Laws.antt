@@ -196,7 +196,7 @@ abbrev pub IsNoObject : Content → Type 0
 IsNoObject (contents.Object t given) = ⊥
 IsNoObject _ = Unit {0}
 
--- so many bits as the content says
+-- this many bits as the content says
 abbrev pub IsAsWide : Content → Leaf → Type 0
 IsAsWide (contents.Bits width enum) l = l.to ≡ further l.from width
 IsAsWide _ l = Unit {0}
@@ -341,7 +341,7 @@ pub record IsEmptyList (met : Node → Result Given NodeFault) (l : Trail) (c : 
   pub none : c ≡ 0
   pub start : list.start ≡ place
 
--- What is answered of a list from its first element on: it has so many elements, each of which ends, and it ends with the last.
+-- What is answered of a list from its first element on: it has this many elements, each of which ends, and it ends with the last.
 abbrev pub RestsCount : Type 0
 RestsCount = (d : Description) (bytes : List ℕ) (opened : List Node) (p : Trail) (c : ℕ) (place : Place) → last p ≡ Some (Index 0) → from_nothing d bytes opened (rest_node p) ≡ Ok (givens.Rest c place)
     → IsEmptyList (from_nothing d bytes opened) (parent p) c place ⊎ AreElements (from_nothing d bytes opened) (parent p) 0 c place
@@ -353,7 +353,7 @@ ToldCounts = (d : Description) (bytes : List ℕ) (opened : List Node) (p : Trai
 
 -- ---- places
 
--- in a file of so many bytes: the end of a stream, where it has one of its own
+-- in a file of this many bytes: the end of a stream, where it has one of its own
 abbrev pub IsEndIn : ℕ → Option ℕ → Type 0
 IsEndIn size None = Unit {0}
 IsEndIn size (Some t) = t ≤ size

@@ -41,7 +41,7 @@ pub fn circles_lead_back()
     ensures { CirclesLeadBack }
 {}
 
-/// Bytes and lists are read by an attribute of the description, bits by one of so many, and a list by one that repeats.
+/// Bytes and lists are read by an attribute of the description, bits by one of this many, and a list by one that repeats.
 pub fn heads_are_read()
     ensures { HeadsAreRead }
 {}
@@ -58,7 +58,7 @@ pub fn elements_touch()
 {}
 
 /// From its first element on, a list has as many elements as end, the last of which alone is the last, and it ends with that one;
-/// where it is told how many elements it has, it has so many.
+/// where it is told how many elements it has, it has this many.
 pub fn rests_count()
     ensures elements { RestsCount }
     ensures told { ToldCounts }

@@ -22,7 +22,7 @@ is_circle (Err (faults.Circle p)) = true
 unfoldable pub meets_circle : Description → List ℕ → List Node → Node → Bool
 meets_circle d bytes opened n = is_circle (from_nothing d bytes opened n)
 
--- the nodes that evaluating a node completes, in order, with repeats, at most so many deep: all that each node that it asks
+-- the nodes that evaluating a node completes, in order, with repeats, at most this many deep: all that each node that it asks
 -- completes, and then the node itself, unless a circle was met; an open node completes nothing
 unfoldable pub completed_within : Description → List ℕ → ℕ → List Node → Node → List Node
 completed_within d bytes zero opened n = []

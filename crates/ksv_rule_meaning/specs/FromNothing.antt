@@ -17,7 +17,7 @@ use Rattle.ksv_rule_meaning.specs.Meaning.{rule_of}
 abbrev pub circle : Node → Result Given NodeFault
 circle n = Err (faults.Circle n.path)
 
--- the answer while these nodes are open, at most so many deep
+-- the answer while these nodes are open, at most this many deep
 unfoldable pub answer_within : Description → List ℕ → ℕ → List Node → Node → Result Given NodeFault
 answer_within d bytes zero opened n = circle n
 answer_within d bytes (suc depth) opened n = cond (is_among node_number opened n) (circle n) (answer_of (answer_within d bytes depth (n ∷ opened)) n.path bytes (rule_of d n))

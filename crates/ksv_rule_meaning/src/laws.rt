@@ -18,7 +18,7 @@ pub fn next_meets_truth()
     ensures { NextMeetsTruth }
 {}
 
-/// A rule asks a number of nodes that its description tells, whatever they answer and whatever the bytes are; with so many
+/// A rule asks a number of nodes that its description tells, whatever they answer and whatever the bytes are; with this many
 /// replies a node is done.
 pub fn rules_are_bounded()
     ensures { RulesAreBounded }

@@ -84,7 +84,7 @@ abbrev pub seen_home : HomeOfCode → Home
 seen_home h = record { declared = declared h.scopes.now; within = h.within; in_sequence = h.in_sequence; is_repeated = h.is_repeated }
 
 abbrev pub seen_keys : FieldKeysOfCode → FieldKeys
-seen_keys k = record { home = seen_home k.home; entries = map pair k.entries.now; beside = map pair k.beside.now; enum = k.enumeration }
+seen_keys k = record { home = seen_home k.home.now; entries = map pair k.entries.now; beside = map pair k.beside.now; enum = k.enumeration }
 
 -- ---- what is read
 

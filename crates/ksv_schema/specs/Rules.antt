@@ -89,7 +89,7 @@ claimed typed es (Has name) = entry_at name es
 claimed typed es (Says name text) = if says name text es then entry_at name es else None
 claimed typed es IsInteger = if is_a is_integer typed then entry_at (codes "type") es else None
 
--- two keys that exclude each other, one that needs another, and one that stands only beside another
+-- two keys that exclude each other, one that needs another, and one that is allowed only beside another
 pub data Rule : Type 0 where
   Excludes : Claim → Claim → Rule
   Needs : Claim → Claim → Rule

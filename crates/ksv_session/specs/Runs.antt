@@ -16,7 +16,7 @@ pub record Taken : Type 0 where
 abbrev pub took : List ℕ → ℕ → Taken
 took bytes flushed = record { bytes = bytes; flushed = flushed }
 
--- how many bytes it has passed on once so many replies, with this output in all, were each written and flushed
+-- how many bytes it has passed on once this many replies, with this output in all, were each written and flushed
 abbrev pub flushed_by : Taken → List ℕ → ℕ → ℕ
 flushed_by before output zero = before.flushed
 flushed_by before output (suc n) = length before.bytes + length output

@@ -19,7 +19,7 @@ use ksv_bytes::{Buffer, Change, EditRefusal};
 use ksv_commands::{Command, Question, read_line};
 use ksv_desc::Desc;
 use ksv_expr_value::{Integer, Path};
-use ksv_lines::EditDigits;
+use ksv_lines::{EDIT_LIMIT, EditDigits};
 use ksv_memo::Engine;
 use ksv_questions::{Overwrite, answer, bytes_text, overwrite_for};
 use ksv_rule_meaning::{Described, NodeRules};
@@ -249,8 +249,9 @@ impl<N: NodeRules> Session<N> {
         ensures kept { description_of self.new ≡ description_of self.old }
         ensures memory { (m : Memory) → Holds self.old m → Holds self.new (after_edit (description_of self.old) self.old.bytes (changes.Overwrite at (length digits.now)) (overwrite self.old.bytes at digits.now) m) }
     {
-        let bytes = digits.bytes();
-        self.overwrite(at, bytes.as_slice())
+        let mut room = [0; EDIT_LIMIT];
+        let bytes = digits.bytes(&mut room);
+        self.overwrite(at, bytes)
     }
 
     /// Puts bytes before the byte at a place, or after the last one, and forgets what that touches.
@@ -276,8 +277,9 @@ impl<N: NodeRules> Session<N> {
         ensures kept { description_of self.new ≡ description_of self.old }
         ensures memory { (m : Memory) → Holds self.old m → OnOk result (Holds self.new (after_edit (description_of self.old) self.old.bytes (changes.Insert at (length digits.now)) (insert self.old.bytes at digits.now) m)) }
     {
-        let bytes = digits.bytes();
-        self.insert(at, bytes.as_slice())
+        let mut room = [0; EDIT_LIMIT];
+        let bytes = digits.bytes(&mut room);
+        self.insert(at, bytes)
     }
 
     /// Removes this many bytes from a place on, and forgets what that touches.
@@ -317,8 +319,9 @@ impl<N: NodeRules> Session<N> {
         ensures kept { description_of self.new ≡ description_of self.old }
         ensures memory { (m : Memory) → Holds self.old m → OnOk result (Holds self.new (after_edit (description_of self.old) self.old.bytes changes.Append (append self.old.bytes digits.now) m)) }
     {
-        let bytes = digits.bytes();
-        self.append(bytes.as_slice())
+        let mut room = [0; EDIT_LIMIT];
+        let bytes = digits.bytes(&mut room);
+        self.append(bytes)
     }
 
     /// The bytes from a place on, at most 4,096.

@@ -1,6 +1,6 @@
 //! How few looks an append, an insert or a delete takes, at a number of rows, twice and four times as many.
 //!
-//! Where the values are from: by hand. The file has so many pages of 64 bytes 0. Row 0 is 7. The rows from 1 on are named by the
+//! Where the values are from: by hand. The file has this many pages of 64 bytes 0. Row 0 is 7. The rows from 1 on are named by the
 //! first byte of a page each, so they are 7 too. Behind them are a row that is named by the byte after the last one, which isn't there
 //! (it uses the size), and two that say whether the file reaches its end and place 10 (it does).
 //!
@@ -31,7 +31,7 @@ use std::test::Fail;
 /// How many bytes a page has.
 const PAGE: u32 = 64;
 
-/// The rows over so many pages.
+/// The rows over this many pages.
 fn paged_rows(alloc: Global, pages: u8) -> Result<Rows, AllocError> {
     let mut rows = Vec::new(alloc);
     rows.push(Row::Number(7))?;
@@ -44,7 +44,7 @@ fn paged_rows(alloc: Global, pages: u8) -> Result<Rows, AllocError> {
     Ok(Rows { rows })
 }
 
-/// An edit of a file of so many pages.
+/// An edit of a file of this many pages.
 #[derive(Clone, Copy)]
 enum Edit {
     /// A byte after the last one.
@@ -65,7 +65,7 @@ struct Trial {
     most: u64,
 }
 
-/// What a row over so many pages answers.
+/// What a row over this many pages answers.
 fn wanted(pages: u8, number: u8) -> Plain {
     if number <= pages {
         return Plain::Value(7);
@@ -76,7 +76,7 @@ fn wanted(pages: u8, number: u8) -> Plain {
     Plain::Value(1)
 }
 
-/// Whether each row over so many pages answers as it should.
+/// Whether each row over this many pages answers as it should.
 fn answers_all(
     engine: &mut Engine<Rows>,
     rules: &Rows,
@@ -191,7 +191,7 @@ fn a_delete_near_the_end_looks_there_alone(rt: HostRuntime) -> Result<(), Fail> 
     Ok(())
 }
 
-/// An insert in the middle of twice so many pages.
+/// An insert in the middle of twice this many pages.
 fn in_the_middle(half: u8) -> Trial {
     let behind = u64::from(half);
     let gone = behind + 2;

@@ -29,7 +29,7 @@ fn has_value(
     }
 }
 
-/// Whether a link of a chain has a value, after which so many links are kept and turns counted.
+/// Whether a link of a chain has a value, after which this many links are kept and turns counted.
 fn is_chained(
     engine: &mut Engine<Chain>,
     bytes: &Buffer,

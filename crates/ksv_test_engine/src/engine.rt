@@ -186,7 +186,7 @@ fn is_newly_tried(
     is_right
 }
 
-/// The same over the rows that are told and a file of so many zero bytes.
+/// The same over the rows that are told and a file of this many zero bytes.
 fn ends_well(alloc: Global, told: &[&[u8]], size: usize, trial: Trial) -> Result<bool, Fail> {
     let rules = rows(alloc, told)?;
     let mut bytes = Buffer::new(vec![in alloc; 0u8; size]?)?;
@@ -275,7 +275,7 @@ struct Leaving {
     turns: u64,
 }
 
-/// Whether so many of the rows that a question keeps are kept after an edit, and the next question takes so many turns.
+/// Whether this many of the rows that a question keeps are kept after an edit, and the next question takes this many turns.
 fn leaves(
     engine: &mut Engine<Rows>,
     rules: &Rows,
@@ -335,8 +335,8 @@ fn forgets_a_row_that_asks_another_twice(rt: HostRuntime) -> Result<(), Fail> {
     Ok(())
 }
 
-/// Whether an overwrite of the byte in a place, after the last row of [`DOUBLED`] was asked, takes at least so many looks
-/// and no more than so many.
+/// Whether an overwrite of the byte in a place, after the last row of [`DOUBLED`] was asked, takes at least this many looks
+/// and no more than this many.
 fn looks(
     engine: &mut Engine<Rows>,
     rules: &Rows,
@@ -368,7 +368,7 @@ fn looks_near_an_overwrite_alone(rt: HostRuntime) -> Result<(), Fail> {
     Ok(())
 }
 
-/// Whether, after an edit, so many rows of [`LINKED`] are kept, and then all of them once the last row was asked again.
+/// Whether, after an edit, this many rows of [`LINKED`] are kept, and then all of them once the last row was asked again.
 fn refills(
     engine: &mut Engine<Rows>,
     rules: &Rows,

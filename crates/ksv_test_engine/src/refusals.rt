@@ -90,9 +90,9 @@ impl Rules for Refusing {
 /// What an engine tells of a row in a question of its own.
 #[derive(Clone, Copy, PartialEq, Eq)]
 enum Told {
-    /// That it answers this number, after so many turns.
+    /// That it answers this number, after this many turns.
     Number(u32, Option<u64>),
-    /// That memory was refused, and so many turns.
+    /// That memory was refused, and this many turns.
     Refused(Option<u64>),
     /// Anything else.
     Other,
@@ -120,7 +120,7 @@ fn turns_of(number: u8) -> u64 {
     }
 }
 
-/// Whether an engine keeps the first rows, so many of them, which take no turn, and each row after them takes its own turns alone.
+/// Whether an engine keeps the first rows, this many of them, which take no turn, and each row after them takes its own turns alone.
 fn are_whole(engine: &mut Engine<Refusing>, rules: &Refusing, bytes: &Buffer, kept: usize) -> bool
     requires { IsRight (on (rows_meaning rules.now.rows.rows.items) bytes.now) engine.old.kept }
 {
@@ -137,7 +137,7 @@ fn are_whole(engine: &mut Engine<Refusing>, rules: &Refusing, bytes: &Buffer, ke
     are_whole
 }
 
-/// Whether a question for row 5 is refused memory, after which so many rows are kept whole; before it come as many that aren't.
+/// Whether a question for row 5 is refused memory, after which this many rows are kept whole; before it come as many that aren't.
 fn is_left(
     engine: &mut Engine<Refusing>,
     rules: &Refusing,

@@ -25,7 +25,7 @@ use std::test::Fail;
 #[derive(Drop)]
 struct Tower;
 
-/// Notes what a link of a tower over so many bytes reads.
+/// Notes what a link of a tower over this many bytes reads.
 fn read(is_lowest: bool, size: usize, uses: &mut Vec<Use>) -> Result<(), AllocError>
     ensures ok { OnOk result (uses.new.items ≡ uses.old.items ++ read_by is_lowest (size == 0)) }
     ensures err { OnErr result (uses.new.items ≡ uses.old.items) }
@@ -82,7 +82,7 @@ impl Rules for Tower {
     ghost lawful = { λ _. tower_lawful };
 }
 
-/// Asks a link of a tower over some bytes; whether it has the value that follows from them, and so many links are kept.
+/// Asks a link of a tower over some bytes; whether it has the value that follows from them, and this many links are kept.
 fn stands(engine: &mut Engine<Tower>, bytes: &Buffer, number: u32) -> Result<bool, AllocError>
     requires { IsRight (on tower_meaning bytes.now) engine.old.kept }
     ensures { IsRight (on tower_meaning bytes.now) engine.new.kept }
@@ -119,7 +119,7 @@ fn is_beside(fall: Fall) -> bool {
     fall.gone == 0 && fall.looked <= 16
 }
 
-/// Whether all of so many links went, with no fewer looks than them and no more than near: one page, one use of it, and the
+/// Whether all of this many links went, with no fewer looks than them and no more than near: one page, one use of it, and the
 /// links with their asks.
 fn is_whole(fall: Fall, links: u64) -> bool {
     let near = links.saturating_mul(2).saturating_add(2);

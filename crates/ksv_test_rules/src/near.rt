@@ -94,7 +94,7 @@ fn are_near<R: Rules>(engine: &mut Engine<R>, overwrites: &[Overwrite]) -> bool 
     are_near
 }
 
-/// Whether an engine that was asked for a node keeps so many, and overwrites are near.
+/// Whether an engine that was asked for a node keeps this many, and overwrites are near.
 fn is_asked_near<R: Rules>(
     alloc: Global,
     rules: &R,
@@ -111,7 +111,7 @@ fn is_asked_near<R: Rules>(
     is_asked && is_kept && are_near
 }
 
-/// Whether an engine that was asked for `/s` of a described file keeps so many nodes, and overwrites are near.
+/// Whether an engine that was asked for `/s` of a described file keeps this many nodes, and overwrites are near.
 fn is_near(
     alloc: Global,
     text: &str,

@@ -1,7 +1,7 @@
 //! Each call of a turn on its happy path and on its fault, and the readings with what they depend on.
 //!
 //! Values are by hand. A reading depends on the bytes that it looked at, in `ab;cd;` counted from 0, on the file having
-//! so many bytes (`Reach`), or on its size where it went to the end or past it; a stream with an end of its own needs no
+//! this many bytes (`Reach`), or on its size where it went to the end or past it; a stream with an end of its own needs no
 //! size. What a turn is asked and what it needs next follows the replies that stand beside it.
 
 use ksv_bytes::Buffer;

@@ -59,7 +59,7 @@ abbrev pub as_unsigned : IntegerType → ℤ → ℕ
 as_unsigned t (pos n) = n
 as_unsigned t (negsuc n) = value_count t - suc n
 
--- so many digits to the base 256, the least significant first
+-- this many digits to the base 256, the least significant first
 unfoldable pub little_endian : ℕ → ℕ → List ℕ
 little_endian zero n = []
 little_endian (suc k) n = n % 256 ∷ little_endian k (n / 256)

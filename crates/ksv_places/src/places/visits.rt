@@ -103,7 +103,7 @@ fn are_placed(alloc: Global, indices: &[u32]) -> Result<bool, AllocError> {
     Ok(first? && again?)
 }
 
-/// So many indices downwards from this one.
+/// This many indices downwards from this one.
 fn downwards(alloc: Global, top: u32, count: u32) -> Result<Vec<u32>, AllocError> {
     let mut indices = Vec::new(alloc);
     for back in 0..count {

@@ -757,6 +757,6 @@ done_of (Need n s) h = h
 done_of (Failed f s) h = tt
 done_of (Done g s) h = tt
 
--- with so many replies, true or not, a node is done
+-- with this many replies, true or not, a node is done
 pub settles : (d : Description) (bytes : List ℕ) (n : Node) (replies : List (Result Answered Fault)) → most_asks d ≤ length replies → IsDone (step_of (resumed d bytes n replies))
 settles d bytes n replies h = done_of (resumed d bytes n replies) (enough (most_asks d) (rule_of d n) (fresh n.path bytes replies) (rule_nodes d n) h)

@@ -107,8 +107,8 @@ fn all_members<'a>(
 
 /// A member of this kind, with the numbers of names.
 #[tactic(auto, unfolding(crate::specs::Description::member_of))]
-fn member_of(context: Context, member: &Member, mut kind: MemberKind) -> Option<MemberDesc>
-    ensures { option_map plain_member result ≡ member_of (context_of context.entry) (seen_member member.now) (plain_kind kind) }
+fn member_of(context: &Context, member: &Member, mut kind: MemberKind) -> Option<MemberDesc>
+    ensures { option_map plain_member result ≡ member_of (context_of context.now) (seen_member member.now) (plain_kind kind) }
 {
     let name = context.names.number_of(as_text(member.name())?)?;
     number_kind(context, &mut kind);
@@ -118,11 +118,11 @@ fn member_of(context: Context, member: &Member, mut kind: MemberKind) -> Option<
 /// Each of these members, of which these are the kinds.
 fn members_of(
     alloc: Global,
-    context: Context,
+    context: &Context,
     members: &[Member],
     kinds: Vec<MemberKind>,
 ) -> Read<Vec<MemberDesc>>
-    ensures { IfOk result (λ o. option_map (λ v. map plain_member v.items) o ≡ each_of (member_of (context_of context.entry)) (map seen_member members.now) (map plain_kind kinds.items)) }
+    ensures { IfOk result (λ o. option_map (λ v. map plain_member v.items) o ≡ each_of (member_of (context_of context.now)) (map seen_member members.now) (map plain_kind kinds.items)) }
 {
     let mut rest = kinds.into_iter();
     let mut made = Vec::new(alloc);
@@ -142,13 +142,13 @@ fn members_of(
 #[tactic(auto, unfolding(crate::specs::Description::type_of))]
 fn type_of(
     alloc: Global,
-    context: Context,
+    context: &Context,
     row: &Row,
     members: &[Member],
     kinds: Vec<MemberKind>,
 ) -> Read<TypeDesc>
     requires { map seen_member members.now ≡ members_of (row_of row.now) }
-    ensures { IfOk result (λ o. option_map plain_type o ≡ type_of (declared context.entry.scopes.now) context.entry.names.now context.entry.within (row_of row.now) (map plain_kind kinds.items)) }
+    ensures { IfOk result (λ o. option_map plain_type o ≡ type_of (declared context.now.scopes.now) context.now.names.now context.now.within (row_of row.now) (map plain_kind kinds.items)) }
 {
     let members = members_of(alloc, context, members, kinds)?;
     match both(members, owned_text(alloc, row.id))? {
@@ -180,7 +180,7 @@ fn types_of<'a>(
             names,
             within,
         };
-        let Some(desc) = type_of(alloc, context, row, &members[within], own)? else {
+        let Some(desc) = type_of(alloc, &context, row, &members[within], own)? else {
             return Ok(None);
         };
         made.push(desc)?;

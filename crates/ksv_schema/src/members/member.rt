@@ -37,10 +37,10 @@ use ksv_yaml_tree::{Entry, find};
 #[tactic(auto, using(crate::proofs::Noted::steps, ksv_desc::proofs::Dots::steps))]
 fn conditioned(
     reader: &mut Reader,
-    home: Home,
+    home: &Home,
     entries: &[Entry],
 ) -> Read<(Option<Expr>, Option<Valid>)>
-    ensures { Reads (conditioned (seen_home home.entry) (map pair entries.now)) (λ p. (option_map view p.0, option_map plain_valid p.1)) reader.old reader.new result }
+    ensures { Reads (conditioned (seen_home home.now) (map pair entries.now)) (λ p. (option_map view p.0, option_map plain_valid p.1)) reader.old reader.new result }
 {
     let condition = perhaps_expression(reader, home, Site::Condition, find(entries, b"if"))?;
     both(condition, own_valid(reader, home, entries))
@@ -81,8 +81,8 @@ fn repeat_of(entries: &[Entry], count: Option<Expr>, last: Option<Expr>) -> Opti
 
 /// How often an attribute of these keys is read.
 #[tactic(auto, using(crate::proofs::Noted::steps, ksv_desc::proofs::Dots::steps), unfolding(crate::specs::Members::repeated))]
-fn repeated(reader: &mut Reader, home: Home, entries: &[Entry]) -> Read<Repeat>
-    ensures { Reads (repeated (seen_home home.entry) (map pair entries.now)) plain_repeat reader.old reader.new result }
+fn repeated(reader: &mut Reader, home: &Home, entries: &[Entry]) -> Read<Repeat>
+    ensures { Reads (repeated (seen_home home.now) (map pair entries.now)) plain_repeat reader.old reader.new result }
 {
     let count = perhaps_expression(reader, home, Site::Count, find(entries, b"repeat-expr"))?;
     let last = perhaps_expression(reader, home, Site::Until, find(entries, b"repeat-until"));
@@ -96,10 +96,10 @@ fn repeated(reader: &mut Reader, home: Home, entries: &[Entry]) -> Read<Repeat>
 #[tactic(auto, using(crate::proofs::Noted::steps, ksv_desc::proofs::Dots::steps))]
 fn timed(
     reader: &mut Reader,
-    home: Home,
+    home: &Home,
     entries: &[Entry],
 ) -> Read<((Option<Expr>, Option<Valid>), Repeat)>
-    ensures { Reads (timed (seen_home home.entry) (map pair entries.now)) (λ p. ((option_map view p.0.0, option_map plain_valid p.0.1), plain_repeat p.1)) reader.old reader.new result }
+    ensures { Reads (timed (seen_home home.now) (map pair entries.now)) (λ p. ((option_map view p.0.0, option_map plain_valid p.0.1), plain_repeat p.1)) reader.old reader.new result }
 {
     let conditions = conditioned(reader, home, entries)?;
     both(conditions, repeated(reader, home, entries))
@@ -107,8 +107,8 @@ fn timed(
 
 /// Where an attribute of these keys ends.
 #[tactic(auto, using(crate::proofs::Noted::steps, ksv_desc::proofs::Dots::steps))]
-fn extent(reader: &mut Reader, home: Home, entries: &[Entry]) -> Read<Extent>
-    ensures { Reads (extent (seen_home home.entry) (map pair entries.now)) plain_extent reader.old reader.new result }
+fn extent(reader: &mut Reader, home: &Home, entries: &[Entry]) -> Read<Extent>
+    ensures { Reads (extent (seen_home home.now) (map pair entries.now)) plain_extent reader.old reader.new result }
 {
     match perhaps_expression(reader, home, Site::Size, find(entries, b"size"))? {
         Some(Some(size)) => Ok(Some(Extent::Sized(size))),
@@ -145,9 +145,9 @@ fn terminator_of(typed: &Option<TypeText>, entries: &[Entry]) -> Option<Terminat
 
 /// What these keys state, with the type whose text is at `type`.
 #[tactic(auto, using(crate::proofs::Noted::steps, ksv_desc::proofs::Dots::steps), unfolding(crate::specs::Members::parts))]
-fn read_parts(reader: &mut Reader, keys: FieldKeys, typed: Option<TypeText>) -> Read<Field>
-    requires { seen_type_at typed ≡ own_type (seen_keys keys).entries }
-    ensures { Reads (parts (seen_keys keys.entry)) plain_field reader.old reader.new result }
+fn read_parts(reader: &mut Reader, keys: &FieldKeys, typed: Option<TypeText>) -> Read<Field>
+    requires { seen_type_at typed ≡ own_type (seen_keys keys.now).entries }
+    ensures { Reads (parts (seen_keys keys.now)) plain_field reader.old reader.new result }
 {
     let terminator = terminator_of(&typed, keys.entries);
     let timed = timed(reader, keys.home, keys.entries)?;
@@ -175,12 +175,12 @@ fn read_parts(reader: &mut Reader, keys: FieldKeys, typed: Option<TypeText>) -> 
 #[tactic(auto, using(crate::proofs::Noted::steps), unfolding(crate::specs::Members::needs))]
 fn note_needs(
     least: &mut Least,
-    home: Home,
+    home: &Home,
     line: usize,
     typed: &Option<TypeText>,
     entries: &[Entry],
 )
-    ensures { seen_fault least.new ≡ noted (seen_fault least.old) (needs (seen_home home.entry) line (seen_type_at typed.now) (map pair entries.now)) }
+    ensures { seen_fault least.new ≡ noted (seen_fault least.old) (needs (seen_home home.now) line (seen_type_at typed.now) (map pair entries.now)) }
 {
     let is_sized = has(entries, b"size") | says(entries, b"size-eos", b"true");
     let is_bounded = is_sized | has(entries, b"terminator");
@@ -196,8 +196,8 @@ fn note_needs(
 
 /// Notes an unsupported terminator: of a type of the description, or of `strz` another one than 0.
 #[tactic(auto, using(crate::proofs::Noted::steps), unfolding(crate::specs::Members::unsupported))]
-fn note_unsupported(least: &mut Least, home: Home, typed: &Option<TypeText>, entries: &[Entry])
-    ensures { seen_fault least.new ≡ noted (seen_fault least.old) (unsupported (seen_home home.entry) (seen_type_at typed.now) (map pair entries.now)) }
+fn note_unsupported(least: &mut Least, home: &Home, typed: &Option<TypeText>, entries: &[Entry])
+    ensures { seen_fault least.new ≡ noted (seen_fault least.old) (unsupported (seen_home home.now) (seen_type_at typed.now) (map pair entries.now)) }
 {
     let is_object = match typed {
         Some(text) => is_declared(home, text),
@@ -217,7 +217,7 @@ fn note_unsupported(least: &mut Least, home: Home, typed: &Option<TypeText>, ent
 #[tactic(auto, using(crate::proofs::Noted::steps, ksv_desc::proofs::Dots::steps), unfolding(crate::specs::Members::field))]
 fn field(
     reader: &mut Reader,
-    home: Home,
+    home: &Home,
     kind: MappingKind,
     line: usize,
     enumeration: Option<u32>,
@@ -225,7 +225,7 @@ fn field(
     typed: Option<TypeText>,
 ) -> Read<Field>
     requires { seen_type_at typed ≡ own_type (map pair entries.now) }
-    ensures { Reads (field (seen_home home.entry) kind line enumeration (own_type (map pair entries.now)) (map pair entries.now)) plain_field reader.old reader.new result }
+    ensures { Reads (field (seen_home home.now) kind line enumeration (own_type (map pair entries.now)) (map pair entries.now)) plain_field reader.old reader.new result }
 {
     note_together(&mut reader.least, kind, line, &typed, entries);
     note_needs(&mut reader.least, home, line, &typed, entries);
@@ -236,7 +236,7 @@ fn field(
         beside: entries,
         enumeration,
     };
-    read_parts(reader, keys, typed)
+    read_parts(reader, &keys, typed)
 }
 
 // ---- members, by their kinds
@@ -255,12 +255,12 @@ fn enum_in(number: Option<Option<u32>>) -> Option<u32>
 #[tactic(auto, using(crate::proofs::Noted::steps, ksv_desc::proofs::Dots::steps))]
 fn own_field(
     reader: &mut Reader,
-    home: Home,
+    home: &Home,
     kind: MappingKind,
     line: usize,
     entries: &[Entry],
 ) -> Read<Field>
-    ensures { Reads (own_field (seen_home home.entry) kind line (map pair entries.now)) plain_field reader.old reader.new result }
+    ensures { Reads (own_field (seen_home home.now) kind line (map pair entries.now)) plain_field reader.old reader.new result }
 {
     let number = own_enum(reader, home, entries)?;
     let typed = own_type(reader.alloc, entries)?;
@@ -270,8 +270,8 @@ fn own_field(
 
 /// An attribute.
 #[tactic(auto, using(crate::proofs::Noted::steps, ksv_desc::proofs::Dots::steps), unfolding(crate::specs::Members::attribute))]
-fn attribute(reader: &mut Reader, home: Home, line: usize, entries: &[Entry]) -> Read<MemberKind>
-    ensures { Reads (attribute (seen_home home.entry) line (map pair entries.now)) plain_kind reader.old reader.new result }
+fn attribute(reader: &mut Reader, home: &Home, line: usize, entries: &[Entry]) -> Read<MemberKind>
+    ensures { Reads (attribute (seen_home home.now) line (map pair entries.now)) plain_kind reader.old reader.new result }
 {
     match own_field(reader, home, MappingKind::Attribute, line, entries)? {
         Some(field) => Ok(Some(MemberKind::Attribute(field))),
@@ -283,11 +283,11 @@ fn attribute(reader: &mut Reader, home: Home, line: usize, entries: &[Entry]) ->
 #[tactic(auto, using(crate::proofs::Noted::steps, ksv_desc::proofs::Dots::steps), unfolding(crate::specs::Members::parse_instance))]
 fn parse_instance(
     reader: &mut Reader,
-    home: Home,
+    home: &Home,
     line: usize,
     entries: &[Entry],
 ) -> Read<MemberKind>
-    ensures { Reads (parse_instance (seen_home home.entry) line (map pair entries.now)) plain_kind reader.old reader.new result }
+    ensures { Reads (parse_instance (seen_home home.now) line (map pair entries.now)) plain_kind reader.old reader.new result }
 {
     let place = needed_expression(reader, home, Site::Place, line, find(entries, b"pos"))?;
     let stream = perhaps_expression(reader, home, Site::Stream, find(entries, b"io"));
@@ -310,11 +310,11 @@ fn parse_instance(
 #[tactic(auto, using(crate::proofs::Noted::steps, ksv_desc::proofs::Dots::steps), unfolding(crate::specs::Members::value_instance))]
 fn value_instance(
     reader: &mut Reader,
-    home: Home,
+    home: &Home,
     line: usize,
     entries: &[Entry],
 ) -> Read<MemberKind>
-    ensures { Reads (value_instance (seen_home home.entry) line (map pair entries.now)) plain_kind reader.old reader.new result }
+    ensures { Reads (value_instance (seen_home home.now) line (map pair entries.now)) plain_kind reader.old reader.new result }
 {
     note_together(&mut reader.least, MappingKind::Value, line, &None, entries);
     let conditions = conditioned(reader, home, entries)?;
@@ -338,11 +338,11 @@ fn value_instance(
 #[tactic(auto, using(crate::proofs::Noted::steps, crate::proofs::Least::noted_cons, ksv_desc::proofs::Dots::steps), unfolding(crate::specs::Members::placeless))]
 fn placeless(
     reader: &mut Reader,
-    home: Home,
+    home: &Home,
     name_line: usize,
     entries: &[Entry],
 ) -> Read<MemberKind>
-    ensures { Reads (placeless (seen_home home.entry) name_line (map pair entries.now)) plain_kind reader.old reader.new result }
+    ensures { Reads (placeless (seen_home home.now) name_line (map pair entries.now)) plain_kind reader.old reader.new result }
 {
     note(&mut reader.least, name_line, LeftOut);
     drop(perhaps_expression(reader, home, Site::Stream, find(entries, b"io"))?);
@@ -354,7 +354,7 @@ fn placeless(
         beside: &[],
         enumeration: enum_in(number),
     };
-    drop(read_parts(reader, keys, typed)?);
+    drop(read_parts(reader, &keys, typed)?);
     Ok(None)
 }
 
@@ -362,13 +362,13 @@ fn placeless(
 #[tactic(auto, using(crate::proofs::Noted::steps), unfolding(crate::specs::Members::by_kind))]
 fn by_kind(
     reader: &mut Reader,
-    home: Home,
+    home: &Home,
     kind: MappingKind,
     name_line: usize,
     line: usize,
     entries: &[Entry],
 ) -> Read<MemberKind>
-    ensures { Reads (by_kind (seen_home home.entry) kind name_line line (map pair entries.now)) plain_kind reader.old reader.new result }
+    ensures { Reads (by_kind (seen_home home.now) kind name_line line (map pair entries.now)) plain_kind reader.old reader.new result }
 {
     match kind {
         MappingKind::Parameter => {
@@ -377,7 +377,7 @@ fn by_kind(
         }
         MappingKind::Attribute => attribute(reader, home, line, entries),
         MappingKind::ParseInstance => parse_instance(reader, home, line, entries),
-        MappingKind::Value => value_instance(reader, once(home), line, entries),
+        MappingKind::Value => value_instance(reader, &once(home), line, entries),
         MappingKind::Placeless => placeless(reader, home, name_line, entries),
         _ => Ok(Some(MemberKind::Parameter)),
     }
@@ -399,7 +399,7 @@ fn member_keys<'a>(
     note_keys(&mut reader.least, kind, entries);
     by_kind(
         reader,
-        home,
+        &home,
         kind,
         member.line,
         member.value.line(),

@@ -19,15 +19,15 @@ pub(crate) struct Context<'a> {
 }
 
 /// Gives the names of an expression their numbers.
-fn number_tree(context: Context, expr: &mut Expr)
-    ensures { view expr.new ≡ in_tree (context_of context.entry) (view expr.old) }
+fn number_tree(context: &Context, expr: &mut Expr)
+    ensures { view expr.new ≡ in_tree (context_of context.now) (view expr.old) }
 {
     number_expr(context.scopes, context.names, context.within, expr);
 }
 
 /// Gives the names of an optional expression their numbers.
-fn number_optional(context: Context, expr: &mut Option<Expr>)
-    ensures { option_map view expr.new ≡ option_map (in_tree (context_of context.entry)) (option_map view expr.old) }
+fn number_optional(context: &Context, expr: &mut Option<Expr>)
+    ensures { option_map view expr.new ≡ option_map (in_tree (context_of context.now)) (option_map view expr.old) }
 {
     match expr {
         Some(expr) => number_tree(context, expr),
@@ -36,8 +36,8 @@ fn number_optional(context: Context, expr: &mut Option<Expr>)
 }
 
 /// Gives the names of each of these expressions their numbers.
-fn number_trees(context: Context, exprs: &mut [Expr])
-    ensures { map view exprs.new ≡ map (in_tree (context_of context.entry)) (map view exprs.old) }
+fn number_trees(context: &Context, exprs: &mut [Expr])
+    ensures { map view exprs.new ≡ map (in_tree (context_of context.now)) (map view exprs.old) }
 {
     for expr in exprs.iter_mut() {
         number_tree(context, expr);
@@ -47,8 +47,8 @@ fn number_trees(context: Context, exprs: &mut [Expr])
 // ---- what is read
 
 /// Gives the names of a content their numbers.
-fn number_content(context: Context, content: &mut Content)
-    ensures { plain_content content.new ≡ in_content (context_of context.entry) (plain_content content.old) }
+fn number_content(context: &Context, content: &mut Content)
+    ensures { plain_content content.new ≡ in_content (context_of context.now) (plain_content content.old) }
 {
     match content {
         Content::Bytes => {}
@@ -63,15 +63,15 @@ fn number_content(context: Context, content: &mut Content)
 }
 
 /// Gives the names of a case their numbers.
-fn number_case(context: Context, case: &mut Case)
-    ensures { plain_case case.new ≡ in_case (context_of context.entry) (plain_case case.old) }
+fn number_case(context: &Context, case: &mut Case)
+    ensures { plain_case case.new ≡ in_case (context_of context.now) (plain_case case.old) }
 {
     number_content(context, &mut case.content);
 }
 
 /// Gives the names of each of these cases their numbers.
-fn number_cases(context: Context, cases: &mut [Case])
-    ensures { map plain_case cases.new ≡ map (in_case (context_of context.entry)) (map plain_case cases.old) }
+fn number_cases(context: &Context, cases: &mut [Case])
+    ensures { map plain_case cases.new ≡ map (in_case (context_of context.now)) (map plain_case cases.old) }
 {
     for case in cases.iter_mut() {
         number_case(context, case);
@@ -79,8 +79,8 @@ fn number_cases(context: Context, cases: &mut [Case])
 }
 
 /// Gives the names of a content or a switch their numbers.
-fn number_choice(context: Context, choice: &mut Choice)
-    ensures { plain_choice choice.new ≡ in_choice (context_of context.entry) (plain_choice choice.old) }
+fn number_choice(context: &Context, choice: &mut Choice)
+    ensures { plain_choice choice.new ≡ in_choice (context_of context.now) (plain_choice choice.old) }
 {
     match choice {
         Choice::Always(content) => number_content(context, content),
@@ -94,8 +94,8 @@ fn number_choice(context: Context, choice: &mut Choice)
 // ---- how it is read
 
 /// Gives the names of a size their numbers.
-fn number_extent(context: Context, extent: &mut Extent)
-    ensures { plain_extent extent.new ≡ in_extent (context_of context.entry) (plain_extent extent.old) }
+fn number_extent(context: &Context, extent: &mut Extent)
+    ensures { plain_extent extent.new ≡ in_extent (context_of context.now) (plain_extent extent.old) }
 {
     match extent {
         Extent::Sized(size) => number_tree(context, size),
@@ -105,8 +105,8 @@ fn number_extent(context: Context, extent: &mut Extent)
 }
 
 /// Gives the names of a repetition their numbers.
-fn number_repeat(context: Context, repeat: &mut Repeat)
-    ensures { plain_repeat repeat.new ≡ in_repeat (context_of context.entry) (plain_repeat repeat.old) }
+fn number_repeat(context: &Context, repeat: &mut Repeat)
+    ensures { plain_repeat repeat.new ≡ in_repeat (context_of context.now) (plain_repeat repeat.old) }
 {
     match repeat {
         Repeat::Once => {}
@@ -117,8 +117,8 @@ fn number_repeat(context: Context, repeat: &mut Repeat)
 }
 
 /// Gives the names of what a value must meet their numbers.
-fn number_valid(context: Context, valid: &mut Option<Valid>)
-    ensures { option_map plain_valid valid.new ≡ option_map (in_valid (context_of context.entry)) (option_map plain_valid valid.old) }
+fn number_valid(context: &Context, valid: &mut Option<Valid>)
+    ensures { option_map plain_valid valid.new ≡ option_map (in_valid (context_of context.now)) (option_map plain_valid valid.old) }
 {
     match valid {
         Some(Valid::AnyOf(conditions)) => number_trees(context, conditions),
@@ -128,8 +128,8 @@ fn number_valid(context: Context, valid: &mut Option<Valid>)
 }
 
 /// Gives the names of what an attribute or a parse instance reads their numbers.
-fn number_field(context: Context, field: &mut Field)
-    ensures { plain_field field.new ≡ in_field (context_of context.entry) (plain_field field.old) }
+fn number_field(context: &Context, field: &mut Field)
+    ensures { plain_field field.new ≡ in_field (context_of context.now) (plain_field field.old) }
 {
     number_optional(context, &mut field.condition);
     number_repeat(context, &mut field.repeat);
@@ -140,14 +140,14 @@ fn number_field(context: Context, field: &mut Field)
 
 /// Gives the names in a parse instance their numbers.
 fn number_parse_instance(
-    context: Context,
+    context: &Context,
     place: &mut Expr,
     stream: &mut Option<Expr>,
     field: &mut Field,
 )
-    ensures placed { view place.new ≡ in_tree (context_of context.entry) (view place.old) }
-    ensures streamed { option_map view stream.new ≡ option_map (in_tree (context_of context.entry)) (option_map view stream.old) }
-    ensures read { plain_field field.new ≡ in_field (context_of context.entry) (plain_field field.old) }
+    ensures placed { view place.new ≡ in_tree (context_of context.now) (view place.old) }
+    ensures streamed { option_map view stream.new ≡ option_map (in_tree (context_of context.now)) (option_map view stream.old) }
+    ensures read { plain_field field.new ≡ in_field (context_of context.now) (plain_field field.old) }
 {
     number_tree(context, place);
     number_optional(context, stream);
@@ -156,14 +156,14 @@ fn number_parse_instance(
 
 /// Gives the names in a value instance their numbers.
 fn number_value_instance(
-    context: Context,
+    context: &Context,
     condition: &mut Option<Expr>,
     value: &mut Expr,
     valid: &mut Option<Valid>,
 )
-    ensures conditional { option_map view condition.new ≡ option_map (in_tree (context_of context.entry)) (option_map view condition.old) }
-    ensures calculated { view value.new ≡ in_tree (context_of context.entry) (view value.old) }
-    ensures checked { option_map plain_valid valid.new ≡ option_map (in_valid (context_of context.entry)) (option_map plain_valid valid.old) }
+    ensures conditional { option_map view condition.new ≡ option_map (in_tree (context_of context.now)) (option_map view condition.old) }
+    ensures calculated { view value.new ≡ in_tree (context_of context.now) (view value.old) }
+    ensures checked { option_map plain_valid valid.new ≡ option_map (in_valid (context_of context.now)) (option_map plain_valid valid.old) }
 {
     number_optional(context, condition);
     number_tree(context, value);
@@ -171,8 +171,8 @@ fn number_value_instance(
 }
 
 /// Gives the names of a member their numbers.
-pub(crate) fn number_kind(context: Context, kind: &mut MemberKind)
-    ensures { plain_kind kind.new ≡ in_kind (context_of context.entry) (plain_kind kind.old) }
+pub(crate) fn number_kind(context: &Context, kind: &mut MemberKind)
+    ensures { plain_kind kind.new ≡ in_kind (context_of context.now) (plain_kind kind.old) }
 {
     match kind {
         MemberKind::Parameter => {}

@@ -36,7 +36,7 @@ pub(crate) struct Home<'a> {
 #[derive(Clone, Copy)]
 pub(crate) struct FieldKeys<'a, 'e> {
     /// Where their mapping is.
-    pub home: Home<'a>,
+    pub home: &'a Home<'a>,
     /// The keys, with their values.
     pub entries: &'e [Entry],
     /// The keys that the type of a case must fit to.
@@ -69,8 +69,8 @@ pub(crate) fn home_of<'a>(
 }
 
 /// A home, of what isn't repeated.
-pub(crate) fn once<'a>(home: Home<'a>) -> Home<'a>
-    ensures { seen_home result ≡ once (seen_home home.entry) }
+pub(crate) fn once<'a>(home: &Home<'a>) -> Home<'a>
+    ensures { seen_home result ≡ once (seen_home home.now) }
 {
     Home {
         scopes: home.scopes,
@@ -81,8 +81,8 @@ pub(crate) fn once<'a>(home: Home<'a>) -> Home<'a>
 }
 
 /// Where an expression of a mapping is.
-pub(crate) fn position_at(home: Home, site: Site) -> Position
-    ensures { result ≡ position_at (seen_home home.entry) site }
+pub(crate) fn position_at(home: &Home, site: Site) -> Position
+    ensures { result ≡ position_at (seen_home home.now) site }
 {
     Position {
         site,

@@ -34,7 +34,7 @@ enum Rule {
     Excludes(Claim, Claim),
     /// The first needs the second.
     Needs(Claim, Claim),
-    /// The first stands only beside the second.
+    /// The first is allowed only beside the second.
     Attends(Claim, Claim),
 }
 

@@ -42,8 +42,8 @@ use std::alloc::{AllocError, Global};
 // ---- types
 
 /// Whether a type is one that the description declares.
-pub(crate) fn is_declared(home: Home, text: &TypeText) -> bool
-    ensures { result ≡ is_declared (seen_home home.entry) (seen_type_text text.now) }
+pub(crate) fn is_declared(home: &Home, text: &TypeText) -> bool
+    ensures { result ≡ is_declared (seen_home home.now) (seen_type_text text.now) }
 {
     match text {
         TypeText::OfDescription(name, _) => home
@@ -56,8 +56,8 @@ pub(crate) fn is_declared(home: Home, text: &TypeText) -> bool
 
 /// The order of an integer, its own or the one in force; one byte has any.
 #[tactic(auto, unfolding(crate::specs::Values::order_at))]
-fn order_at(home: Home, size: u8, stated: Option<ByteOrder>) -> Option<ByteOrder>
-    ensures { result ≡ order_at (seen_home home.entry) size stated }
+fn order_at(home: &Home, size: u8, stated: Option<ByteOrder>) -> Option<ByteOrder>
+    ensures { result ≡ order_at (seen_home home.now) size stated }
 {
     match stated {
         Some(order) => Some(order),
@@ -68,8 +68,8 @@ fn order_at(home: Home, size: u8, stated: Option<ByteOrder>) -> Option<ByteOrder
 
 /// The encoding of an attribute of these keys, its own or the one in force.
 #[tactic(auto, unfolding(crate::specs::Values::encoding_at, crate::specs::KeyTexts::encoding_named))]
-fn encoding_at(home: Home, entries: &[Entry]) -> Option<Encoding>
-    ensures { result ≡ encoding_at (seen_home home.entry) (map pair entries.now) }
+fn encoding_at(home: &Home, entries: &[Entry]) -> Option<Encoding>
+    ensures { result ≡ encoding_at (seen_home home.now) (map pair entries.now) }
 {
     match text_at(entries, b"encoding") {
         Some(name) => Encoding::named(name),
@@ -81,12 +81,12 @@ fn encoding_at(home: Home, entries: &[Entry]) -> Option<Encoding>
 #[tactic(auto, using(crate::proofs::Noted::steps, ksv_desc::proofs::Dots::steps))]
 fn bits(
     reader: &mut Reader,
-    keys: FieldKeys,
+    keys: &FieldKeys,
     line: usize,
     width: u8,
     is_little: bool,
 ) -> Read<Content>
-    ensures { Reads (of_language (seen_keys keys.entry) line (Bits width is_little)) plain_content reader.old reader.new result }
+    ensures { Reads (of_language (seen_keys keys.now) line (Bits width is_little)) plain_content reader.old reader.new result }
 {
     if is_little {
         note(&mut reader.least, line, LeftOut);
@@ -102,11 +102,11 @@ fn bits(
 #[tactic(auto, using(crate::proofs::Noted::steps, ksv_desc::proofs::Dots::steps))]
 fn of_language(
     reader: &mut Reader,
-    keys: FieldKeys,
+    keys: &FieldKeys,
     line: usize,
     built_in: BuiltIn,
 ) -> Read<Content>
-    ensures { Reads (of_language (seen_keys keys.entry) line built_in) plain_content reader.old reader.new result }
+    ensures { Reads (of_language (seen_keys keys.now) line built_in) plain_content reader.old reader.new result }
 {
     match built_in {
         BuiltIn::Integer {
@@ -141,11 +141,11 @@ fn of_language(
 #[tactic(auto, unfolding(crate::specs::Values::arguments))]
 fn read_arguments(
     reader: &mut Reader,
-    home: Home,
+    home: &Home,
     line: usize,
     given: &[Expr],
 ) -> Result<(), AllocError>
-    ensures faults { seen_fault reader.new.least ≡ noted (seen_fault reader.old.least) (arguments (seen_home home.entry) line (arguments_of (map view given.now))).faults }
+    ensures faults { seen_fault reader.new.least ≡ noted (seen_fault reader.old.least) (arguments (seen_home home.now) line (arguments_of (map view given.now))).faults }
     ensures words { OnOk result (reader.new.names ≡ distinct_behind reader.old.names (all_dotted (arguments_of (map view given.now)))) }
 {
     let position = position_at(home, Site::Argument);
@@ -158,12 +158,12 @@ fn read_arguments(
 #[tactic(auto, using(crate::proofs::Noted::steps, ksv_desc::proofs::Dots::steps, ksv_schema_names::proofs::Forms::count_map), unfolding(crate::specs::Values::of_type, crate::specs::Values::arguments))]
 fn given_language(
     reader: &mut Reader,
-    keys: FieldKeys,
+    keys: &FieldKeys,
     line: usize,
     built_in: BuiltIn,
     given: &[Expr],
 ) -> Read<Content>
-    ensures { Reads (of_type (seen_keys keys.entry) line (OfLanguage built_in (arguments_of (map view given.now)))) plain_content reader.old reader.new result }
+    ensures { Reads (of_type (seen_keys keys.now) line (OfLanguage built_in (arguments_of (map view given.now)))) plain_content reader.old reader.new result }
 {
     note_if(&mut reader.least, given.len() != 0, line, WrongCount);
     read_arguments(reader, keys.home, line, given)?;
@@ -171,15 +171,15 @@ fn given_language(
 }
 
 /// The number of a type of the description.
-fn type_number(home: Home, name: &TypeName) -> Option<u32>
-    ensures { result ≡ type_named (declared home.entry.scopes.now).types home.entry.within (path_of name.now).path }
+fn type_number(home: &Home, name: &TypeName) -> Option<u32>
+    ensures { result ≡ type_named (declared home.now.scopes.now).types home.now.within (path_of name.now).path }
 {
     home.scopes.type_named(home.within, name.path.as_slice())
 }
 
 /// Whether a type has other parameters than this many arguments; an unknown type has a fault of its own.
-fn counts_differ(home: Home, given: usize, number: Option<u32>) -> bool
-    ensures { result ≡ counts_differ (seen_home home.entry) given number }
+fn counts_differ(home: &Home, given: usize, number: Option<u32>) -> bool
+    ensures { result ≡ counts_differ (seen_home home.now) given number }
 {
     match number {
         Some(number) => home.scopes.count_of_parameters(number as usize) != given,
@@ -191,12 +191,12 @@ fn counts_differ(home: Home, given: usize, number: Option<u32>) -> bool
 #[tactic(auto, using(crate::proofs::Noted::steps, ksv_desc::proofs::Dots::steps, ksv_schema_names::proofs::Forms::count_map), unfolding(crate::specs::Values::of_type, crate::specs::Values::arguments))]
 fn object(
     reader: &mut Reader,
-    keys: FieldKeys,
+    keys: &FieldKeys,
     line: usize,
     name: &TypeName,
     given: Vec<Expr>,
 ) -> Read<Content>
-    ensures { Reads (of_type (seen_keys keys.entry) line (OfDescription (path_of name.now) (arguments_of (map view given.items)))) plain_content reader.old reader.new result }
+    ensures { Reads (of_type (seen_keys keys.now) line (OfDescription (path_of name.now) (arguments_of (map view given.items)))) plain_content reader.old reader.new result }
 {
     let number = type_number(keys.home, name);
     let differ = counts_differ(keys.home, given.len(), number);
@@ -214,8 +214,8 @@ fn object(
 
 /// What the text of a type means among these keys.
 #[tactic(auto, using(crate::proofs::Noted::steps, ksv_desc::proofs::Dots::steps), unfolding(crate::specs::Values::of_type))]
-fn of_type(reader: &mut Reader, keys: FieldKeys, line: usize, text: TypeText) -> Read<Content>
-    ensures { Reads (of_type (seen_keys keys.entry) line (seen_type_text text)) plain_content reader.old reader.new result }
+fn of_type(reader: &mut Reader, keys: &FieldKeys, line: usize, text: TypeText) -> Read<Content>
+    ensures { Reads (of_type (seen_keys keys.now) line (seen_type_text text)) plain_content reader.old reader.new result }
 {
     match text {
         TypeText::Unspelled(fault) => {
@@ -247,11 +247,11 @@ fn copied(alloc: Global, literal: &Literal) -> Result<Literal, AllocError>
 #[tactic(auto, using(crate::proofs::Noted::steps, ksv_desc::proofs::Dots::steps), unfolding(crate::specs::Values::of_case_key))]
 fn of_case_key(
     reader: &mut Reader,
-    home: Home,
+    home: &Home,
     line: usize,
     key: CaseKey,
 ) -> Read<Option<CaseValue>>
-    ensures { Reads (of_case_key (seen_home home.entry) line (seen_case_key key.entry)) (λ o. option_map plain_value o) reader.old reader.new result }
+    ensures { Reads (of_case_key (seen_home home.now) line (seen_case_key key.entry)) (λ o. option_map plain_value o) reader.old reader.new result }
 {
     match key {
         CaseKey::Constant(literal) => {
@@ -276,8 +276,8 @@ fn of_case_key(
 
 /// What the text of a key of `cases` is compared with.
 #[tactic(auto, using(crate::proofs::Noted::steps, ksv_desc::proofs::Dots::steps), unfolding(crate::specs::Values::case_value))]
-fn case_value(reader: &mut Reader, home: Home, line: usize, text: &[u8]) -> Read<Option<CaseValue>>
-    ensures { Reads (case_value (seen_home home.entry) line (expression_of text.now)) (λ o. option_map plain_value o) reader.old reader.new result }
+fn case_value(reader: &mut Reader, home: &Home, line: usize, text: &[u8]) -> Read<Option<CaseValue>>
+    ensures { Reads (case_value (seen_home home.now) line (expression_of text.now)) (λ o. option_map plain_value o) reader.old reader.new result }
 {
     match read_expression(reader.alloc, text)? {
         Ok(expr) => of_case_key(reader, home, line, case_key(&expr)),
@@ -290,8 +290,14 @@ fn case_value(reader: &mut Reader, home: Home, line: usize, text: &[u8]) -> Read
 
 /// Notes what doesn't fit to a type of a case on this line, in an attribute of these keys.
 #[tactic(auto, using(crate::proofs::Noted::steps), unfolding(crate::specs::Values::case_against))]
-fn note_case_against(least: &mut Least, home: Home, entries: &[Entry], line: usize, text: &TypeText)
-    ensures { seen_fault least.new ≡ noted (seen_fault least.old) (case_against (seen_home home.entry) (map pair entries.now) line (seen_type_text text.now)) }
+fn note_case_against(
+    least: &mut Least,
+    home: &Home,
+    entries: &[Entry],
+    line: usize,
+    text: &TypeText,
+)
+    ensures { seen_fault least.new ≡ noted (seen_fault least.old) (case_against (seen_home home.now) (map pair entries.now) line (seen_type_text text.now)) }
 {
     let is_text = is_of_kind(TypeKind::Str, text) | is_of_kind(TypeKind::Strz, text);
     let is_bits = is_of_kind(TypeKind::Bits, text);
@@ -313,8 +319,8 @@ fn note_case_against(least: &mut Least, home: Home, entries: &[Entry], line: usi
 
 /// What the type of a case means; it must fit to the keys beside it.
 #[tactic(auto, using(crate::proofs::Noted::steps, ksv_desc::proofs::Dots::steps))]
-fn case_content(reader: &mut Reader, keys: FieldKeys, case: &Entry) -> Read<Content>
-    ensures { Reads (text (λ line text. let t = type_text text in also (case_against (seen_keys keys.entry).home (seen_keys keys.entry).beside line t) (of_type (seen_keys keys.entry) line t)) (pair case.now)) plain_content reader.old reader.new result }
+fn case_content(reader: &mut Reader, keys: &FieldKeys, case: &Entry) -> Read<Content>
+    ensures { Reads (text (λ line text. let t = type_text text in also (case_against (seen_keys keys.now).home (seen_keys keys.now).beside line t) (of_type (seen_keys keys.now) line t)) (pair case.now)) plain_content reader.old reader.new result }
 {
     let line = case.line();
     match case.value().text() {
@@ -332,8 +338,8 @@ fn case_content(reader: &mut Reader, keys: FieldKeys, case: &Entry) -> Read<Cont
 
 /// A case.
 #[tactic(auto, using(crate::proofs::Noted::steps, ksv_desc::proofs::Dots::steps), unfolding(crate::specs::Values::case))]
-fn read_case(reader: &mut Reader, keys: FieldKeys, entry: &Entry) -> Read<Case>
-    ensures { Reads (case (seen_keys keys.entry) (pair entry.now)) plain_case reader.old reader.new result }
+fn read_case(reader: &mut Reader, keys: &FieldKeys, entry: &Entry) -> Read<Case>
+    ensures { Reads (case (seen_keys keys.now) (pair entry.now)) plain_case reader.old reader.new result }
 {
     let value = case_value(reader, keys.home, entry.line(), entry.key())?;
     let content = case_content(reader, keys, entry);
@@ -344,8 +350,8 @@ fn read_case(reader: &mut Reader, keys: FieldKeys, entry: &Entry) -> Read<Case>
 }
 
 /// The cases of a switch.
-fn cases(reader: &mut Reader, keys: FieldKeys, cases: &[Entry]) -> Read<Vec<Case>>
-    ensures { Reads (each (case (seen_keys keys.entry)) (map pair cases.now)) (λ v. map plain_case v.items) reader.old reader.new result }
+fn cases(reader: &mut Reader, keys: &FieldKeys, cases: &[Entry]) -> Read<Vec<Case>>
+    ensures { Reads (each (case (seen_keys keys.now)) (map pair cases.now)) (λ v. map plain_case v.items) reader.old reader.new result }
 {
     let mut made = Some(Vec::new(reader.alloc));
     for case in cases {
@@ -359,11 +365,11 @@ fn cases(reader: &mut Reader, keys: FieldKeys, cases: &[Entry]) -> Read<Vec<Case
 #[tactic(auto, using(crate::proofs::Noted::steps, ksv_desc::proofs::Dots::steps))]
 fn needed_cases(
     reader: &mut Reader,
-    keys: FieldKeys,
+    keys: &FieldKeys,
     line: usize,
     at: Option<&Entry>,
 ) -> Read<Vec<Case>>
-    ensures { Reads (must line (mapping (each (case (seen_keys keys.entry)))) (seen_entry at.entry)) (λ v. map plain_case v.items) reader.old reader.new result }
+    ensures { Reads (must line (mapping (each (case (seen_keys keys.now)))) (seen_entry at.entry)) (λ v. map plain_case v.items) reader.old reader.new result }
 {
     let Some(entry) = at else {
         note(&mut reader.least, line, MissingKey);
@@ -380,8 +386,8 @@ fn needed_cases(
 
 /// The switch with these keys, at the `type` of others.
 #[tactic(auto, using(crate::proofs::Noted::steps, ksv_desc::proofs::Dots::steps), unfolding(crate::specs::Values::switch))]
-fn switch(reader: &mut Reader, keys: FieldKeys, line: usize, entries: &[Entry]) -> Read<Choice>
-    ensures { Reads (switch (seen_keys keys.entry) line (map pair entries.now)) plain_choice reader.old reader.new result }
+fn switch(reader: &mut Reader, keys: &FieldKeys, line: usize, entries: &[Entry]) -> Read<Choice>
+    ensures { Reads (switch (seen_keys keys.now) line (map pair entries.now)) plain_choice reader.old reader.new result }
 {
     note_keys(&mut reader.least, MappingKind::Switch, entries);
     let at = find(entries, b"switch-on");
@@ -399,12 +405,12 @@ fn switch(reader: &mut Reader, keys: FieldKeys, line: usize, entries: &[Entry]) 
 #[tactic(auto, using(crate::proofs::Noted::steps, ksv_desc::proofs::Dots::steps))]
 fn always(
     reader: &mut Reader,
-    keys: FieldKeys,
+    keys: &FieldKeys,
     entry: &Entry,
     typed: Option<TypeText>,
 ) -> Read<Choice>
     requires { seen_type_at typed ≡ type_at (pair entry.now) }
-    ensures { Reads (made Always (text (λ line text. of_type (seen_keys keys.entry) line (type_text text)) (pair entry.now))) plain_choice reader.old reader.new result }
+    ensures { Reads (made Always (text (λ line text. of_type (seen_keys keys.now) line (type_text text)) (pair entry.now))) plain_choice reader.old reader.new result }
 {
     let line = entry.line();
     match typed {
@@ -423,12 +429,12 @@ fn always(
 #[tactic(auto, using(crate::proofs::Noted::steps, ksv_desc::proofs::Dots::steps), unfolding(crate::specs::Values::typed))]
 fn typed(
     reader: &mut Reader,
-    keys: FieldKeys,
+    keys: &FieldKeys,
     entry: &Entry,
     text: Option<TypeText>,
 ) -> Read<Choice>
     requires { seen_type_at text ≡ type_at (pair entry.now) }
-    ensures { Reads (typed (seen_keys keys.entry) (pair entry.now)) plain_choice reader.old reader.new result }
+    ensures { Reads (typed (seen_keys keys.now) (pair entry.now)) plain_choice reader.old reader.new result }
 {
     let value = entry.value();
     match value.entries() {
@@ -441,11 +447,11 @@ fn typed(
 #[tactic(auto, using(crate::proofs::Noted::steps, ksv_desc::proofs::Dots::steps))]
 fn perhaps_typed(
     reader: &mut Reader,
-    keys: FieldKeys,
+    keys: &FieldKeys,
     text: Option<TypeText>,
 ) -> Read<Option<Choice>>
-    requires { seen_type_at text ≡ own_type (seen_keys keys).entries }
-    ensures { Reads (perhaps (typed (seen_keys keys.entry)) (entry_at (codes "type") (seen_keys keys.entry).entries)) (λ o. option_map plain_choice o) reader.old reader.new result }
+    requires { seen_type_at text ≡ own_type (seen_keys keys.now).entries }
+    ensures { Reads (perhaps (typed (seen_keys keys.now)) (entry_at (codes "type") (seen_keys keys.now).entries)) (λ o. option_map plain_choice o) reader.old reader.new result }
 {
     match find(keys.entries, b"type") {
         None => Ok(Some(None)),
@@ -468,9 +474,9 @@ fn content_or_type(contents: Option<Vec<u8>>, choice: Option<Choice>) -> Choice
 
 /// What these keys read, with the type whose text is at `type`.
 #[tactic(auto, using(crate::proofs::Noted::steps, ksv_desc::proofs::Dots::steps), unfolding(crate::specs::Values::choice))]
-pub(crate) fn choice(reader: &mut Reader, keys: FieldKeys, typed: Option<TypeText>) -> Read<Choice>
-    requires { seen_type_at typed ≡ own_type (seen_keys keys).entries }
-    ensures { Reads (choice (seen_keys keys.entry)) plain_choice reader.old reader.new result }
+pub(crate) fn choice(reader: &mut Reader, keys: &FieldKeys, typed: Option<TypeText>) -> Read<Choice>
+    requires { seen_type_at typed ≡ own_type (seen_keys keys.now).entries }
+    ensures { Reads (choice (seen_keys keys.now)) plain_choice reader.old reader.new result }
 {
     let contents = perhaps_contents(reader, find(keys.entries, b"contents"))?;
     let choice = perhaps_typed(reader, keys, typed);

@@ -49,11 +49,11 @@ fn compared_with(alloc: Global, operator: BinaryOperator, operand: Option<Expr>)
 #[tactic(auto, using(crate::proofs::Noted::steps, ksv_desc::proofs::Dots::steps))]
 fn comparison(
     reader: &mut Reader,
-    home: Home,
+    home: &Home,
     operator: BinaryOperator,
     entry: &Entry,
 ) -> Read<Expr>
-    ensures { Reads (comparison (seen_home home.entry) operator (pair entry.now)) view reader.old reader.new result }
+    ensures { Reads (comparison (seen_home home.now) operator (pair entry.now)) view reader.old reader.new result }
 {
     let operand = expression(reader, home, Site::Valid, entry)?;
     compared_with(reader.alloc, operator, operand)
@@ -63,11 +63,11 @@ fn comparison(
 #[tactic(auto, using(crate::proofs::Noted::steps, ksv_desc::proofs::Dots::steps))]
 fn perhaps_comparison(
     reader: &mut Reader,
-    home: Home,
+    home: &Home,
     operator: BinaryOperator,
     at: Option<&Entry>,
 ) -> Read<Option<Expr>>
-    ensures { Reads (perhaps (comparison (seen_home home.entry) operator) (seen_entry at.entry)) (λ o. option_map view o) reader.old reader.new result }
+    ensures { Reads (perhaps (comparison (seen_home home.now) operator) (seen_entry at.entry)) (λ o. option_map view o) reader.old reader.new result }
 {
     match at {
         None => Ok(Some(None)),
@@ -79,8 +79,8 @@ fn perhaps_comparison(
 
 /// The value, equal to an item of `any-of`.
 #[tactic(auto, using(crate::proofs::Noted::steps, ksv_desc::proofs::Dots::steps), unfolding(crate::specs::Valid::alternative))]
-fn alternative(reader: &mut Reader, home: Home, node: &Yaml) -> Read<Expr>
-    ensures { Reads (alternative (seen_home home.entry) (view_node node.now)) view reader.old reader.new result }
+fn alternative(reader: &mut Reader, home: &Home, node: &Yaml) -> Read<Expr>
+    ensures { Reads (alternative (seen_home home.now) (view_node node.now)) view reader.old reader.new result }
 {
     let line = node.line();
     let Some(text) = node.text() else {
@@ -92,8 +92,8 @@ fn alternative(reader: &mut Reader, home: Home, node: &Yaml) -> Read<Expr>
 }
 
 /// The value, equal to each of these items of `any-of`.
-fn each_alternative(reader: &mut Reader, home: Home, nodes: &[Yaml]) -> Read<Vec<Expr>>
-    ensures { Reads (each (alternative (seen_home home.entry)) (map view_node nodes.now)) (λ v. map view v.items) reader.old reader.new result }
+fn each_alternative(reader: &mut Reader, home: &Home, nodes: &[Yaml]) -> Read<Vec<Expr>>
+    ensures { Reads (each (alternative (seen_home home.now)) (map view_node nodes.now)) (λ v. map view v.items) reader.old reader.new result }
 {
     let mut made = Some(Vec::new(reader.alloc));
     for node in nodes {
@@ -105,8 +105,8 @@ fn each_alternative(reader: &mut Reader, home: Home, nodes: &[Yaml]) -> Read<Vec
 
 /// The conditions at `any-of`, a list of one or more expressions.
 #[tactic(auto, using(crate::proofs::Noted::steps, ksv_desc::proofs::Dots::steps), unfolding(crate::specs::Valid::alternatives))]
-fn alternatives(reader: &mut Reader, home: Home, entry: &Entry) -> Read<Vec<Expr>>
-    ensures { Reads (alternatives (seen_home home.entry) (pair entry.now)) (λ v. map view v.items) reader.old reader.new result }
+fn alternatives(reader: &mut Reader, home: &Home, entry: &Entry) -> Read<Vec<Expr>>
+    ensures { Reads (alternatives (seen_home home.now) (pair entry.now)) (λ v. map view v.items) reader.old reader.new result }
 {
     match entry.value().items() {
         None | Some([]) => {
@@ -121,10 +121,10 @@ fn alternatives(reader: &mut Reader, home: Home, entry: &Entry) -> Read<Vec<Expr
 #[tactic(auto, using(crate::proofs::Noted::steps, ksv_desc::proofs::Dots::steps))]
 fn perhaps_alternatives(
     reader: &mut Reader,
-    home: Home,
+    home: &Home,
     at: Option<&Entry>,
 ) -> Read<Option<Vec<Expr>>>
-    ensures { Reads (perhaps (alternatives (seen_home home.entry)) (seen_entry at.entry)) (λ o. option_map (λ v. map view v.items) o) reader.old reader.new result }
+    ensures { Reads (perhaps (alternatives (seen_home home.now)) (seen_entry at.entry)) (λ o. option_map (λ v. map view v.items) o) reader.old reader.new result }
 {
     match at {
         None => Ok(Some(None)),
@@ -157,8 +157,8 @@ fn one_or_some(
 
 /// The conditions of which one must be true, where there are such.
 #[tactic(auto, using(crate::proofs::Noted::steps, ksv_desc::proofs::Dots::steps))]
-fn any_of(reader: &mut Reader, home: Home, entries: &[Entry]) -> Read<Option<Vec<Expr>>>
-    ensures { Reads (any_of (seen_home home.entry) (map pair entries.now)) (λ o. option_map (λ v. map view v.items) o) reader.old reader.new result }
+fn any_of(reader: &mut Reader, home: &Home, entries: &[Entry]) -> Read<Option<Vec<Expr>>>
+    ensures { Reads (any_of (seen_home home.now) (map pair entries.now)) (λ o. option_map (λ v. map view v.items) o) reader.old reader.new result }
 {
     let equal = perhaps_comparison(reader, home, BinaryOperator::Equal, find(entries, b"eq"))?;
     let alternatives = perhaps_alternatives(reader, home, find(entries, b"any-of"));
@@ -172,8 +172,8 @@ fn any_of(reader: &mut Reader, home: Home, entries: &[Entry]) -> Read<Option<Vec
 
 /// The conditions of `min` and `max`.
 #[tactic(auto, using(crate::proofs::Noted::steps, ksv_desc::proofs::Dots::steps))]
-fn bounds(reader: &mut Reader, home: Home, entries: &[Entry]) -> Read<(Option<Expr>, Option<Expr>)>
-    ensures { Reads (bounds (seen_home home.entry) (map pair entries.now)) (λ p. (option_map view p.0, option_map view p.1)) reader.old reader.new result }
+fn bounds(reader: &mut Reader, home: &Home, entries: &[Entry]) -> Read<(Option<Expr>, Option<Expr>)>
+    ensures { Reads (bounds (seen_home home.now) (map pair entries.now)) (λ p. (option_map view p.0, option_map view p.1)) reader.old reader.new result }
 {
     let at_least = BinaryOperator::GreaterOrEqual;
     let at_most = BinaryOperator::LessOrEqual;
@@ -213,8 +213,8 @@ fn in_order(
 
 /// The conditions of which each must be true.
 #[tactic(auto, using(crate::proofs::Noted::steps, ksv_desc::proofs::Dots::steps))]
-fn all_of(reader: &mut Reader, home: Home, entries: &[Entry]) -> Read<Vec<Expr>>
-    ensures { Reads (all_of (seen_home home.entry) (map pair entries.now)) (λ v. map view v.items) reader.old reader.new result }
+fn all_of(reader: &mut Reader, home: &Home, entries: &[Entry]) -> Read<Vec<Expr>>
+    ensures { Reads (all_of (seen_home home.now) (map pair entries.now)) (λ v. map view v.items) reader.old reader.new result }
 {
     let condition = perhaps_expression(reader, home, Site::ValidExpr, find(entries, b"expr"))?;
     let bounds = bounds(reader, home, entries);
@@ -252,8 +252,8 @@ fn any_or_all(any: Option<Vec<Expr>>, all: Vec<Expr>) -> Valid
 
 /// What a mapping of these keys on this line states.
 #[tactic(auto, using(crate::proofs::Noted::steps, ksv_desc::proofs::Dots::steps), unfolding(crate::specs::Valid::conditions))]
-fn conditions(reader: &mut Reader, home: Home, line: usize, entries: &[Entry]) -> Read<Valid>
-    ensures { Reads (conditions (seen_home home.entry) line (map pair entries.now)) plain_valid reader.old reader.new result }
+fn conditions(reader: &mut Reader, home: &Home, line: usize, entries: &[Entry]) -> Read<Valid>
+    ensures { Reads (conditions (seen_home home.now) line (map pair entries.now)) plain_valid reader.old reader.new result }
 {
     let least = &mut reader.least;
     note_keys(least, MappingKind::Check, entries);
@@ -268,8 +268,8 @@ fn conditions(reader: &mut Reader, home: Home, line: usize, entries: &[Entry]) -
 
 /// The value must be that of the expression at a key.
 #[tactic(auto, using(crate::proofs::Noted::steps, ksv_desc::proofs::Dots::steps))]
-fn equal(reader: &mut Reader, home: Home, entry: &Entry) -> Read<Valid>
-    ensures { Reads (made (λ e. AnyOf (e ∷ [])) (comparison (seen_home home.entry) Equal (pair entry.now))) plain_valid reader.old reader.new result }
+fn equal(reader: &mut Reader, home: &Home, entry: &Entry) -> Read<Valid>
+    ensures { Reads (made (λ e. AnyOf (e ∷ [])) (comparison (seen_home home.now) Equal (pair entry.now))) plain_valid reader.old reader.new result }
 {
     match comparison(reader, home, BinaryOperator::Equal, entry)? {
         Some(condition) => Ok(Some(Valid::AnyOf(one(reader.alloc, condition)?))),
@@ -279,8 +279,8 @@ fn equal(reader: &mut Reader, home: Home, entry: &Entry) -> Read<Valid>
 
 /// What a value must meet: a text is that of `eq`.
 #[tactic(auto, using(crate::proofs::Noted::steps, ksv_desc::proofs::Dots::steps), unfolding(crate::specs::Valid::valid))]
-fn valid(reader: &mut Reader, home: Home, entry: &Entry) -> Read<Valid>
-    ensures { Reads (valid (seen_home home.entry) (pair entry.now)) plain_valid reader.old reader.new result }
+fn valid(reader: &mut Reader, home: &Home, entry: &Entry) -> Read<Valid>
+    ensures { Reads (valid (seen_home home.now) (pair entry.now)) plain_valid reader.old reader.new result }
 {
     let value = entry.value();
     match value.entries() {
@@ -291,8 +291,8 @@ fn valid(reader: &mut Reader, home: Home, entry: &Entry) -> Read<Valid>
 
 /// What a value must meet, at the key `valid`, which may be absent.
 #[tactic(auto, using(crate::proofs::Noted::steps, ksv_desc::proofs::Dots::steps))]
-pub(crate) fn own_valid(reader: &mut Reader, home: Home, entries: &[Entry]) -> Read<Option<Valid>>
-    ensures { Reads (own_valid (seen_home home.entry) (map pair entries.now)) (λ o. option_map plain_valid o) reader.old reader.new result }
+pub(crate) fn own_valid(reader: &mut Reader, home: &Home, entries: &[Entry]) -> Read<Option<Valid>>
+    ensures { Reads (own_valid (seen_home home.now) (map pair entries.now)) (λ o. option_map plain_valid o) reader.old reader.new result }
 {
     match find(entries, b"valid") {
         None => Ok(Some(None)),

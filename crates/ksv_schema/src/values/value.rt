@@ -41,12 +41,12 @@ pub(crate) fn note_name(least: &mut Least, line: usize, found: Option<NameFault>
 #[tactic(auto, using(crate::proofs::Noted::steps, ksv_desc::proofs::Dots::steps), unfolding(crate::specs::Values::of_expression))]
 pub(crate) fn expression_in(
     reader: &mut Reader,
-    home: Home,
+    home: &Home,
     site: Site,
     line: usize,
     text: &[u8],
 ) -> Read<Expr>
-    ensures { Reads (of_expression (seen_home home.entry) site line (expression_of text.now)) view reader.old reader.new result }
+    ensures { Reads (of_expression (seen_home home.now) site line (expression_of text.now)) view reader.old reader.new result }
 {
     match read_expression(reader.alloc, text)? {
         Ok(expr) => {
@@ -64,8 +64,8 @@ pub(crate) fn expression_in(
 
 /// The expression at a key.
 #[tactic(auto, using(crate::proofs::Noted::steps, ksv_desc::proofs::Dots::steps), unfolding(crate::specs::Values::expression))]
-pub(crate) fn expression(reader: &mut Reader, home: Home, site: Site, entry: &Entry) -> Read<Expr>
-    ensures { Reads (expression (seen_home home.entry) site (pair entry.now)) view reader.old reader.new result }
+pub(crate) fn expression(reader: &mut Reader, home: &Home, site: Site, entry: &Entry) -> Read<Expr>
+    ensures { Reads (expression (seen_home home.now) site (pair entry.now)) view reader.old reader.new result }
 {
     match entry.value().text() {
         Some(text) => expression_in(reader, home, site, entry.line(), text),
@@ -80,11 +80,11 @@ pub(crate) fn expression(reader: &mut Reader, home: Home, site: Site, entry: &En
 #[tactic(auto, using(crate::proofs::Noted::steps, ksv_desc::proofs::Dots::steps))]
 pub(crate) fn perhaps_expression(
     reader: &mut Reader,
-    home: Home,
+    home: &Home,
     site: Site,
     at: Option<&Entry>,
 ) -> Read<Option<Expr>>
-    ensures { Reads (perhaps (expression (seen_home home.entry) site) (seen_entry at.entry)) (λ o. option_map view o) reader.old reader.new result }
+    ensures { Reads (perhaps (expression (seen_home home.now) site) (seen_entry at.entry)) (λ o. option_map view o) reader.old reader.new result }
 {
     match at {
         None => Ok(Some(None)),
@@ -96,12 +96,12 @@ pub(crate) fn perhaps_expression(
 #[tactic(auto, using(crate::proofs::Noted::steps, ksv_desc::proofs::Dots::steps))]
 pub(crate) fn needed_expression(
     reader: &mut Reader,
-    home: Home,
+    home: &Home,
     site: Site,
     line: usize,
     at: Option<&Entry>,
 ) -> Read<Expr>
-    ensures { Reads (must line (expression (seen_home home.entry) site) (seen_entry at.entry)) view reader.old reader.new result }
+    ensures { Reads (must line (expression (seen_home home.now) site) (seen_entry at.entry)) view reader.old reader.new result }
 {
     match at {
         None => {
@@ -116,8 +116,8 @@ pub(crate) fn needed_expression(
 
 /// The number of the enum whose path is at a key.
 #[tactic(auto, using(crate::proofs::Noted::steps, ksv_desc::proofs::Dots::steps), unfolding(crate::specs::Values::enumeration))]
-fn enumeration(reader: &mut Reader, home: Home, entry: &Entry) -> Read<u32>
-    ensures { Reads (enumeration (seen_home home.entry) (pair entry.now)) (λ n. n) reader.old reader.new result }
+fn enumeration(reader: &mut Reader, home: &Home, entry: &Entry) -> Read<u32>
+    ensures { Reads (enumeration (seen_home home.now) (pair entry.now)) (λ n. n) reader.old reader.new result }
 {
     let line = entry.line();
     let Some(text) = entry.value().text() else {
@@ -139,8 +139,8 @@ fn enumeration(reader: &mut Reader, home: Home, entry: &Entry) -> Read<u32>
 
 /// The number of the enum at the key `enum`, which may be absent.
 #[tactic(auto, using(crate::proofs::Noted::steps, ksv_desc::proofs::Dots::steps))]
-pub(crate) fn own_enum(reader: &mut Reader, home: Home, entries: &[Entry]) -> Read<Option<u32>>
-    ensures { Reads (own_enum (seen_home home.entry) (map pair entries.now)) (λ o. o) reader.old reader.new result }
+pub(crate) fn own_enum(reader: &mut Reader, home: &Home, entries: &[Entry]) -> Read<Option<u32>>
+    ensures { Reads (own_enum (seen_home home.now) (map pair entries.now)) (λ o. o) reader.old reader.new result }
 {
     match find(entries, b"enum") {
         None => Ok(Some(None)),
