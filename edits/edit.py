@@ -8,7 +8,7 @@ from source import clauses_of, functions_in, functions_of, has_proof, read, writ
 # The file of a harmless twin, and the clauses that are none of the function's own.
 TWIN = ".twin"
 # Crates of which no run has told yet which clauses the edits that the gate tries fail, and whether their twins pass.
-UNNAMED = "ksv_expr_eval ksv_nodes ksv_places ksv_rules ksv_schema_names ksv_session ksv_yaml ksv_yaml_scan".split()
+UNNAMED = "ksv_expr_eval ksv_nodes ksv_rules ksv_session ksv_yaml".split()
 FAILS = r"(?:requires of [\w-]+|invariant of (?:loop )?[\w-]+)(?:: \w+)?"
 
 
