@@ -7,8 +7,6 @@ from source import clauses_of, functions_in, functions_of, has_proof, read, writ
 
 # The file of a harmless twin, and the clauses that are none of the function's own.
 TWIN = ".twin"
-# Crates of which no run has told yet which clauses the edits that the gate tries fail, and whether their twins pass.
-UNNAMED = "ksv_expr_eval ksv_nodes ksv_rules ksv_session ksv_yaml".split()
 FAILS = r"(?:requires of [\w-]+|invariant of (?:loop )?[\w-]+)(?:: \w+)?"
 
 
@@ -149,7 +147,7 @@ def twins_of(top, crate, is_gate=False):
 def unclear(top, crate):
     """What edits of a crate lack: the clause that fails, but for those of edits/ that are listed as not named yet; and, of those that the gate tries, a
     harmless twin where their function has a written proof."""
-    tried, folder = [] if crate in UNNAMED else edits_of(top, crate, True), f"{top}/crates/{crate}"
+    tried, folder = edits_of(top, crate, True), f"{top}/crates/{crate}"
     wrong = [f"{it.name}: it names no clause that must fail" for it in tried if not it.fails]
     wrong += [f"{it.name}: it has no harmless twin" for it in tried if not it.has_twin and has_proof(folder, it.function)]
     return wrong + unlisted(top, crate)

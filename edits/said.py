@@ -85,8 +85,8 @@ def verdict_of(said, crate, function, is_bound, fails="", has_twin=False):
     """What a check's output says of a function, and whether that is bound to others (`source.bound`). Its contract refuses an edit where a goal of it
     isn't proved: that its clauses hold, that the invariant of a type or of a loop does, or what a function that it calls requires; a goal of the
     clause that the edit names (`fails`). An error of a written proof counts only where a harmless twin of the edit passes with the same proof: else it may
-    say no more than that the proof is of another body. Where no clause is named yet (`edit.UNNAMED`), any goal counts, and so does each such error. A name that only a proof file has, a limit of the prover, a text that it
-    can't read, and goals of safety alone say nothing of the contract."""
+    say no more than that the proof is of another body. Where no clause is named yet (edits/unnamed.txt), any goal counts, and so does each such error. A
+    name that only a proof file has, a limit of the prover, a text that it can't read, and goals of safety alone say nothing of the contract."""
     if UNREAD.search(said):
         return Verdict(why=f"{UNREADABLE}: {UNREAD.search(said)[0][:160]}")
     told = re.search(rf"^fn {re.escape(crate)}::{re.escape(function)}: (.*)$", said, re.M)
