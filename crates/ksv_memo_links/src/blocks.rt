@@ -3,7 +3,7 @@ ghost use Rattle.std.specs.Prelude.{◌≡◌, ◌≢◌, ◌⊎◌, ℕ, ◌+�
 ghost use Rattle.std.specs.List.{All};
 ghost use Rattle.ksv_memo_links.specs.declared.blocks.Entry.{Entry};
 ghost use Rattle.ksv_memo_links.specs.Shelved.{row};
-ghost use Rattle.ksv_memo_links.specs.Chained.{entry_at, first_at, lists_in, named_of, Unlinks, Links, IsChained, IsFree, IsRoom, IsExtended};
+ghost use Rattle.ksv_memo_links.specs.Chained.{block_at, entry_at, first_at, lists_in, named_of, Unlinks, Links, IsChained, IsFree, IsRoom, IsExtended};
 
 use std::alloc::AllocError;
 
@@ -105,6 +105,15 @@ pub(crate) struct Cleared {
     pub looks: u64,
 }
 
+/// Writes how many entries an owner has.
+#[inline(always)]
+fn put_count(blocks: &mut Vec<Block>, owner: u32, count: u32)
+    requires { owner < length blocks.old.items }
+    ensures { blocks.new.items ≡ slice_set blocks.old.items owner (record { begin = (block_at blocks.old.items owner).begin; count = count }) }
+{
+    blocks[owner as usize].count = count;
+}
+
 /// Takes the entries of an owner, the last first. It is one look for the block, and for each entry four: three for taking it
 /// out of its chain, and one for the block.
 pub(crate) fn clear_block(
@@ -127,7 +136,7 @@ pub(crate) fn clear_block(
     while left > 0 {
         left -= 1;
         unlink(entries, first, begin + left);
-        blocks[owner as usize] = Block { begin, count: left };
+        put_count(blocks, owner, left);
         looks += 4;
     }
     Cleared { count, looks }

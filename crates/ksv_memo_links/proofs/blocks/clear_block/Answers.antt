@@ -55,14 +55,15 @@ loop-left-preserved c =
     let one : suc k ≡ (block_at B s).count = omega arith in
     let s_in : s < length B = (let w = i.wide in let r = c.requires.owner_in in omega arith) in
     let now : block_at (set B s (record { begin = begin; count = k })) s ≡ record { begin = begin; count = k } = get_or-set_same B s (record { begin = begin; count = k }) (record { begin = 0; count = 0 }) s_in in
+    let is : c.put_count.new.blocks.items ≡ set B s (record { begin = begin; count = k }) = c.put_count.ensures ∙ ap (λ b. set B s (record { begin = b; count = k })) (sym i.begin) in
     record {
-      chained = chained-less c.loop-left.entries.items c.unlink.new.entries.items B c.loop-left.first.items c.unlink.new.first.items s begin k (begin + k) i.chained i.begin one refl c.unlink.ensures;
-      cut = cut-more _ _ _ s i.cut (named-less c.loop-left.entries.items c.unlink.new.entries.items B c.loop-left.first.items c.unlink.new.first.items s begin k (begin + k) i.chained i.begin one refl c.unlink.ensures);
-      begin = sym (ap (λ (b : Block). b.begin) now);
-      count = sym (ap (λ (b : Block). b.count) now);
+      chained = rw (sym is) at (chained-less c.loop-left.entries.items c.unlink.new.entries.items B c.loop-left.first.items c.unlink.new.first.items s begin k (begin + k) i.chained i.begin one refl c.unlink.ensures);
+      cut = rw (sym is) at (cut-more _ _ _ s i.cut (named-less c.loop-left.entries.items c.unlink.new.entries.items B c.loop-left.first.items c.unlink.new.first.items s begin k (begin + k) i.chained i.begin one refl c.unlink.ensures));
+      begin = rw (sym is) at (sym (ap (λ (b : Block). b.begin) now));
+      count = rw (sym is) at (sym (ap (λ (b : Block). b.count) now));
       looks = let n = i.looks in omega arith;
       size = c.unlink.ensures.size ∙ i.size;
-      wide = length-set B s (record { begin = begin; count = k }) ∙ i.wide;
+      wide = ap length is ∙ (length-set B s (record { begin = begin; count = k }) ∙ i.wide);
     }
 
 -- a block has as many entries as its owner has lists
