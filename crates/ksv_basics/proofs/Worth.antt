@@ -1,5 +1,6 @@
 -- Digits in a row, and what they are worth.
-use Rattle.std.proofs.Common.{◌≡◌, ℕ, ◌+◌, ◌*◌, ◌^◌, ◌<◌, ◌≤◌, List, [], ◌∷◌, ◌++◌, length, take, get_or, Bool, true, false, nat_lt, min, refl, ap, sym, ◌∙◌, arith, ◌&&◌}
+use Rattle.std.proofs.Common.{◌≡◌, ℕ, ◌+◌, ◌*◌, ◌^◌, ◌<◌, ◌≤◌, List, [], ◌∷◌, ◌++◌, length, take, get_or, Bool, true, false, nat_lt, min, refl, ap, sym, ◌∙◌}
+use Rattle.std.proofs.Common.{arith, ◌&&◌}
 use Rattle.std.specs.List.{list_all}
 use Rattle.std.specs.Char.{digit_value}
 use Rattle.std.specs.Str.Parse.{digits_value, digits_value_after}
@@ -10,7 +11,8 @@ use Rattle.std.proofs.Math.Nat.{mul-le-mul_left}
 use Rattle.ksv_basics.specs.Numerals.{is_digit}
 
 -- one digit more
-pub digits_more : (radix : ℕ) (ds : List ℕ) (i : ℕ) → i < length ds → list_all (is_digit radix) (take i ds) ≡ true → digit_value (get_or ds i 0) < radix → list_all (is_digit radix) (take (i + 1) ds) ≡ true
+pub digits_more : (radix : ℕ) (ds : List ℕ) (i : ℕ) → i < length ds → list_all (is_digit radix) (take i ds) ≡ true → digit_value (get_or ds i 0) < radix
+    → list_all (is_digit radix) (take (i + 1) ds) ≡ true
 digits_more radix ds i h all one =
     let here : is_digit radix (get_or ds i 0) ≡ true = grind (arith, nat_tests) in
     list_all_more (is_digit radix) ds i 0 h ∙ ap (λ b. b && is_digit radix (get_or ds i 0)) all ∙ here
@@ -35,7 +37,8 @@ limited w r d l h = by_test (nat_lt l w) refl
         let here : min w l ≡ w = omega arith in
         ap (λ m. min (m * r + d) l) here
 
-pub number_more : (radix : ℕ) (ds : List ℕ) (i n v : ℕ) → i < length ds → 2 ≤ radix → n ≡ min (digits_value radix (take i ds)) (2 ^ 64) → v ≡ digit_value (get_or ds i 0) → min (n * radix + v) (2 ^ 64) ≡ min (digits_value radix (take (i + 1) ds)) (2 ^ 64)
+pub number_more : (radix : ℕ) (ds : List ℕ) (i n v : ℕ) → i < length ds → 2 ≤ radix → n ≡ min (digits_value radix (take i ds)) (2 ^ 64)
+    → v ≡ digit_value (get_or ds i 0) → min (n * radix + v) (2 ^ 64) ≡ min (digits_value radix (take (i + 1) ds)) (2 ^ 64)
 number_more radix ds i n v h r e f =
     ap (λ m. min (m * radix + v) (2 ^ 64)) e
     ∙ ap (λ m. min (min (digits_value radix (take i ds)) (2 ^ 64) * radix + m) (2 ^ 64)) f

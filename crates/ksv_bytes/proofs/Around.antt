@@ -3,7 +3,8 @@ use Rattle.std.proofs.Common.{◌≡◌, ℕ, ◌+◌, ◌-◌, ◌<◌, ◌≤�
 use Rattle.std.proofs.Math.Seq.{drop-append-add, take-add, take-append-add}
 use Rattle.std.proofs.lemmas.Bool.{cases_lt}
 use Rattle.std.proofs.lemmas.Grind.{common_steps}
-use Rattle.std.proofs.lemmas.List.{append-nil, drop-append-le, drop-drop, drop-take, drop_at, length-append, length-drop, length-take-le, nil_from_length, take-append-drop, take-append-le, take-take, take_at}
+use Rattle.std.proofs.lemmas.List.{append-nil, drop-append-le, drop-drop, drop-take, drop_at, length-append, length-drop, length-take-le, nil_from_length}
+use Rattle.std.proofs.lemmas.List.{take-append-drop, take-append-le, take-take, take_at}
 use Rattle.std.specs.List.{copy_within}
 use Rattle.std.specs.Prelude.{slice_range}
 use Rattle.ksv_bytes.specs.Code.{around, inserted, overwritten}
@@ -16,7 +17,8 @@ take_before-overwritten bytes h at n held before =
     ∙ take-take n at bytes before
 
 take_end-overwritten : (bytes h : List ℕ) (at n : ℕ) → at ≤ length bytes → n ≡ at + length h → take n (overwritten bytes at h) ≡ take at bytes ++ h
-take_end-overwritten bytes h at n held end = take_at (take at bytes ++ h) (drop (at + length h) bytes) n (let long : length (take at bytes ++ h) ≡ n = grind (arith, common_steps) in long)
+take_end-overwritten bytes h at n held end = take_at (take at bytes ++ h) (drop (at + length h) bytes) n
+    (let long : length (take at bytes ++ h) ≡ n = grind (arith, common_steps) in long)
 
 -- what is from a write on, and what is behind it
 drop_at-overwritten : (bytes h : List ℕ) (at : ℕ) → at ≤ length bytes → drop at (overwritten bytes at h) ≡ h ++ drop (at + length h) bytes
@@ -50,7 +52,8 @@ drop_front-around : (bytes : List ℕ) (front gap : ℕ) → front ≤ length by
 drop_front-around bytes front gap held = drop_at (take front bytes) (drop (front + gap) bytes) front (length-take-le front bytes held)
 
 -- a copy within the bytes writes a part of them
-copy-overwritten : (bytes : List ℕ) (from k to : ℕ) → from + k ≤ length bytes → copy_within bytes from (from + k) to ≡ overwritten bytes to (take k (drop from bytes))
+copy-overwritten : (bytes : List ℕ) (from k to : ℕ) → from + k ≤ length bytes
+    → copy_within bytes from (from + k) to ≡ overwritten bytes to (take k (drop from bytes))
 copy-overwritten bytes from k to held =
     let long : length (take k (drop from bytes)) ≡ k = length-take-le k (drop from bytes) (omega (arith, length-drop from bytes)) in
     let count : from + k - from ≡ k = omega arith in
@@ -58,7 +61,8 @@ copy-overwritten bytes from k to held =
     ∙ ap (λ n. take to bytes ++ take k (drop from bytes) ++ drop (to + n) bytes) (sym long)
 
 -- the gap moves to the left: the bytes that it passes are then behind it
-pub around-moved_left : (bytes : List ℕ) (front gap to : ℕ) → front + gap ≤ length bytes → to < front → around (copy_within bytes to front (to + gap)) to gap ≡ around bytes front gap
+pub around-moved_left : (bytes : List ℕ) (front gap to : ℕ) → front + gap ≤ length bytes → to < front
+    → around (copy_within bytes to front (to + gap)) to gap ≡ around bytes front gap
 around-moved_left bytes front gap to held lt =
     let k : ℕ = front - to in
     let moved : List ℕ = take k (drop to bytes) in
@@ -74,7 +78,8 @@ around-moved_left bytes front gap to held lt =
     ∙ ap (λ n. take front bytes ++ drop n bytes) behind
 
 -- the gap moves to the right: the bytes that it passes are then in front of it
-pub around-moved_right : (bytes : List ℕ) (front gap to : ℕ) → to + gap ≤ length bytes → front < to → around (copy_within bytes (front + gap) (to + gap) front) to gap ≡ around bytes front gap
+pub around-moved_right : (bytes : List ℕ) (front gap to : ℕ) → to + gap ≤ length bytes → front < to
+    → around (copy_within bytes (front + gap) (to + gap) front) to gap ≡ around bytes front gap
 around-moved_right bytes front gap to held lt =
     let k : ℕ = to - front in
     let behind : List ℕ = drop (front + gap) bytes in
@@ -91,7 +96,8 @@ around-moved_right bytes front gap to held lt =
     ∙ ap (λ xs. take front bytes ++ xs) (take-append-drop k behind)
 
 -- bytes written at the gap's start
-pub around-filled_from_start : (bytes h : List ℕ) (front gap : ℕ) → front + gap ≤ length bytes → length h ≤ gap → around (overwritten bytes front h) (front + length h) (gap - length h) ≡ inserted (around bytes front gap) front h
+pub around-filled_from_start : (bytes h : List ℕ) (front gap : ℕ) → front + gap ≤ length bytes → length h ≤ gap
+    → around (overwritten bytes front h) (front + length h) (gap - length h) ≡ inserted (around bytes front gap) front h
 around-filled_from_start bytes h front gap held wide =
     let le : front ≤ length bytes = omega arith in
     let same : front + length h + (gap - length h) ≡ front + gap = omega arith in
@@ -148,7 +154,8 @@ overwritten-nothing bytes h at none =
     ∙ take-append-drop at bytes
 
 -- a write, and one right behind it
-overwritten-overwritten : (bytes h more : List ℕ) (at next : ℕ) → next ≡ at + length h → at ≤ length bytes → overwritten (overwritten bytes at h) next more ≡ overwritten bytes at (h ++ more)
+overwritten-overwritten : (bytes h more : List ℕ) (at next : ℕ) → next ≡ at + length h → at ≤ length bytes
+    → overwritten (overwritten bytes at h) next more ≡ overwritten bytes at (h ++ more)
 overwritten-overwritten bytes h more at next is held =
     let end : next + length more ≡ at + length (h ++ more) = omega (arith, length-append h more) in
     ap (λ t. t ++ more ++ drop (next + length more) (overwritten bytes at h)) (take_end-overwritten bytes h at next held is)
@@ -157,7 +164,8 @@ overwritten-overwritten bytes h more at next is held =
     ∙ ap (λ n. take at bytes ++ (h ++ more) ++ drop n bytes) end
 
 -- bytes written in front of the gap
-around-overwritten_before : (bytes h : List ℕ) (front gap at : ℕ) → front + gap ≤ length bytes → at + length h ≤ front → around (overwritten bytes at h) front gap ≡ overwritten (around bytes front gap) at h
+around-overwritten_before : (bytes h : List ℕ) (front gap at : ℕ) → front + gap ≤ length bytes → at + length h ≤ front
+    → around (overwritten bytes at h) front gap ≡ overwritten (around bytes front gap) at h
 around-overwritten_before bytes h front gap at held before =
     let short : length (take front bytes) ≡ front = length-take-le front bytes (omega arith) in
     ap (λ xs. xs ++ drop (front + gap) (overwritten bytes at h)) (take-overwritten bytes h at front before (omega arith))
@@ -165,7 +173,8 @@ around-overwritten_before bytes h front gap at held before =
     ∙ sym (overwritten-append_left (take front bytes) (drop (front + gap) bytes) h at (omega arith))
 
 -- bytes written behind it
-around-overwritten_behind : (bytes h : List ℕ) (front gap at : ℕ) → at + gap ≤ length bytes → front ≤ at → around (overwritten bytes (at + gap) h) front gap ≡ overwritten (around bytes front gap) at h
+around-overwritten_behind : (bytes h : List ℕ) (front gap at : ℕ) → at + gap ≤ length bytes → front ≤ at
+    → around (overwritten bytes (at + gap) h) front gap ≡ overwritten (around bytes front gap) at h
 around-overwritten_behind bytes h front gap at held behind =
     let k : ℕ = at - front in
     let short : length (take front bytes) ≡ front = length-take-le front bytes (omega arith) in
@@ -188,12 +197,14 @@ around-overwritten_both bytes h more front gap at cut held is inside first secon
     ] in
     let two : around (overwritten written (cut + gap) more) front gap ≡ overwritten (around written front gap) cut more = elim second [
       | inl behind ↦ around-overwritten_behind written more front gap cut (omega arith) behind
-      | inr none ↦ ap (λ xs. around xs front gap) (overwritten-nothing written more (cut + gap) none) ∙ sym (overwritten-nothing (around written front gap) more cut none)
+      | inr none ↦ ap (λ xs. around xs front gap) (overwritten-nothing written more (cut + gap) none)
+          ∙ sym (overwritten-nothing (around written front gap) more cut none)
     ] in
     two ∙ ap (λ xs. overwritten xs cut more) one ∙ overwritten-overwritten (around bytes front gap) h more at cut is (omega arith)
 
 -- a window in front of the gap, behind it, and on both sides of it
-range-around_before : (bytes : List ℕ) (front gap from to : ℕ) → front + gap ≤ length bytes → from ≤ to → to ≤ front → slice_range (around bytes front gap) from to ≡ slice_range bytes from to
+range-around_before : (bytes : List ℕ) (front gap from to : ℕ) → front + gap ≤ length bytes → from ≤ to → to ≤ front
+    → slice_range (around bytes front gap) from to ≡ slice_range bytes from to
 range-around_before bytes front gap from to held ordered before =
     let k : ℕ = to - from in
     let short : length (take front bytes) ≡ front = length-take-le front bytes (omega arith) in
@@ -205,7 +216,8 @@ range-around_before bytes front gap from to held ordered before =
     ∙ ap (drop from) (take-take (from + k) front bytes (omega arith))
     ∙ drop-take from k bytes
 
-range-around_behind : (bytes : List ℕ) (front gap from to : ℕ) → front + gap ≤ length bytes → front ≤ from → slice_range (around bytes front gap) from to ≡ slice_range bytes (from + gap) (to + gap)
+range-around_behind : (bytes : List ℕ) (front gap from to : ℕ) → front + gap ≤ length bytes → front ≤ from
+    → slice_range (around bytes front gap) from to ≡ slice_range bytes (from + gap) (to + gap)
 range-around_behind bytes front gap from to held behind =
     let k : ℕ = from - front in
     let short : length (take front bytes) ≡ front = length-take-le front bytes (omega arith) in
@@ -216,7 +228,8 @@ range-around_behind bytes front gap from to held behind =
     ∙ ap (take (to - from)) (drop-append-add (take front bytes) (drop (front + gap) bytes) k ∙ drop-drop k (front + gap) bytes ∙ ap (λ n. drop n bytes) place)
     ∙ ap (λ n. take n (drop (from + gap) bytes)) count
 
-range-around_both : (bytes : List ℕ) (front gap from to : ℕ) → front + gap ≤ length bytes → from ≤ front → front ≤ to → slice_range (around bytes front gap) from to ≡ slice_range bytes from front ++ slice_range bytes (front + gap) (to + gap)
+range-around_both : (bytes : List ℕ) (front gap from to : ℕ) → front + gap ≤ length bytes → from ≤ front → front ≤ to
+    → slice_range (around bytes front gap) from to ≡ slice_range bytes from front ++ slice_range bytes (front + gap) (to + gap)
 range-around_both bytes front gap from to held before behind =
     let k : ℕ = front - from in
     let short : length (take front bytes) ≡ front = length-take-le front bytes (omega arith) in
@@ -236,7 +249,8 @@ range-nothing : (bytes : List ℕ) (at : ℕ) → slice_range bytes at at ≡ []
 range-nothing bytes at = let none : at - at ≡ 0 = omega arith in ap (λ n. take n (drop at bytes)) none
 
 -- the two parts of a window that is cut at the gap
-pub range-around : (bytes : List ℕ) (front gap from to cut : ℕ) → front + gap ≤ length bytes → from ≤ to → cut ≡ max from (min front to) → slice_range bytes from cut ++ slice_range bytes (cut + gap) (to + gap) ≡ slice_range (around bytes front gap) from to
+pub range-around : (bytes : List ℕ) (front gap from to cut : ℕ) → front + gap ≤ length bytes → from ≤ to → cut ≡ max from (min front to)
+    → slice_range bytes from cut ++ slice_range bytes (cut + gap) (to + gap) ≡ slice_range (around bytes front gap) from to
 range-around bytes front gap from to cut held ordered is = elim (cases_lt to front) [
   | inl before ↦
       let at_end : cut ≡ to = omega arith in
@@ -258,7 +272,8 @@ range-around bytes front gap from to cut held ordered is = elim (cases_lt to fro
 ]
 
 -- a gap that takes in what is behind it
-pub around-wider : (bytes : List ℕ) (front gap n : ℕ) → front + gap + n ≤ length bytes → take front (around bytes front gap) ++ drop (front + n) (around bytes front gap) ≡ around bytes front (gap + n)
+pub around-wider : (bytes : List ℕ) (front gap n : ℕ) → front + gap + n ≤ length bytes
+    → take front (around bytes front gap) ++ drop (front + n) (around bytes front gap) ≡ around bytes front (gap + n)
 around-wider bytes front gap n held =
     let place : front + gap + n ≡ front + (gap + n) = omega arith in
     ap (λ xs. xs ++ drop (front + n) (around bytes front gap)) (take_front-around bytes front gap (omega arith))

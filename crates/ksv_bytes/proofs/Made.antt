@@ -10,7 +10,9 @@ use Rattle.ksv_bytes.specs.Uses.{Makes}
 pub made-overwrite : (before : List ℕ) (at : ℕ) (new after : List ℕ) → overwrite before at new ≡ Ok after → Makes (Overwrite at (length new)) before after
 made-overwrite before at new after done = by (nat_lt (length before) (at + length new)) refl (length new == 0) done
   where
-    by : (outside : Bool) → nat_lt (length before) (at + length new) ≡ outside → (nothing : Bool) → (if outside then Err Outside else if nothing then Err NothingToDo else Ok (take at before ++ new ++ drop (at + length new) before)) ≡ Ok after → Makes (Overwrite at (length new)) before after
+    by : (outside : Bool) → nat_lt (length before) (at + length new) ≡ outside → (nothing : Bool)
+        → (if outside then Err Outside else if nothing then Err NothingToDo else Ok (take at before ++ new ++ drop (at + length new) before)) ≡ Ok after
+        → Makes (Overwrite at (length new)) before after
     by true e nothing is = absurd (cc)
     by false e true is = absurd (cc)
     by false e false is = (new, refl, grind (arith, nat_tests), let same : after ≡ take at before ++ new ++ drop (at + length new) before = cc in same)
@@ -19,7 +21,9 @@ made-overwrite before at new after done = by (nat_lt (length before) (at + lengt
 pub made-insert : (before : List ℕ) (at : ℕ) (new after : List ℕ) → insert before at new ≡ Ok after → Makes (Insert at (length new)) before after
 made-insert before at new after done = by (nat_lt (length before) at) refl (length new == 0) (nat_lt file_limit (length before + length new)) done
   where
-    by : (outside : Bool) → nat_lt (length before) at ≡ outside → (nothing large : Bool) → (if outside then Err Outside else if nothing then Err NothingToDo else if large then Err TooLarge else Ok (take at before ++ new ++ drop at before)) ≡ Ok after → Makes (Insert at (length new)) before after
+    by : (outside : Bool) → nat_lt (length before) at ≡ outside → (nothing large : Bool)
+        → (if outside then Err Outside else if nothing then Err NothingToDo else if large then Err TooLarge else Ok (take at before ++ new ++ drop at before))
+        ≡ Ok after → Makes (Insert at (length new)) before after
     by true e nothing large is = absurd (cc)
     by false e true large is = absurd (cc)
     by false e false true is = absurd (cc)
@@ -29,7 +33,9 @@ made-insert before at new after done = by (nat_lt (length before) at) refl (leng
 pub made-delete : (before : List ℕ) (at n : ℕ) (after : List ℕ) → delete before at n ≡ Ok after → Makes (Delete at n) before after
 made-delete before at n after done = by (nat_lt (length before) (at + n)) refl (n == 0) done
   where
-    by : (outside : Bool) → nat_lt (length before) (at + n) ≡ outside → (nothing : Bool) → (if outside then Err Outside else if nothing then Err NothingToDo else Ok (take at before ++ drop (at + n) before)) ≡ Ok after → Makes (Delete at n) before after
+    by : (outside : Bool) → nat_lt (length before) (at + n) ≡ outside → (nothing : Bool)
+        → (if outside then Err Outside else if nothing then Err NothingToDo else Ok (take at before ++ drop (at + n) before)) ≡ Ok after
+        → Makes (Delete at n) before after
     by true e nothing is = absurd (cc)
     by false e true is = absurd (cc)
     by false e false is = (grind (arith, nat_tests), let same : after ≡ take at before ++ drop (at + n) before = cc in same)
@@ -38,7 +44,8 @@ made-delete before at n after done = by (nat_lt (length before) (at + n)) refl (
 pub made-append : (before new after : List ℕ) → append before new ≡ Ok after → Makes Append before after
 made-append before new after done = by (length new == 0) (nat_lt file_limit (length before + length new)) done
   where
-    by : (nothing large : Bool) → (if nothing then Err NothingToDo else if large then Err TooLarge else Ok (before ++ new)) ≡ Ok after → Makes Append before after
+    by : (nothing large : Bool) → (if nothing then Err NothingToDo else if large then Err TooLarge else Ok (before ++ new)) ≡ Ok after
+        → Makes Append before after
     by true large is = absurd (cc)
     by false true is = absurd (cc)
     by false false is = (new, let same : after ≡ before ++ new = cc in same)

@@ -1,5 +1,6 @@
 -- What a change doesn't touch is the same before and after it.
-use Rattle.std.proofs.Common.{◌≡◌, refl, false, nat_lt, ℕ, ◌+◌, ◌-◌, ◌<◌, ◌≤◌, List, ◌++◌, length, take, drop, ap, ◌∙◌, sym, subst, arith, append_assoc, inl, inr}
+use Rattle.std.proofs.Common.{◌≡◌, refl, false, nat_lt, ℕ, ◌+◌, ◌-◌, ◌<◌, ◌≤◌, List, ◌++◌, length, take, drop, ap, ◌∙◌, sym, subst, arith, append_assoc, inl}
+use Rattle.std.proofs.Common.{inr}
 use Rattle.std.specs.Bool.{Decides}
 use Rattle.std.proofs.lemmas.Bool.{cases_lt}
 use Rattle.std.proofs.lemmas.Bool.Decides.{Decides-and, Decides-ltb, not_from_Decides}
@@ -26,20 +27,25 @@ front-same bytes more at to le fits =
     ∙ ap (take to) (take-append-drop at bytes)
 
 -- what ends at or before the place of an edit
-front-kept : (bytes more : List ℕ) (at from to : ℕ) → from < to → to ≤ at → at ≤ length bytes → slice_range (take at bytes ++ more) from to ≡ slice_range bytes from to
+front-kept : (bytes more : List ℕ) (at from to : ℕ) → from < to → to ≤ at → at ≤ length bytes
+    → slice_range (take at bytes ++ more) from to ≡ slice_range bytes from to
 front-kept bytes more at from to lt le fits =
     range-front (take at bytes ++ more) from to lt ∙ ap (drop from) (front-same bytes more at to le fits) ∙ sym (range-front bytes from to lt)
 
 -- what begins at or behind the end of an overwrite
-behind-kept : (bytes new : List ℕ) (at n from to : ℕ) → length new ≡ n → at + n ≤ length bytes → at + n ≤ from → slice_range (take at bytes ++ new ++ drop (at + n) bytes) from to ≡ slice_range bytes from to
+behind-kept : (bytes new : List ℕ) (at n from to : ℕ) → length new ≡ n → at + n ≤ length bytes → at + n ≤ from
+    → slice_range (take at bytes ++ new ++ drop (at + n) bytes) from to ≡ slice_range bytes from to
 behind-kept bytes new at n from to len fits le =
     let long : length (take at bytes ++ new) ≡ at + n = grind (arith, common_steps) in
     ap (take (to - from)) (drop-append-drop (at + n) bytes (take at bytes ++ new) from le long)
 
-overwrite-kept : (bytes new : List ℕ) (at n from to : ℕ) → from < to → length new ≡ n → at + n ≤ length bytes → ((from < at + n) × (at < to) → ⊥) → slice_range (take at bytes ++ new ++ drop (at + n) bytes) from to ≡ slice_range bytes from to
+overwrite-kept : (bytes new : List ℕ) (at n from to : ℕ) → from < to → length new ≡ n → at + n ≤ length bytes → ((from < at + n) × (at < to) → ⊥)
+    → slice_range (take at bytes ++ new ++ drop (at + n) bytes) from to ≡ slice_range bytes from to
 overwrite-kept bytes new at n from to lt len fits apart = elim (cases_lt at to) [
-  | inl before ↦ behind-kept bytes new at n from to len fits (elim (cases_lt from (at + n)) [ inl inside ↦ absurd (apart (inside, before)) | inr behind ↦ behind ])
-  | inr front ↦ ap (λ xs. slice_range xs from to) (append_assoc (take at bytes) new (drop (at + n) bytes)) ∙ front-kept bytes (new ++ drop (at + n) bytes) at from to lt front (let le : at ≤ length bytes = omega arith in le)
+  | inl before ↦ behind-kept bytes new at n from to len fits
+      (elim (cases_lt from (at + n)) [ inl inside ↦ absurd (apart (inside, before)) | inr behind ↦ behind ])
+  | inr front ↦ ap (λ xs. slice_range xs from to) (append_assoc (take at bytes) new (drop (at + n) bytes))
+      ∙ front-kept bytes (new ++ drop (at + n) bytes) at from to lt front (let le : at ≤ length bytes = omega arith in le)
 ]
 
 -- what is not below is at least as large
@@ -47,26 +53,30 @@ not-behind : (at to : ℕ) → (at < to → ⊥) → to ≤ at
 not-behind at to apart = elim (cases_lt at to) [ inl lt ↦ absurd (apart lt) | inr le ↦ le ]
 
 -- the length after an overwrite, and what is reached where bytes stay in front of a place
-overwrite-length : (bytes new : List ℕ) (at n : ℕ) → length new ≡ n → at + n ≤ length bytes → length (take at bytes ++ new ++ drop (at + n) bytes) ≡ length bytes
+overwrite-length : (bytes new : List ℕ) (at n : ℕ) → length new ≡ n → at + n ≤ length bytes
+    → length (take at bytes ++ new ++ drop (at + n) bytes) ≡ length bytes
 overwrite-length bytes new at n len fits = grind (arith, common_steps)
 
 front-reaches : (bytes more : List ℕ) (at to : ℕ) → to ≤ at → at ≤ length bytes → to ≤ length (take at bytes ++ more)
 front-reaches bytes more at to le fits = grind (arith, common_steps)
 
 -- the front of an edit that shifts what stands behind its place
-shift-bytes : (before after more : List ℕ) (at from to : ℕ) → after ≡ take at before ++ more → at ≤ length before → from < to → to ≤ length before → (at < to → ⊥) → AgreeOn before after (Bytes from to)
+shift-bytes : (before after more : List ℕ) (at from to : ℕ) → after ≡ take at before ++ more → at ≤ length before → from < to → to ≤ length before
+    → (at < to → ⊥) → AgreeOn before after (Bytes from to)
 shift-bytes before after more at from to is fits lt held apart =
     let P : List ℕ → Type 0 = λ xs. AgreeOn before xs (Bytes from to) in
     let le : to ≤ at = not-behind at to apart in
     subst P (sym is) (held, front-reaches before more at to le fits, front-kept before more at from to lt le fits)
 
-shift-reach : (before after more : List ℕ) (at to : ℕ) → after ≡ take at before ++ more → at ≤ length before → to ≤ length before → (at < to → ⊥) → AgreeOn before after (Reach to)
+shift-reach : (before after more : List ℕ) (at to : ℕ) → after ≡ take at before ++ more → at ≤ length before → to ≤ length before → (at < to → ⊥)
+    → AgreeOn before after (Reach to)
 shift-reach before after more at to is fits held apart =
     let P : List ℕ → Type 0 = λ xs. AgreeOn before xs (Reach to) in
     subst P (sym is) (held, front-reaches before more at to (not-behind at to apart) fits)
 
 append-range : (bytes new : List ℕ) (from to : ℕ) → from < to → to ≤ length bytes → slice_range (bytes ++ new) from to ≡ slice_range bytes from to
-append-range bytes new from to lt held = range-front (bytes ++ new) from to lt ∙ ap (drop from) (take-append-le to bytes new held) ∙ sym (range-front bytes from to lt)
+append-range bytes new from to lt held = range-front (bytes ++ new) from to lt ∙ ap (drop from) (take-append-le to bytes new held)
+    ∙ sym (range-front bytes from to lt)
 
 append-reaches : (bytes new : List ℕ) (to : ℕ) → to ≤ length bytes → to ≤ length (bytes ++ new)
 append-reaches bytes new to held = grind (arith, common_steps)
@@ -83,10 +93,13 @@ untouched-keeps (Overwrite at n) (Reach to) apart before after (new, len, fits, 
     let long : length (take at before ++ new ++ drop (at + n) before) ≡ length before = overwrite-length before new at n len fits in
     subst P (sym is) (can, omega arith)
 untouched-keeps (Overwrite at n) Size apart before after (new, len, fits, is) can = ap length is ∙ overwrite-length before new at n len fits
-untouched-keeps (Insert at n) (Bytes from to) apart before after (new, len, fits, is) can = shift-bytes before after (new ++ drop at before) at from to (is ∙ append_assoc (take at before) new (drop at before)) fits can.0 can.1 apart
-untouched-keeps (Insert at n) (Reach to) apart before after (new, len, fits, is) can = shift-reach before after (new ++ drop at before) at to (is ∙ append_assoc (take at before) new (drop at before)) fits can apart
+untouched-keeps (Insert at n) (Bytes from to) apart before after (new, len, fits, is) can =
+    shift-bytes before after (new ++ drop at before) at from to (is ∙ append_assoc (take at before) new (drop at before)) fits can.0 can.1 apart
+untouched-keeps (Insert at n) (Reach to) apart before after (new, len, fits, is) can =
+    shift-reach before after (new ++ drop at before) at to (is ∙ append_assoc (take at before) new (drop at before)) fits can apart
 untouched-keeps (Insert at n) Size apart before after edit can = absurd (apart tt)
-untouched-keeps (Delete at n) (Bytes from to) apart before after (fits, is) can = shift-bytes before after (drop (at + n) before) at from to is (omega arith) can.0 can.1 apart
+untouched-keeps (Delete at n) (Bytes from to) apart before after (fits, is) can =
+    shift-bytes before after (drop (at + n) before) at from to is (omega arith) can.0 can.1 apart
 untouched-keeps (Delete at n) (Reach to) apart before after (fits, is) can = shift-reach before after (drop (at + n) before) at to is (omega arith) can apart
 untouched-keeps (Delete at n) Size apart before after edit can = absurd (apart tt)
 untouched-keeps Append (Bytes from to) apart before after (new, is) can =

@@ -1,5 +1,6 @@
 -- The names behind the dots of an expression, form by form, and how they come into a table.
-use Rattle.std.proofs.Common.{◌≡◌, ℕ, suc, ◌+◌, ◌<◌, ◌≤◌, List, [], ◌∷◌, ◌++◌, if◌then◌else◌, map, length, get_or, drop, refl, sym, ap, ◌∙◌, add-one, drop-cons, string_bytes, Box, Global, String, Vec}
+use Rattle.std.proofs.Common.{◌≡◌, ℕ, suc, ◌+◌, ◌<◌, ◌≤◌, List, [], ◌∷◌, ◌++◌, if◌then◌else◌, map, length, get_or, drop, refl, sym, ap, ◌∙◌, add-one, drop-cons}
+use Rattle.std.proofs.Common.{string_bytes, Box, Global, String, Vec}
 use Rattle.std.specs.List.{flat_map, list_any}
 use Rattle.std.specs.Str.{bytes_eq}
 use Rattle.std.proofs.lemmas.List.{drop_all}
@@ -16,7 +17,8 @@ use Rattle.ksv_expr_tree.specs.declared.tree.LogicalOperator.{LogicalOperator}
 use Rattle.ksv_expr_tree.specs.Tree.{Tree, view, arguments_of}
 use Rattle.ksv_desc.specs.Names.{distinct_behind, dotted, all_dotted}
 use Rattle.ksv_desc.specs.Code.{dotted_in}
-use Rattle.ksv_desc.proofs.Views.{view_literal, view_name, view_special, view_member, view_unary, view_binary, view_logical, view_choice, view_field, view_special_field, view_call, view_index, view_cast}
+use Rattle.ksv_desc.proofs.Views.{view_literal, view_name, view_special, view_member, view_unary, view_binary, view_logical, view_choice, view_field}
+use Rattle.ksv_desc.proofs.Views.{view_special_field, view_call, view_index, view_cast}
 
 pub dotted_literal : (c : Literal) → dotted_in (made.Literal c) ≡ []
 unfolding dotted_in dotted
@@ -68,7 +70,8 @@ pub dotted_cast : (q : _) (e : Expr) (t : TypeName) → dotted_in (Cast' q e t) 
 unfolding dotted_in dotted
 dotted_cast q e t = ap dotted (view_cast q e t)
 
-pub dotted_call : (a : Box Expr Global) (m : String Global) (es : Vec Expr Global) → dotted_in (made.Call a m es) ≡ dotted_in a.value ++ all_dotted (arguments_of (map view es.items))
+pub dotted_call : (a : Box Expr Global) (m : String Global) (es : Vec Expr Global)
+    → dotted_in (made.Call a m es) ≡ dotted_in a.value ++ all_dotted (arguments_of (map view es.items))
 unfolding dotted_in dotted
 dotted_call a m es = ap dotted (view_call a m es)
 
@@ -89,7 +92,8 @@ distinct_append o (x ∷ xs) ys = distinct_append (if list_any (bytes_eq x) o th
 pub ruleset steps = (distinct_none, distinct_append)
 
 module _ {X A : Type 0} (see : X → A) (f : A → List (List ℕ)) (xs : List X) where
-  pub distinct_step : (i : ℕ) (x : X) (o p q : List (List ℕ)) → i < length xs → x ≡ get_or xs i x → p ≡ distinct_behind o (f (see x)) → distinct_behind o (flat_map f (map see (drop i xs))) ≡ q → distinct_behind p (flat_map f (map see (drop (i + 1) xs))) ≡ q
+  pub distinct_step : (i : ℕ) (x : X) (o p q : List (List ℕ)) → i < length xs → x ≡ get_or xs i x → p ≡ distinct_behind o (f (see x))
+      → distinct_behind o (flat_map f (map see (drop i xs))) ≡ q → distinct_behind p (flat_map f (map see (drop (i + 1) xs))) ≡ q
   distinct_step i x o p q lt is new now =
       ap (λ (j : ℕ). distinct_behind p (flat_map f (map see (drop j xs)))) (add-one i)
       ∙ ap (λ (p : List (List ℕ)). distinct_behind p (flat_map f (map see (drop (suc i) xs)))) (new ∙ ap (λ (y : X). distinct_behind o (f (see y))) is)
@@ -100,7 +104,9 @@ module _ {X A : Type 0} (see : X → A) (f : A → List (List ℕ)) (xs : List X
   distinct_end i o q le now = ap (λ (ys : List X). distinct_behind o (flat_map f (map see ys))) (sym (drop_all i xs le)) ∙ now
 
 -- a call whose names were added one after the other
-pub added_call : (o p q : List (List ℕ)) (e : Expr) (a : Box Expr Global) (m : String Global) (es : Vec Expr Global) → e ≡ made.Call a m es → p ≡ distinct_behind o (dotted_in a.value) → q ≡ distinct_behind p (all_dotted (arguments_of (map view es.items))) → q ≡ distinct_behind o (dotted_in e)
+pub added_call : (o p q : List (List ℕ)) (e : Expr) (a : Box Expr Global) (m : String Global) (es : Vec Expr Global) → e ≡ made.Call a m es
+    → p ≡ distinct_behind o (dotted_in a.value) → q ≡ distinct_behind p (all_dotted (arguments_of (map view es.items))) → q ≡ distinct_behind o (dotted_in e)
 added_call o p q e a m es is first all =
     all ∙ ap (λ (x : List (List ℕ)). distinct_behind x (all_dotted (arguments_of (map view es.items)))) first
-    ∙ sym (ap (λ (f : Expr). distinct_behind o (dotted_in f)) is ∙ ap (distinct_behind o) (dotted_call a m es) ∙ distinct_append o (dotted_in a.value) (all_dotted (arguments_of (map view es.items))))
+    ∙ sym (ap (λ (f : Expr). distinct_behind o (dotted_in f)) is ∙ ap (distinct_behind o) (dotted_call a m es)
+    ∙ distinct_append o (dotted_in a.value) (all_dotted (arguments_of (map view es.items))))

@@ -18,7 +18,8 @@ module _ {S : Type 0} (entries : List EnumEntry) where
   pub none_yet : (k : ℕ) (places : HashMap ℤ ℕ S) → k ≡ length entries → places.entries ≡ [] → AreFirstFrom k places
   none_yet k places all empty = firsts.none_yet has_number entries k _ all (λ number. ap (λ (es : List (ℤ × ℕ)). lookup (int_eq number) es) empty)
 
-  pub one_before : (k j : ℕ) (entry : EnumEntry) (places more : HashMap ℤ ℕ S) → k ≡ suc j → j < length entries → entry ≡ get_or entries j entry → Puts places more entry.number j → AreFirstFrom k places → AreFirstFrom j more
+  pub one_before : (k j : ℕ) (entry : EnumEntry) (places more : HashMap ℤ ℕ S) → k ≡ suc j → j < length entries → entry ≡ get_or entries j entry
+      → Puts places more entry.number j → AreFirstFrom k places → AreFirstFrom j more
   one_before k j entry places more next within is put from =
       firsts.one_before has_number entries k j entry _ _ next within is
       (λ number. put.found number ∙ ap (λ b. cond b (Some j) (get int_eq places number)) (int_eq_equiv.symm entry.number number)) from

@@ -1,5 +1,6 @@
 -- What the readers of a description find.
-use Rattle.std.proofs.Common.{◌≡◌, ℕ, zero, suc, ◌+◌, ◌<◌, ◌≤◌, Bool, true, false, cond, List, [], ◌∷◌, ◌++◌, length, get_or, drop, map, filter, take, ap, sym, ◌∙◌, refl, Some, None, arith, append_assoc, add-one, drop-cons}
+use Rattle.std.proofs.Common.{◌≡◌, ℕ, zero, suc, ◌+◌, ◌<◌, ◌≤◌, Bool, true, false, cond, List, [], ◌∷◌, ◌++◌, length, get_or, drop, map, filter, take, ap, sym}
+use Rattle.std.proofs.Common.{◌∙◌, refl, Some, None, arith, append_assoc, add-one, drop-cons}
 use Rattle.std.specs.List.{position_from}
 use Rattle.ksv_desc.specs.declared.members.MemberKind.{MemberKind}
 use Rattle.ksv_desc.specs.declared.members.MemberKind.TheVariants as kinds
@@ -26,16 +27,20 @@ same_test m = go m.kind
 pub fields_same : (ms : List MemberDesc) → map (λ m. m.name) (filter plain_is (map plain_member ms)) ≡ map (λ m. m.name) (filter is_attribute ms)
 fields_same [] = refl
 fields_same (m ∷ ms) =
-    ap (λ (b : Bool). map (λ (m : MemberOfType). m.name) (cond b (plain_member m ∷ filter plain_is (map plain_member ms)) (filter plain_is (map plain_member ms)))) (same_test m)
+    ap (λ (b : Bool). map (λ (m : MemberOfType). m.name)
+    (cond b (plain_member m ∷ filter plain_is (map plain_member ms)) (filter plain_is (map plain_member ms)))) (same_test m)
     ∙ go (is_attribute m) (fields_same ms)
   where
-    go : (b : Bool) → map (λ m. m.name) (filter plain_is (map plain_member ms)) ≡ map (λ m. m.name) (filter is_attribute ms) → map (λ (m : MemberOfType). m.name) (cond b (plain_member m ∷ filter plain_is (map plain_member ms)) (filter plain_is (map plain_member ms))) ≡ map (λ (m : MemberDesc). m.name) (cond b (m ∷ filter is_attribute ms) (filter is_attribute ms))
+    go : (b : Bool) → map (λ m. m.name) (filter plain_is (map plain_member ms)) ≡ map (λ m. m.name) (filter is_attribute ms)
+        → map (λ (m : MemberOfType). m.name) (cond b (plain_member m ∷ filter plain_is (map plain_member ms)) (filter plain_is (map plain_member ms)))
+        ≡ map (λ (m : MemberDesc). m.name) (cond b (m ∷ filter is_attribute ms) (filter is_attribute ms))
     go true h = ap (λ (ns : List ℕ). m.name ∷ ns) h
     go false h = h
 
 -- ---- lists of names that grow member by member
 
-pub name_more : (xs ns : List ℕ) (ms : List MemberDesc) (i : ℕ) (m : MemberDesc) (whole : List ℕ) → i < length ms → m ≡ get_or ms i m → ns ≡ xs ++ m.name ∷ [] → xs ++ map (λ m. m.name) (drop i ms) ≡ whole → ns ++ map (λ m. m.name) (drop (i + 1) ms) ≡ whole
+pub name_more : (xs ns : List ℕ) (ms : List MemberDesc) (i : ℕ) (m : MemberDesc) (whole : List ℕ) → i < length ms → m ≡ get_or ms i m → ns ≡ xs ++ m.name ∷ []
+    → xs ++ map (λ m. m.name) (drop i ms) ≡ whole → ns ++ map (λ m. m.name) (drop (i + 1) ms) ≡ whole
 name_more xs ns ms i m whole lt is new so_far =
     let rest = map (λ (m : MemberDesc). m.name) (drop (suc i) ms) in
     ap (λ (j : ℕ). ns ++ map (λ (m : MemberDesc). m.name) (drop j ms)) (add-one i)
@@ -59,7 +64,8 @@ module _ {A : Type 0} (p : A → Bool) where
   none_in_front j (suc k) [] h = refl
   none_in_front j (suc k) (x ∷ xs) h = go (p x) h (none_in_front (j + 1) k xs)
     where
-      go : (b : Bool) → cond b (Some j) (position_from p (j + 1) xs) ≡ None → (position_from p (j + 1) xs ≡ None → position_from p (j + 1) (take k xs) ≡ None) → cond b (Some j) (position_from p (j + 1) (take k xs)) ≡ None
+      go : (b : Bool) → cond b (Some j) (position_from p (j + 1) xs) ≡ None → (position_from p (j + 1) xs ≡ None → position_from p (j + 1) (take k xs) ≡ None)
+          → cond b (Some j) (position_from p (j + 1) (take k xs)) ≡ None
       go true h r = absurd cc
       go false h r = r h
 
@@ -68,7 +74,9 @@ module _ {A : Type 0} (p : A → Bool) where
   found_in_front j (suc k) n [] h lt = absurd cc
   found_in_front j (suc k) n (x ∷ xs) h lt = go (p x) h (λ r. found_in_front (j + 1) k n xs r (omega arith))
     where
-      go : (b : Bool) → cond b (Some j) (position_from p (j + 1) xs) ≡ Some n → (position_from p (j + 1) xs ≡ Some n → position_from p (j + 1) (take k xs) ≡ Some n) → cond b (Some j) (position_from p (j + 1) (take k xs)) ≡ Some n
+      go : (b : Bool) → cond b (Some j) (position_from p (j + 1) xs) ≡ Some n
+          → (position_from p (j + 1) xs ≡ Some n → position_from p (j + 1) (take k xs) ≡ Some n)
+          → cond b (Some j) (position_from p (j + 1) (take k xs)) ≡ Some n
       go true h r = h
       go false h r = r h
 
@@ -77,7 +85,8 @@ module _ {A : Type 0} (p : A → Bool) where
   found_behind j (suc k) n [] h le = refl
   found_behind j (suc k) n (x ∷ xs) h le = go (p x) h (λ r. found_behind (j + 1) k n xs r (omega arith))
     where
-      go : (b : Bool) → cond b (Some j) (position_from p (j + 1) xs) ≡ Some n → (position_from p (j + 1) xs ≡ Some n → position_from p (j + 1) (take k xs) ≡ None) → cond b (Some j) (position_from p (j + 1) (take k xs)) ≡ None
+      go : (b : Bool) → cond b (Some j) (position_from p (j + 1) xs) ≡ Some n
+          → (position_from p (j + 1) xs ≡ Some n → position_from p (j + 1) (take k xs) ≡ None) → cond b (Some j) (position_from p (j + 1) (take k xs)) ≡ None
       go true h r = let e : j ≡ n = cc in absurd (omega arith)
       go false h r = r h
 

@@ -1,5 +1,6 @@
 -- The table of names as the code holds it.
-use Rattle.std.proofs.Common.{◌≡◌, ℕ, ◌+◌, ◌<◌, ◌^◌, Bool, true, false, cond, if◌then◌else◌, List, [], ◌∷◌, ◌++◌, map, length, Option, Some, None, Result, Ok, Err, refl, sym, ap, subst, ◌∙◌, String, Global, string_bytes, is_some, arith}
+use Rattle.std.proofs.Common.{◌≡◌, ℕ, ◌+◌, ◌<◌, ◌^◌, Bool, true, false, cond, if◌then◌else◌, List, [], ◌∷◌, ◌++◌, map, length, Option, Some, None, Result, Ok}
+use Rattle.std.proofs.Common.{Err, refl, sym, ap, subst, ◌∙◌, String, Global, string_bytes, is_some, arith}
 use Rattle.std.specs.Prelude.{OnOk, is_err}
 use Rattle.std.specs.List.{list_any, position_from}
 use Rattle.std.specs.Str.{bytes_eq}
@@ -23,11 +24,13 @@ turned : (v w : List ℕ) → bytes_eq v w ≡ bytes_eq w v
 turned v w = one_answer (bytes_eq v w) (bytes_eq w v) (bytes_eq-Decides v w) ((λ e. sym ((bytes_eq-Decides w v).0 e)), (λ e. (bytes_eq-Decides w v).1 (sym e)))
 
 -- a table of no names
-pub none_yet : {S : Type 0} (texts : List (String Global)) (m : HashMap (String Global) ℕ S) → texts ≡ [] → m.entries ≡ [] → AreNumbered (map string_bytes texts) m
+pub none_yet : {S : Type 0} (texts : List (String Global)) (m : HashMap (String Global) ℕ S) → texts ≡ [] → m.entries ≡ []
+    → AreNumbered (map string_bytes texts) m
 unfolding number_in
 none_yet texts m none empty = record {
   few = omega (arith, ap length (ap (λ (ts : List (String Global)). map string_bytes ts) none));
-  found = λ w. ap (λ (es : List (String Global × ℕ)). lookup (λ k. bytes_eq w (string_bytes k)) es) empty ∙ sym (ap (λ (ts : List (String Global)). position_from (bytes_eq w) 0 (map string_bytes ts)) none);
+  found = λ w. ap (λ (es : List (String Global × ℕ)). lookup (λ k. bytes_eq w (string_bytes k)) es) empty
+      ∙ sym (ap (λ (ts : List (String Global)). position_from (bytes_eq w) 0 (map string_bytes ts)) none);
 }
 
 module _ {S : Type 0} (names : List (List ℕ)) (m : HashMap (String Global) ℕ S) (b : List ℕ) where
@@ -45,12 +48,14 @@ module _ {S : Type 0} (names : List (List ℕ)) (m : HashMap (String Global) ℕ
   goes_last h lacks = ap (λ (t : Bool). if t then names else names ++ b ∷ []) (lacks ∙ sym (there h))
 
   -- its number is its place
-  pub one_more : (k : String Global) (n : HashMap (String Global) ℕ S) → AreNumbered names m → false ≡ is_some (get_by_text m b) → string_bytes k ≡ b → length names < 2 ^ 32
+  pub one_more : (k : String Global) (n : HashMap (String Global) ℕ S) → AreNumbered names m → false ≡ is_some (get_by_text m b) → string_bytes k ≡ b
+      → length names < 2 ^ 32
       → UpdatesBy string_eq (string_eq k) m n (Some (length names)) → AreNumbered (names ++ b ∷ []) n
   unfolding number_in
   one_more k n h lacks same few put = record {
     few = omega (arith, length-append names (b ∷ []));
-    found = λ w. hash_map_updates_text (string_bytes k) m n (Some (length names)) put w ∙ ap (λ (c : List ℕ). cond (bytes_eq c w) (Some (length names)) (get_by_text m w)) same ∙ by_test w (bytes_eq b w) refl;
+    found = λ w. hash_map_updates_text (string_bytes k) m n (Some (length names)) put w
+        ∙ ap (λ (c : List ℕ). cond (bytes_eq c w) (Some (length names)) (get_by_text m w)) same ∙ by_test w (bytes_eq b w) refl;
   } where
     by_test : (w : List ℕ) (t : Bool) → bytes_eq b w ≡ t → cond t (Some (length names)) (get_by_text m w) ≡ position_from (bytes_eq w) 0 (names ++ b ∷ [])
     by_test w true is = sym (
@@ -72,12 +77,16 @@ pub on_ok : {A E P : Type 0} (r : Result A E) → OnOk r P → false ≡ is_err 
 on_ok (Ok x) h is = h
 on_ok (Err e) h is = absurd cc
 
-pub longer : (texts more : List (String Global)) (t : String Global) (b : List ℕ) → more ≡ texts ++ t ∷ [] → string_bytes t ≡ b → map string_bytes more ≡ map string_bytes texts ++ b ∷ []
+pub longer : (texts more : List (String Global)) (t : String Global) (b : List ℕ) → more ≡ texts ++ t ∷ [] → string_bytes t ≡ b
+    → map string_bytes more ≡ map string_bytes texts ++ b ∷ []
 longer texts more t b is same = ap (map string_bytes) is ∙ map-append string_bytes texts (t ∷ []) ∙ ap (λ (c : List ℕ). map string_bytes texts ++ c ∷ []) same
 
-pub numbered : {S : Type 0} (texts more : List (String Global)) (m n : HashMap (String Global) ℕ S) (b : List ℕ) (t k : String Global) (number : ℕ) → AreNumbered (map string_bytes texts) m → false ≡ is_some (get_by_text m b)
-    → more ≡ texts ++ t ∷ [] → string_bytes t ≡ b → string_bytes k ≡ b → number ≡ length texts → number < 2 ^ 32 → UpdatesBy string_eq (string_eq k) m n (Some number) → AreNumbered (map string_bytes more) n
+pub numbered : {S : Type 0} (texts more : List (String Global)) (m n : HashMap (String Global) ℕ S) (b : List ℕ) (t k : String Global) (number : ℕ)
+    → AreNumbered (map string_bytes texts) m → false ≡ is_some (get_by_text m b)
+    → more ≡ texts ++ t ∷ [] → string_bytes t ≡ b → string_bytes k ≡ b → number ≡ length texts → number < 2 ^ 32
+    → UpdatesBy string_eq (string_eq k) m n (Some number) → AreNumbered (map string_bytes more) n
 numbered {S} texts more m n b t k number h lacks is same key place few put =
     let e : number ≡ length (map string_bytes texts) = place ∙ sym (length-map texts string_bytes) in
     subst (λ (l : List (List ℕ)). AreNumbered l n) (sym (longer texts more t b is same))
-    (one_more (map string_bytes texts) m b k n h lacks key (subst (λ (x : ℕ). x < 2 ^ 32) e few) (subst (λ (x : ℕ). UpdatesBy string_eq (string_eq k) m n (Some x)) e put))
+    (one_more (map string_bytes texts) m b k n h lacks key (subst (λ (x : ℕ). x < 2 ^ 32) e few)
+    (subst (λ (x : ℕ). UpdatesBy string_eq (string_eq k) m n (Some x)) e put))

@@ -1,5 +1,6 @@
 -- Names that were added to a table are there, each once.
-use Rattle.std.proofs.Common.{◌≡◌, ℕ, zero, suc, ◌+◌, Bool, true, false, cond, ◌||◌, ◌&&◌, if◌then◌else◌, List, [], ◌∷◌, ◌++◌, length, Some, None, is_some, slice_get, ◌⊎◌, inl, inr, refl, sym, ap, ◌∙◌, arith}
+use Rattle.std.proofs.Common.{◌≡◌, ℕ, zero, suc, ◌+◌, Bool, true, false, cond, ◌||◌, ◌&&◌, if◌then◌else◌, List, [], ◌∷◌, ◌++◌, length, Some, None, is_some}
+use Rattle.std.proofs.Common.{slice_get, ◌⊎◌, inl, inr, refl, sym, ap, ◌∙◌, arith}
 use Rattle.std.specs.List.{position_from, list_any, list_all}
 use Rattle.std.specs.Str.{bytes_eq}
 use Rattle.std.proofs.lemmas.Bool.{and_parts, and_from}
@@ -94,14 +95,17 @@ added_there before (w ∷ ws) =
 position_append : {A : Type 0} (t : A → Bool) (i k : ℕ) (xs ys : List A) → position_from t i xs ≡ Some k → position_from t i (xs ++ ys) ≡ Some k
 position_append t i k [] ys h = absurd (cc)
 position_append t i k (x ∷ xs) ys h = by_test (t x) h (position_append t (i + 1) k xs ys) where
-  by_test : (b : Bool) → cond b (Some i) (position_from t (i + 1) xs) ≡ Some k → (position_from t (i + 1) xs ≡ Some k → position_from t (i + 1) (xs ++ ys) ≡ Some k) → cond b (Some i) (position_from t (i + 1) (xs ++ ys)) ≡ Some k
+  by_test : (b : Bool) → cond b (Some i) (position_from t (i + 1) xs) ≡ Some k
+      → (position_from t (i + 1) xs ≡ Some k → position_from t (i + 1) (xs ++ ys) ≡ Some k) → cond b (Some i) (position_from t (i + 1) (xs ++ ys)) ≡ Some k
   by_test true found later = found
   by_test false found later = later found
 
-pub position_last : {A : Type 0} (t : A → Bool) (i : ℕ) (xs : List A) (y : A) → list_any t xs ≡ false → t y ≡ true → position_from t i (xs ++ y ∷ []) ≡ Some (i + length xs)
+pub position_last : {A : Type 0} (t : A → Bool) (i : ℕ) (xs : List A) (y : A) → list_any t xs ≡ false → t y ≡ true
+    → position_from t i (xs ++ y ∷ []) ≡ Some (i + length xs)
 position_last t i [] y none here = ap (λ (b : Bool). cond b (Some i) None) here ∙ ap Some (omega arith)
 position_last t i (x ∷ xs) y none here = by_test (t x) none (λ h. position_last t (i + 1) xs y h here) where
-  by_test : (b : Bool) → (b || list_any t xs) ≡ false → (list_any t xs ≡ false → position_from t (i + 1) (xs ++ y ∷ []) ≡ Some (i + 1 + length xs)) → cond b (Some i) (position_from t (i + 1) (xs ++ y ∷ [])) ≡ Some (i + length (x ∷ xs))
+  by_test : (b : Bool) → (b || list_any t xs) ≡ false → (list_any t xs ≡ false → position_from t (i + 1) (xs ++ y ∷ []) ≡ Some (i + 1 + length xs))
+      → cond b (Some i) (position_from t (i + 1) (xs ++ y ∷ [])) ≡ Some (i + length (x ∷ xs))
   by_test true found later = absurd (cc)
   by_test false found later = later found ∙ ap Some (omega arith)
 
@@ -115,10 +119,12 @@ get_last (x ∷ xs) y (suc k) w h = elim (get_last xs y k w h) [ inl there ↦ i
 distinct_by_one : (before : List (List ℕ)) (w : List ℕ) → AreDistinct before → AreDistinct (one_more before w)
 unfolding number_in
 distinct_by_one before w each = by_test (has before w) refl where
-  last_is : has before w ≡ false → (k : ℕ) (v : List ℕ) → (slice_get before k ≡ Some v) ⊎ ((k ≡ length before) × (w ≡ v)) → number_in (before ++ w ∷ []) v ≡ Some k
+  last_is : has before w ≡ false → (k : ℕ) (v : List ℕ) → (slice_get before k ≡ Some v) ⊎ ((k ≡ length before) × (w ≡ v))
+      → number_in (before ++ w ∷ []) v ≡ Some k
   last_is absent k v (inl there) = position_append (bytes_eq v) 0 k before (w ∷ []) (each k v there)
   last_is absent k v (inr last) =
-      ap (λ (x : List ℕ). position_from (bytes_eq x) 0 (before ++ w ∷ [])) (sym last.1) ∙ position_last (bytes_eq w) 0 before w absent (same_is w) ∙ ap Some (omega arith)
+      ap (λ (x : List ℕ). position_from (bytes_eq x) 0 (before ++ w ∷ [])) (sym last.1) ∙ position_last (bytes_eq w) 0 before w absent (same_is w)
+      ∙ ap Some (omega arith)
 
   by_test : (b : Bool) → has before w ≡ b → AreDistinct (if b then before else before ++ w ∷ [])
   by_test true there = each
@@ -130,7 +136,8 @@ stays before (w ∷ ws) each = stays (one_more before w) ws (distinct_by_one bef
 
 pub is_table : (before added : List (List ℕ)) → IsTableOf before added
 is_table before added = record {
-  has_before = has_each (distinct_behind before added) before (all_weaker (has before) (has (distinct_behind before added)) before (kept before added) (has_own before));
+  has_before = has_each (distinct_behind before added) before
+      (all_weaker (has before) (has (distinct_behind before added)) before (kept before added) (has_own before));
   has_added = has_each (distinct_behind before added) added (added_there before added);
   stays_distinct = stays before added;
 }

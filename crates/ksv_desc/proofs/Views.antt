@@ -13,7 +13,8 @@ use Rattle.ksv_expr_tree.specs.declared.tree.SpecialName.{SpecialName}
 use Rattle.ksv_expr_tree.specs.declared.tree.UnaryOperator.{UnaryOperator}
 use Rattle.ksv_expr_tree.specs.declared.tree.BinaryOperator.{BinaryOperator}
 use Rattle.ksv_expr_tree.specs.declared.tree.LogicalOperator.{LogicalOperator}
-use Rattle.ksv_expr_tree.specs.Tree.{Tree, view, view_layer, literal_of, name_of, path_of, member_of, arguments_of, literal, named, special, member, unary, binary, logical, choice, field, special_field, call, index, cast}
+use Rattle.ksv_expr_tree.specs.Tree.{Tree, view, view_layer, literal_of, name_of, path_of, member_of, arguments_of, literal, named, special, member, unary}
+use Rattle.ksv_expr_tree.specs.Tree.{binary, logical, choice, field, special_field, call, index, cast}
 
 pub view_literal : (l : Literal) → view (made.Literal l) ≡ literal (literal_of l)
 unfolding opened.out-Expr denote.Hole.Carrier.out
@@ -55,7 +56,8 @@ pub view_special_field : (p : _) (a : Expr) (s : SpecialName) → view (SpecialF
 unfolding opened.out-Expr denote.Hole.Carrier.out
 view_special_field p a s = fold_out-Expr Tree view_layer (SpecialField' p a s)
 
-pub view_call : (a : Box Expr Global) (m : String Global) (es : Vec Expr Global) → view (made.Call a m es) ≡ call (view a.value) (string_bytes m) (arguments_of (map view es.items))
+pub view_call : (a : Box Expr Global) (m : String Global) (es : Vec Expr Global)
+    → view (made.Call a m es) ≡ call (view a.value) (string_bytes m) (arguments_of (map view es.items))
 view_call a m es = ap view (sym (made.rolls-Call a m es)) ∙ fold-roll-Expr Tree view_layer (Expr-F.Call a m es)
 
 pub view_index : (p q : _) (a b : Expr) → view (Index' p a q b) ≡ index (view a) (view b)

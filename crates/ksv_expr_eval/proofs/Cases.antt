@@ -1,6 +1,7 @@
 -- What the meaning of an expression is at each form: its definition, clause by clause, over the trees that the code holds. A
 -- proof that cites these needn't unfold the definition, which is long.
-use Rattle.std.proofs.Common.{◌≡◌, ℕ, ◌<◌, ◌≤◌, ◌⊎◌, inl, inr, length, get_or, arith, List, [], ◌∷◌, map, if◌then◌else◌, refl, ap, sym, ◌∙◌, string_bytes, Box, String, Vec, Global, box_value}
+use Rattle.std.proofs.Common.{◌≡◌, ℕ, ◌<◌, ◌≤◌, ◌⊎◌, inl, inr, length, get_or, arith, List, [], ◌∷◌, map, if◌then◌else◌, refl, ap, sym, ◌∙◌, string_bytes, Box}
+use Rattle.std.proofs.Common.{String, Vec, Global, box_value}
 use mathlib.Core.Path.{fun_ext}
 use Rattle.ksv_basics.specs.Plan.{Answer, Fail, Ask, bind}
 use Rattle.ksv_expr_tree.specs.Tree.{Tree, arguments_of, call, view, view_layer, literal_of, name_of}
@@ -24,7 +25,8 @@ use Rattle.ksv_expr_value.specs.Setting.{Setting}
 use Rattle.ksv_expr_meaning.specs.Asked.{Eval, given, raise}
 use Rattle.ksv_expr_meaning.specs.Operators.{unary_of}
 use Rattle.ksv_expr_meaning.specs.Methods.{method_named}
-use Rattle.ksv_expr_meaning.specs.Meaning.{value_of, meaning, literal_value, member_value, special_value, enum_member, binary_of, in_truth_value, truth_value, decides, field_of, is_own_stream, special_of, call_one, call_two, item_at, cast_to}
+use Rattle.ksv_expr_meaning.specs.Meaning.{value_of, meaning, literal_value, member_value, special_value, enum_member, binary_of, in_truth_value, truth_value}
+use Rattle.ksv_expr_meaning.specs.Meaning.{decides, field_of, is_own_stream, special_of, call_one, call_two, item_at, cast_to}
 
 -- a plan behind two is one behind both
 bind_bind : {A B C : Type 0} (p : Eval A) (f : A → Eval B) (g : B → Eval C) → bind p (λ a. bind (f a) g) ≡ bind (bind p f) g
@@ -40,7 +42,8 @@ calls o m (x ∷ []) = bind o (λ v. bind x (λ a. call_one v (method_named m) a
 calls o m (x ∷ y ∷ []) = bind o (λ v. bind x (λ a. bind y (λ b. call_two v (method_named m) a b)))
 calls o m (x ∷ y ∷ z ∷ more) = raise kinds.BadType
 
-calls_of : (s : Setting) (e : Tree) (m : List ℕ) (items : List Expr) → value_of s (call e m (arguments_of (map view items))) ≡ calls (value_of s e) m (map (λ a. value_of s (view a)) items)
+calls_of : (s : Setting) (e : Tree) (m : List ℕ) (items : List Expr)
+    → value_of s (call e m (arguments_of (map view items))) ≡ calls (value_of s e) m (map (λ a. value_of s (view a)) items)
 unfolding value_of calls
 calls_of s e m [] = refl
 calls_of s e m (a ∷ []) = refl
@@ -68,22 +71,30 @@ module _ (s : Setting) where
   unfolding meaning value_of opened.out-Expr denote.Hole.Carrier.out
   of_unary op p e = ap (value_of s) (fold_out-Expr Tree view_layer (Unary' op p e))
 
-  pub of_binary : (op : BinaryOperator) (p q : _) (l r : Expr) → meaning s (Binary' op p l q r) ≡ bind (meaning s l) (λ v. bind (meaning s r) (λ w. binary_of op v w))
+  pub of_binary : (op : BinaryOperator) (p q : _) (l r : Expr)
+      → meaning s (Binary' op p l q r) ≡ bind (meaning s l) (λ v. bind (meaning s r) (λ w. binary_of op v w))
   unfolding meaning value_of opened.out-Expr denote.Hole.Carrier.out
   of_binary op p q l r = ap (value_of s) (fold_out-Expr Tree view_layer (Binary' op p l q r))
 
-  logical_form : (op : LogicalOperator) (p q : _) (l r : Expr) → meaning s (Logical' op p l q r) ≡ bind (meaning s l) (λ v. bind (in_truth_value v) (λ b. if decides op b then Answer (values.Bool b) else bind (meaning s r) truth_value))
+  logical_form : (op : LogicalOperator) (p q : _) (l r : Expr)
+      → meaning s (Logical' op p l q r) ≡ bind (meaning s l)
+      (λ v. bind (in_truth_value v) (λ b. if decides op b then Answer (values.Bool b) else bind (meaning s r) truth_value))
   unfolding meaning value_of opened.out-Expr denote.Hole.Carrier.out
   logical_form op p q l r = ap (value_of s) (fold_out-Expr Tree view_layer (Logical' op p l q r))
 
-  pub of_logical : (op : LogicalOperator) (p q : _) (l r : Expr) → meaning s (Logical' op p l q r) ≡ bind (bind (meaning s l) in_truth_value) (λ b. if decides op b then Answer (values.Bool b) else bind (meaning s r) truth_value)
-  of_logical op p q l r = logical_form op p q l r ∙ bind_bind (meaning s l) in_truth_value (λ b. if decides op b then Answer (values.Bool b) else bind (meaning s r) truth_value)
+  pub of_logical : (op : LogicalOperator) (p q : _) (l r : Expr)
+      → meaning s (Logical' op p l q r) ≡ bind (bind (meaning s l) in_truth_value)
+      (λ b. if decides op b then Answer (values.Bool b) else bind (meaning s r) truth_value)
+  of_logical op p q l r = logical_form op p q l r ∙ bind_bind (meaning s l) in_truth_value
+      (λ b. if decides op b then Answer (values.Bool b) else bind (meaning s r) truth_value)
 
-  choice_form : (p q t : _) (c y n : Expr) → meaning s (Choice' p c q y t n) ≡ bind (meaning s c) (λ v. bind (in_truth_value v) (λ b. if b then meaning s y else meaning s n))
+  choice_form : (p q t : _) (c y n : Expr) → meaning s (Choice' p c q y t n)
+      ≡ bind (meaning s c) (λ v. bind (in_truth_value v) (λ b. if b then meaning s y else meaning s n))
   unfolding meaning value_of opened.out-Expr denote.Hole.Carrier.out
   choice_form p q t c y n = ap (value_of s) (fold_out-Expr Tree view_layer (Choice' p c q y t n))
 
-  pub of_choice : (p q t : _) (c y n : Expr) → meaning s (Choice' p c q y t n) ≡ bind (bind (meaning s c) in_truth_value) (λ b. if b then meaning s y else meaning s n)
+  pub of_choice : (p q t : _) (c y n : Expr) → meaning s (Choice' p c q y t n)
+      ≡ bind (bind (meaning s c) in_truth_value) (λ b. if b then meaning s y else meaning s n)
   of_choice p q t c y n = choice_form p q t c y n ∙ bind_bind (meaning s c) in_truth_value (λ b. if b then meaning s y else meaning s n)
 
   pub of_field : (p : _) (e : Expr) (n : Name) → meaning s (Field' p e n) ≡ bind (meaning s e) (λ v. field_of s (is_own_stream (view e)) v (name_of n))
@@ -102,24 +113,30 @@ module _ (s : Setting) where
   unfolding meaning value_of opened.out-Expr denote.Hole.Carrier.out
   of_cast p e t = ap (value_of s) (fold_out-Expr Tree view_layer (Cast' p e t))
 
-  pub of_call : (a : Box Expr Global) (m : String Global) (es : Vec Expr Global) → meaning s (exprs.Call a m es) ≡ calls (meaning s (box_value a)) (string_bytes m) (map (meaning s) es.items)
+  pub of_call : (a : Box Expr Global) (m : String Global) (es : Vec Expr Global)
+      → meaning s (exprs.Call a m es) ≡ calls (meaning s (box_value a)) (string_bytes m) (map (meaning s) es.items)
   unfolding meaning value_of opened.out-Expr denote.Hole.Carrier.out
-  of_call a m es = ap (value_of s) (ap view (sym (exprs.rolls-Call a m es)) ∙ fold-roll-Expr Tree view_layer (Expr-F.Call a m es)) ∙ calls_of s (view (box_value a)) (string_bytes m) es.items
+  of_call a m es = ap (value_of s) (ap view (sym (exprs.rolls-Call a m es)) ∙ fold-roll-Expr Tree view_layer (Expr-F.Call a m es))
+      ∙ calls_of s (view (box_value a)) (string_bytes m) es.items
 
   -- a call, by how many arguments it has
-  pub call_of_one : (e : Expr) (a : Box Expr Global) (m : String Global) (es : Vec Expr Global) (x : Expr) → e ≡ exprs.Call a m es → es.items ≡ x ∷ [] → meaning s e ≡ bind (meaning s (box_value a)) (λ v. bind (meaning s x) (λ w. call_one v (method_named (string_bytes m)) w))
+  pub call_of_one : (e : Expr) (a : Box Expr Global) (m : String Global) (es : Vec Expr Global) (x : Expr) → e ≡ exprs.Call a m es → es.items ≡ x ∷ []
+      → meaning s e ≡ bind (meaning s (box_value a)) (λ v. bind (meaning s x) (λ w. call_one v (method_named (string_bytes m)) w))
   unfolding calls
   call_of_one e a m es x h k = ap (meaning s) h ∙ of_call a m es ∙ ap (λ l. calls (meaning s (box_value a)) (string_bytes m) (map (meaning s) l)) k
 
-  pub call_of_two : (e : Expr) (a : Box Expr Global) (m : String Global) (es : Vec Expr Global) (x y : Expr) → e ≡ exprs.Call a m es → es.items ≡ x ∷ y ∷ [] → meaning s e ≡ bind (meaning s (box_value a)) (λ v. bind (meaning s x) (λ w. bind (meaning s y) (λ u. call_two v (method_named (string_bytes m)) w u)))
+  pub call_of_two : (e : Expr) (a : Box Expr Global) (m : String Global) (es : Vec Expr Global) (x y : Expr) → e ≡ exprs.Call a m es → es.items ≡ x ∷ y ∷ []
+      → meaning s e ≡ bind (meaning s (box_value a)) (λ v. bind (meaning s x) (λ w. bind (meaning s y) (λ u. call_two v (method_named (string_bytes m)) w u)))
   unfolding calls
   call_of_two e a m es x y h k = ap (meaning s) h ∙ of_call a m es ∙ ap (λ l. calls (meaning s (box_value a)) (string_bytes m) (map (meaning s) l)) k
 
-  pub call_of_other : (e : Expr) (a : Box Expr Global) (m : String Global) (es : Vec Expr Global) → e ≡ exprs.Call a m es → (length es.items ≡ 0) ⊎ (3 ≤ length es.items) → meaning s e ≡ raise kinds.BadType
+  pub call_of_other : (e : Expr) (a : Box Expr Global) (m : String Global) (es : Vec Expr Global) → e ≡ exprs.Call a m es
+      → (length es.items ≡ 0) ⊎ (3 ≤ length es.items) → meaning s e ≡ raise kinds.BadType
   unfolding calls
   call_of_other e a m es h k = ap (meaning s) h ∙ of_call a m es ∙ calls_other (meaning s (box_value a)) (string_bytes m) es.items k
     where
-      calls_other : (o : Eval Value) (m : List ℕ) (items : List Expr) → (length items ≡ 0) ⊎ (3 ≤ length items) → calls o m (map (meaning s) items) ≡ raise kinds.BadType
+      calls_other : (o : Eval Value) (m : List ℕ) (items : List Expr) → (length items ≡ 0) ⊎ (3 ≤ length items)
+          → calls o m (map (meaning s) items) ≡ raise kinds.BadType
       calls_other o m [] k = refl
       calls_other o m (x ∷ []) (inl k) = absurd (omega arith)
       calls_other o m (x ∷ []) (inr k) = absurd (omega arith)

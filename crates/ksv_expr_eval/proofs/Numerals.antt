@@ -1,5 +1,6 @@
 -- Numbers of numerals, where they stop at a bound above every integer.
-use Rattle.std.proofs.Common.{◌≡◌, ℕ, zero, suc, ◌^◌, ◌<◌, ◌≤◌, List, Bool, true, false, nat_lt, if◌then◌else◌, min, ℤ, pos, negsuc, neg_ℤ, Ok, Err, Some, None, refl, ap, sym, ◌∙◌, arith}
+use Rattle.std.proofs.Common.{◌≡◌, ℕ, zero, suc, ◌^◌, ◌<◌, ◌≤◌, List, Bool, true, false, nat_lt, if◌then◌else◌, min, ℤ, pos, negsuc, neg_ℤ, Ok, Err, Some, None}
+use Rattle.std.proofs.Common.{refl, ap, sym, ◌∙◌, arith}
 use Rattle.std.specs.Str.Parse.{digits_value}
 use Rattle.std.proofs.lemmas.Bool.Decides.{nat_tests}
 use Rattle.ksv_expr_meaning.specs.Texts.{numeral, opposite, number_of, exact}
@@ -38,8 +39,12 @@ opposite_limited (suc n) = by_test (nat_lt n (2 ^ 64)) refl
         let out : in_range (negsuc n) ≡ false = grind (arith, nat_tests) in
         ap (λ m. exact (neg_ℤ (pos m))) here ∙ sym (outside (negsuc n) out)
 
-pub seen_number : (radix : ℕ) (ds : List ℕ) (n : ℕ) → is_numeral radix ds ≡ true → n ≡ min (digits_value radix ds) (2 ^ 64) → number_of (Some (pos n)) ≡ number_of (numeral radix ds)
-seen_number radix ds n h e = ap (λ m. exact (pos m)) e ∙ exact_limited (digits_value radix ds) ∙ sym (ap (λ b. number_of (if b then Some (pos (digits_value radix ds)) else None)) h)
+pub seen_number : (radix : ℕ) (ds : List ℕ) (n : ℕ) → is_numeral radix ds ≡ true → n ≡ min (digits_value radix ds) (2 ^ 64)
+    → number_of (Some (pos n)) ≡ number_of (numeral radix ds)
+seen_number radix ds n h e = ap (λ m. exact (pos m)) e ∙ exact_limited (digits_value radix ds)
+    ∙ sym (ap (λ b. number_of (if b then Some (pos (digits_value radix ds)) else None)) h)
 
-pub seen_opposite : (radix : ℕ) (ds : List ℕ) (n : ℕ) → is_numeral radix ds ≡ true → n ≡ min (digits_value radix ds) (2 ^ 64) → number_of (Some (neg_ℤ (pos n))) ≡ number_of (opposite (numeral radix ds))
-seen_opposite radix ds n h e = ap (λ m. exact (neg_ℤ (pos m))) e ∙ opposite_limited (digits_value radix ds) ∙ sym (ap (λ b. number_of (opposite (if b then Some (pos (digits_value radix ds)) else None))) h)
+pub seen_opposite : (radix : ℕ) (ds : List ℕ) (n : ℕ) → is_numeral radix ds ≡ true → n ≡ min (digits_value radix ds) (2 ^ 64)
+    → number_of (Some (neg_ℤ (pos n))) ≡ number_of (opposite (numeral radix ds))
+seen_opposite radix ds n h e = ap (λ m. exact (neg_ℤ (pos m))) e ∙ opposite_limited (digits_value radix ds)
+    ∙ sym (ap (λ b. number_of (opposite (if b then Some (pos (digits_value radix ds)) else None))) h)

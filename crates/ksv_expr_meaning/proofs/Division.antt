@@ -26,11 +26,14 @@ below (negsuc a) n = (suc n - 1 - a % suc n, (refl, omega arith))
 outer : (r : ℤ) (m : ℕ) → r ≡ pos m → m < 2 ^ 64 → seen (pos 0 -ℤ seen r) ≡ neg_ℤ r
 outer r m e h = omega (arith, ints)
 
-pub seen_remainder : (a d r : ℤ) → in_range a ≡ true → in_range d ≡ true → int_lt (seen d) (pos 0) ≡ true → r ≡ int_rem_euclid (seen (pos 0 -ℤ seen a)) (seen (pos 0 -ℤ seen d)) → seen (pos 0 -ℤ seen r) ≡ floored_remainder a d
-seen_remainder a (pos n) r h k neg e = let l = ltb-true n (2 ^ 64) k in let same : seen (pos n) ≡ pos n = omega (arith, ints) in let no : int_lt (pos n) (pos 0) ≡ true = ap (λ z. int_lt z (pos 0)) (sym same) ∙ neg in absurd (omega (arith, ltb-true n 0 no))
+pub seen_remainder : (a d r : ℤ) → in_range a ≡ true → in_range d ≡ true → int_lt (seen d) (pos 0) ≡ true
+    → r ≡ int_rem_euclid (seen (pos 0 -ℤ seen a)) (seen (pos 0 -ℤ seen d)) → seen (pos 0 -ℤ seen r) ≡ floored_remainder a d
+seen_remainder a (pos n) r h k neg e = let l = ltb-true n (2 ^ 64) k in let same : seen (pos n) ≡ pos n =
+    omega (arith, ints) in let no : int_lt (pos n) (pos 0) ≡ true = ap (λ z. int_lt z (pos 0)) (sym same) ∙ neg in absurd (omega (arith, ltb-true n 0 no))
 seen_remainder a (negsuc n) r h k neg e =
     let l = ltb-true n (2 ^ 63) k in
-    let rest : r ≡ remainder_by (neg_ℤ a) (suc n) = e ∙ ap (λ z. int_rem_euclid z (seen (pos 0 -ℤ seen (negsuc n)))) (turned a h) ∙ ap (int_rem_euclid (neg_ℤ a)) (turned (negsuc n) k) ∙ by_sign (neg_ℤ a) n in
+    let rest : r ≡ remainder_by (neg_ℤ a) (suc n) = e ∙ ap (λ z. int_rem_euclid z (seen (pos 0 -ℤ seen (negsuc n)))) (turned a h)
+    ∙ ap (int_rem_euclid (neg_ℤ a)) (turned (negsuc n) k) ∙ by_sign (neg_ℤ a) n in
     let few = below (neg_ℤ a) n in
     outer r few.0 (rest ∙ few.1.0) (omega (arith, few.1.1)) ∙ ap neg_ℤ rest
 
@@ -38,6 +41,9 @@ quotient_by_sign : (a : ℤ) (n : ℕ) → int_div_euclid a (pos (suc n)) ≡ qu
 quotient_by_sign (pos a) n = refl
 quotient_by_sign (negsuc a) n = refl
 
-pub seen_quotient : (a d q : ℤ) → in_range a ≡ true → in_range d ≡ true → int_lt (seen d) (pos 0) ≡ true → q ≡ int_div_euclid (seen (pos 0 -ℤ seen a)) (seen (pos 0 -ℤ seen d)) → q ≡ floored_quotient a d
-seen_quotient a (pos n) q h k neg e = let l = ltb-true n (2 ^ 64) k in let same : seen (pos n) ≡ pos n = omega (arith, ints) in let no : int_lt (pos n) (pos 0) ≡ true = ap (λ z. int_lt z (pos 0)) (sym same) ∙ neg in absurd (omega (arith, ltb-true n 0 no))
-seen_quotient a (negsuc n) q h k neg e = e ∙ ap (λ z. int_div_euclid z (seen (pos 0 -ℤ seen (negsuc n)))) (turned a h) ∙ ap (int_div_euclid (neg_ℤ a)) (turned (negsuc n) k) ∙ quotient_by_sign (neg_ℤ a) n
+pub seen_quotient : (a d q : ℤ) → in_range a ≡ true → in_range d ≡ true → int_lt (seen d) (pos 0) ≡ true
+    → q ≡ int_div_euclid (seen (pos 0 -ℤ seen a)) (seen (pos 0 -ℤ seen d)) → q ≡ floored_quotient a d
+seen_quotient a (pos n) q h k neg e = let l = ltb-true n (2 ^ 64) k in let same : seen (pos n) ≡ pos n =
+    omega (arith, ints) in let no : int_lt (pos n) (pos 0) ≡ true = ap (λ z. int_lt z (pos 0)) (sym same) ∙ neg in absurd (omega (arith, ltb-true n 0 no))
+seen_quotient a (negsuc n) q h k neg e = e ∙ ap (λ z. int_div_euclid z (seen (pos 0 -ℤ seen (negsuc n)))) (turned a h)
+    ∙ ap (int_div_euclid (neg_ℤ a)) (turned (negsuc n) k) ∙ quotient_by_sign (neg_ℤ a) n

@@ -19,7 +19,8 @@ use Rattle.ksv_expr_meaning.specs.Heard.{Heard, heard}
 use Rattle.ksv_expr_value.specs.Setting.{Setting}
 use Rattle.ksv_expr_meaning.specs.Asked.{Eval, State, given}
 use Rattle.ksv_expr_meaning.specs.Replying.{fault_at}
-use Rattle.ksv_expr_meaning.specs.Meaning.{value_of, in_truth_value, truth_value, decides, binary_of, field_of, is_own_stream, special_of, call_one, call_two, item_at, cast_to}
+use Rattle.ksv_expr_meaning.specs.Meaning.{value_of, in_truth_value, truth_value, decides, binary_of, field_of, is_own_stream, special_of, call_one, call_two}
+use Rattle.ksv_expr_meaning.specs.Meaning.{item_at, cast_to}
 use Rattle.ksv_expr_meaning.specs.Evaluation.{answer, Ev, resumed, outcome_of, IsDone, most_wants, TruthIsMet, IsBounded, IsDirect, MeaningIsDirect}
 use Rattle.ksv_expr_meaning.proofs.Wants.{value_asks}
 
@@ -46,7 +47,8 @@ pub is_bounded : IsBounded
 is_bounded s e replies h = done_of (resumed s e replies) (enough fault_at (most_wants e) (value_of s e) s.here replies (value_asks s e) h)
 
 -- so an outcome ends where there are enough replies
-pub bounded_outcome : {X : Type 0} (s : Setting) (e : Tree) (replies : List Got) (r : Result EvalStep X) → IfOk r (λ o. o ≡ outcome_of (resumed s e (map heard replies))) → IfOk r (λ o. most_wants e ≤ length replies → IsDone o)
+pub bounded_outcome : {X : Type 0} (s : Setting) (e : Tree) (replies : List Got) (r : Result EvalStep X)
+    → IfOk r (λ o. o ≡ outcome_of (resumed s e (map heard replies))) → IfOk r (λ o. most_wants e ≤ length replies → IsDone o)
 bounded_outcome s e replies (Ok o) h = λ few. subst IsDone (sym h) (is_bounded s e (map heard replies) (omega (arith, length-map replies heard)))
 bounded_outcome s e replies (Err x) h = tt
 
@@ -60,10 +62,14 @@ module _ (met : Want → Result Heard Fault) (s : Setting) where
   bound : {A B : Type 0} (p : Eval A) (f : A → Eval B) → answer met s (bind p f) ≡ and_then (answer met s p) (λ a. answer met s (f a))
   bound p f = answer_bind fault_at s.here met p f
 
-  bound_twice : {A B C : Type 0} (p : Eval A) (q : A → Eval B) (f : A → B → Eval C) → answer met s (bind p (λ a. bind (q a) (λ b. f a b))) ≡ and_then (answer met s p) (λ a. and_then (answer met s (q a)) (λ b. answer met s (f a b)))
-  bound_twice p q f = bound p (λ a. bind (q a) (λ b. f a b)) ∙ same_then (answer met s p) (λ a. answer met s (bind (q a) (λ b. f a b))) (λ a. and_then (answer met s (q a)) (λ b. answer met s (f a b))) (λ a. bound (q a) (λ b. f a b))
+  bound_twice : {A B C : Type 0} (p : Eval A) (q : A → Eval B) (f : A → B → Eval C)
+      → answer met s (bind p (λ a. bind (q a) (λ b. f a b))) ≡ and_then (answer met s p) (λ a. and_then (answer met s (q a)) (λ b. answer met s (f a b)))
+  bound_twice p q f = bound p (λ a. bind (q a) (λ b. f a b))
+      ∙ same_then (answer met s p) (λ a. answer met s (bind (q a) (λ b. f a b))) (λ a. and_then (answer met s (q a)) (λ b. answer met s (f a b)))
+      (λ a. bound (q a) (λ b. f a b))
 
-  decided : (b : Bool) (v : Value) (r : Tree) → answer met s (if b then Answer v else bind (value_of s r) truth_value) ≡ (if b then Ok v else and_then (Ev met s r) (λ w. answer met s (truth_value w)))
+  decided : (b : Bool) (v : Value) (r : Tree) → answer met s (if b then Answer v else bind (value_of s r) truth_value)
+      ≡ (if b then Ok v else and_then (Ev met s r) (λ w. answer met s (truth_value w)))
   decided true v r = refl
   decided false v r = bound (value_of s r) truth_value
 

@@ -1,8 +1,10 @@
 -- How many wants an expression makes.
-use Rattle.std.proofs.Common.{ℕ, ◌+◌, ◌-◌, List, [], ◌∷◌, Option, Some, None, Bool, true, false, nat_lt, ◌==◌, if◌then◌else◌, ℤ, pos, negsuc, Result, Ok, Err, arith}
+use Rattle.std.proofs.Common.{ℕ, ◌+◌, ◌-◌, List, [], ◌∷◌, Option, Some, None, Bool, true, false, nat_lt, ◌==◌, if◌then◌else◌, ℤ, pos, negsuc, Result, Ok, Err}
+use Rattle.std.proofs.Common.{arith}
 use Rattle.ksv_basics.specs.Plan.{Answer, AsksAtMost}
 use Rattle.ksv_basics.proofs.Bounds.{asks_more, asks_bind, asks_join, asks_if}
-use Rattle.ksv_expr_tree.specs.Tree.{Tree, Word, no_arguments, argument, literal, named, special, member, unary, binary, logical, choice, field, special_field, call, index, cast}
+use Rattle.ksv_expr_tree.specs.Tree.{Tree, Word, no_arguments, argument, literal, named, special, member, unary, binary, logical, choice, field, special_field}
+use Rattle.ksv_expr_tree.specs.Tree.{call, index, cast}
 use Rattle.ksv_expr_tree.specs.declared.tree.BinaryOperator.{BinaryOperator}
 use Rattle.ksv_expr_tree.specs.declared.tree.BinaryOperator.TheVariants as operators
 use Rattle.ksv_expr_tree.specs.declared.tree.SpecialName.{SpecialName}
@@ -28,7 +30,12 @@ use Rattle.ksv_expr_meaning.specs.Heard.{Valued, Opened, Numbered, Decided, Read
 use Rattle.ksv_expr_value.specs.Setting.{Setting, Element, NoElement, ElementAt, Made}
 use Rattle.ksv_expr_value.specs.Places.{byte_of}
 use Rattle.ksv_expr_meaning.specs.Asked.{Eval, raise, given, value_for, opened_for, number_for, truth_for, bytes_for}
-use Rattle.ksv_expr_meaning.specs.Meaning.{in_path, member_path, member_value, element_path, element_value, element_count, holder_of, stream_of, index_value, element_read, special_value, ranged_member, enum_member, in_truth_value, truth_value, decides, same_bytes, bytes_with, integer_and, truth_and, text_and, bytes_and, member_and, binary_of, distance, size_to, stream_size, at_end, stream_method, list_size, last_element, list_method, method_of, method_by, field_of, is_own_stream, object_special, special_of, decoded_text, decoded_by, text_in, bytes_call, call_one, call_two, first_byte, byte_from, byte_at, list_at, bytes_at, item_at, object_of_type, object_as, cast_to, value_of}
+use Rattle.ksv_expr_meaning.specs.Meaning.{in_path, member_path, member_value, element_path, element_value, element_count, holder_of, stream_of, index_value}
+use Rattle.ksv_expr_meaning.specs.Meaning.{element_read, special_value, ranged_member, enum_member, in_truth_value, truth_value, decides, same_bytes}
+use Rattle.ksv_expr_meaning.specs.Meaning.{bytes_with, integer_and, truth_and, text_and, bytes_and, member_and, binary_of, distance, size_to, stream_size}
+use Rattle.ksv_expr_meaning.specs.Meaning.{at_end, stream_method, list_size, last_element, list_method, method_of, method_by, field_of, is_own_stream}
+use Rattle.ksv_expr_meaning.specs.Meaning.{object_special, special_of, decoded_text, decoded_by, text_in, bytes_call, call_one, call_two, first_byte, byte_from}
+use Rattle.ksv_expr_meaning.specs.Meaning.{byte_at, list_at, bytes_at, item_at, object_of_type, object_as, cast_to, value_of}
 use Rattle.ksv_expr_meaning.specs.Evaluation.{most_wants}
 
 -- single questions
@@ -72,7 +79,8 @@ member_asks q x = asks_bind 0 1 (member_path q x) (λ p. value_for (wants.Value 
 
 element_path_asks : (l : Trail) (i : ℤ) → AsksAtMost 0 (element_path l i)
 unfolding element_path
-element_path_asks l (pos i) = asks_if (nat_lt i 1048576) 0 (in_path (child l (steps.Index i))) (raise kinds.BadIndex) (in_path_asks (child l (steps.Index i))) tt
+element_path_asks l (pos i) = asks_if (nat_lt i 1048576) 0 (in_path (child l (steps.Index i))) (raise kinds.BadIndex) (in_path_asks (child l (steps.Index i)))
+    tt
 element_path_asks l (negsuc i) = tt
 
 element_asks : (l : Trail) (i : ℤ) → AsksAtMost 1 (element_value l i)
@@ -81,7 +89,8 @@ element_asks l i = asks_bind 0 1 (element_path l i) (λ p. value_for (wants.Valu
 
 count_asks : (l : Trail) → AsksAtMost 1 (element_count l)
 unfolding element_count
-count_asks l = asks_bind 0 1 (in_path (child l (steps.Index 0))) (λ p. number_for (wants.Rest p)) (in_path_asks (child l (steps.Index 0))) (λ p. number_for_asks (wants.Rest p))
+count_asks l = asks_bind 0 1 (in_path (child l (steps.Index 0))) (λ p. number_for (wants.Rest p)) (in_path_asks (child l (steps.Index 0)))
+    (λ p. number_for_asks (wants.Rest p))
 
 holder_asks : (n : ℕ) (p : Option Trail) → AsksAtMost n (holder_of p)
 holder_asks n None = tt
@@ -128,7 +137,8 @@ truth_value_asks v = asks_bind 0 0 (in_truth_value v) (λ b. Answer (values.Bool
 same_bytes_asks : (f t f' t' : ℕ) → AsksAtMost 2 (same_bytes f t f' t')
 unfolding same_bytes
 same_bytes_asks f t f' t' = asks_if ((t - f) == (t' - f')) 2 _ _
-    (asks_join _ _ 2 1 1 (omega arith) (bytes_for_asks (wants.Bytes f t)) (λ a. asks_join _ _ 1 1 0 (omega arith) (bytes_for_asks (wants.Bytes f' t')) (λ b. tt))) tt
+    (asks_join _ _ 2 1 1 (omega arith) (bytes_for_asks (wants.Bytes f t))
+    (λ a. asks_join _ _ 1 1 0 (omega arith) (bytes_for_asks (wants.Bytes f' t')) (λ b. tt))) tt
 
 bytes_with_asks : (op : BinaryOperator) (f t f' t' : ℕ) → AsksAtMost 2 (bytes_with op f t f' t')
 unfolding bytes_with

@@ -13,7 +13,8 @@ use Rattle.ksv_expr_meaning.specs.Arithmetic.{DivisionIsFloored, bit, BitsAreTol
 -- ---- division
 
 -- by a divisor above 0
-upward : (a : ℤ) (n : ℕ) → (a ≡ quotient_by a (suc n) *ℤ pos (suc n) +ℤ remainder_by a (suc n)) × ((pos 0 ≤ℤ remainder_by a (suc n)) × (remainder_by a (suc n) <ℤ pos (suc n)))
+upward : (a : ℤ) (n : ℕ) → (a ≡ quotient_by a (suc n) *ℤ pos (suc n) +ℤ remainder_by a (suc n))
+    × ((pos 0 ≤ℤ remainder_by a (suc n)) × (remainder_by a (suc n) <ℤ pos (suc n)))
 upward (pos a) n =
     let whole = div-add-mod a (suc n) in
     (omega (arith, ints), (omega (arith, ints), omega (arith, ints)))
@@ -34,7 +35,8 @@ division_is_floored a (pos (suc n)) h = let u = upward a n in record { whole = u
 division_is_floored a (negsuc n) h =
     let u = upward (neg_ℤ a) n in
     record {
-      whole = turned_sum a (quotient_by (neg_ℤ a) (suc n) *ℤ pos (suc n)) (remainder_by (neg_ℤ a) (suc n)) u.0 ∙ ap (λ x. x +ℤ neg_ℤ (remainder_by (neg_ℤ a) (suc n))) (sym (turned_product (quotient_by (neg_ℤ a) (suc n)) n));
+      whole = turned_sum a (quotient_by (neg_ℤ a) (suc n) *ℤ pos (suc n)) (remainder_by (neg_ℤ a) (suc n)) u.0
+          ∙ ap (λ x. x +ℤ neg_ℤ (remainder_by (neg_ℤ a) (suc n))) (sym (turned_product (quotient_by (neg_ℤ a) (suc n)) n));
       within = below (remainder_by (neg_ℤ a) (suc n)) u.1.0 u.1.1;
     }
   where
@@ -72,7 +74,8 @@ less_bit (suc zero) (suc (suc y)) h k = absurd (omega arith)
 less_bit (suc (suc x)) y h k = absurd (omega arith)
 
 bit_less : (a b k : ℕ) → bit_at (a - bit_and a b) k ≡ min (bit_at a k) (1 - bit_at b k)
-bit_less a b k = ap (λ n. bit_at n k) (less_and a b) ∙ bit_at_xor a (bit_and a b) k ∙ ap (λ x. (bit_at a k + x) % 2) (bit_at_and a b k) ∙ less_bit (bit_at a k) (bit_at b k) (bit_small a k) (bit_small b k)
+bit_less a b k = ap (λ n. bit_at n k) (less_and a b) ∙ bit_at_xor a (bit_and a b) k ∙ ap (λ x. (bit_at a k + x) % 2) (bit_at_and a b k)
+    ∙ less_bit (bit_at a k) (bit_at b k) (bit_small a k) (bit_small b k)
 
 both_bits : (a b : ℤ) (k : ℕ) → bit (bits_and a b) k ≡ min (bit a k) (bit b k)
 both_bits (pos a) (pos b) k = bit_at_and a b k
@@ -137,7 +140,8 @@ one_bit (negsuc a) (pos b) k =
     let low = and_le_l a b in
     let high = and_le_r a b in
     let is : bits_xor (negsuc a) (pos b) ≡ negsuc (bit_xor a b) = omega (arith, ints) in
-    ap (λ z. bit z k) is ∙ ap (λ x. 1 - x) (bit_at_xor a b k) ∙ ap (λ n. 1 - n % 2) (swapped (bit_at a k) (bit_at b k)) ∙ turned_sum_bit (bit_at b k) (bit_at a k) (bit_small b k) (bit_small a k) ∙ ap (λ n. n % 2) (swapped (bit_at b k) (1 - bit_at a k))
+    ap (λ z. bit z k) is ∙ ap (λ x. 1 - x) (bit_at_xor a b k) ∙ ap (λ n. 1 - n % 2) (swapped (bit_at a k) (bit_at b k))
+    ∙ turned_sum_bit (bit_at b k) (bit_at a k) (bit_small b k) (bit_small a k) ∙ ap (λ n. n % 2) (swapped (bit_at b k) (1 - bit_at a k))
   where
     swapped : (x y : ℕ) → x + y ≡ y + x
     swapped x y = omega arith

@@ -1,5 +1,6 @@
 -- What is spelled so is read, whatever follows that doesn't go on with it.
-use Rattle.std.proofs.Common.{◌≡◌, ℕ, suc, ◌+◌, ◌<◌, ◌≤◌, true, false, List, [], ◌∷◌, ◌++◌, length, Option, Some, None, refl, sym, ap, subst, ◌∙◌, append_assoc, arith, if◌then◌else◌}
+use Rattle.std.proofs.Common.{◌≡◌, ℕ, suc, ◌+◌, ◌<◌, ◌≤◌, true, false, List, [], ◌∷◌, ◌++◌, length, Option, Some, None, refl, sym, ap, subst, ◌∙◌, append_assoc}
+use Rattle.std.proofs.Common.{arith, if◌then◌else◌}
 use Rattle.ksv_expr_syntax.specs.contracts.token.SymbolPartialEq.TheImpl.{ghosts as symbol_tests}
 use Rattle.ksv_expr_syntax.specs.declared.token.Symbol.{Symbol}
 use Rattle.ksv_expr_syntax.specs.declared.token.Symbol.TheVariants as tok
@@ -11,11 +12,18 @@ use Rattle.ksv_expr_syntax.specs.declared.operator.Precedence.TheVariants as tie
 use Rattle.ksv_expr_syntax.specs.declared.operator.Infix.{Infix}
 use Rattle.ksv_expr_tree.specs.Tree.{Constant, Tree, literal, member, unary, binary, choice, call, index, cast, Arguments, no_arguments, argument}
 use Rattle.ksv_expr_syntax.specs.Lexemes.{Lexeme, constant, word, symbol}
-use Rattle.ksv_expr_syntax.specs.Grammar.{parts, all_parts, Level, Whole, Joined, Negation, Comparison, Prefix, Postfix, Primary, tighter, operator, comparison, prefix, join_tree, name_tree, select_tree, is_left_out, path_tokens, Spells, pick, no_pick, join, no_join, negation, no_negation, compare, no_compare, prefixed, no_prefix, selected, called, converted, indexed, no_postfix, literal_alone, name_alone, enum_member, group, SpellsArguments, empty, listed, SpellsList, last_one, one_more}
-use Rattle.ksv_expr_syntax.specs.Reading.{Next, Found, FoundList, found, found_list, next, ◌>>=◌, choose, spend, after, operator_at, comparison_at, prefix_at, path_at, path_on, path_tree, all_but_last, last_name, read, read_list}
+use Rattle.ksv_expr_syntax.specs.Grammar.{parts, all_parts, Level, Whole, Joined, Negation, Comparison, Prefix, Postfix, Primary, tighter, operator, comparison}
+use Rattle.ksv_expr_syntax.specs.Grammar.{prefix, join_tree, name_tree, select_tree, is_left_out, path_tokens, Spells, pick, no_pick, join, no_join, negation}
+use Rattle.ksv_expr_syntax.specs.Grammar.{no_negation, compare, no_compare, prefixed, no_prefix, selected, called, converted, indexed, no_postfix}
+use Rattle.ksv_expr_syntax.specs.Grammar.{literal_alone, name_alone, enum_member, group, SpellsArguments, empty, listed, SpellsList, last_one, one_more}
+use Rattle.ksv_expr_syntax.specs.Reading.{Next, Found, FoundList, found, found_list, next, ◌>>=◌, choose, spend, after, operator_at, comparison_at, prefix_at}
+use Rattle.ksv_expr_syntax.specs.Reading.{path_at, path_on, path_tree, all_but_last, last_name, read, read_list}
 use Rattle.ksv_expr_syntax.proofs.Steps.{after_some, same_symbol}
 use Rattle.ksv_expr_syntax.proofs.Sound.{parts_join, parts_name, parts_select}
-use Rattle.ksv_expr_syntax.proofs.Flow.{pick_on, join_on, compare_on, prefix_on, suffix_on, more_on, read_whole, pick_on_is, arm_on_is, read_joined, join_on_is, read_negation, negate_on_is, read_comparison, compare_on_is, read_prefix, prefix_on_is, read_postfix, suffix_on_is, place_on_is, select_word, select_symbol, primary_constant, primary_word, primary_symbol, group_on_is, read_list_is, more_on_is}
+use Rattle.ksv_expr_syntax.proofs.Flow.{pick_on, join_on, compare_on, prefix_on, suffix_on, more_on, read_whole, pick_on_is, arm_on_is, read_joined, join_on_is}
+use Rattle.ksv_expr_syntax.proofs.Flow.{read_negation, negate_on_is, read_comparison, compare_on_is, read_prefix, prefix_on_is, read_postfix, suffix_on_is}
+use Rattle.ksv_expr_syntax.proofs.Flow.{place_on_is, select_word, select_symbol, primary_constant, primary_word, primary_symbol, group_on_is, read_list_is}
+use Rattle.ksv_expr_syntax.proofs.Flow.{more_on_is}
 
 -- how tightly a level binds
 abbrev pub rank : Level → ℕ
@@ -150,17 +158,20 @@ prefix_opening v op h = absurd cc
 no_operator : (k : Precedence) (ts : List Lexeme) → Stops (rank (Joined k)) ts → operator_at k ts ≡ None
 no_operator k [] h = refl
 no_operator k (v ∷ ts) h =
-    elim (operator k v) as (λ o. operator k v ≡ o → (o >>= λ op. next op ts) ≡ None) [ None ↦ λ e. refl | Some op ↦ λ e. absurd (omega (arith, h, operator_strength k v op e)) ] refl
+    elim (operator k v) as (λ o. operator k v ≡ o → (o >>= λ op. next op ts) ≡ None)
+    [ None ↦ λ e. refl | Some op ↦ λ e. absurd (omega (arith, h, operator_strength k v op e)) ] refl
 
 no_comparison : (ts : List Lexeme) → Stops 5 ts → comparison_at ts ≡ None
 no_comparison [] h = refl
 no_comparison (v ∷ ts) h =
-    elim (comparison v) as (λ o. comparison v ≡ o → (o >>= λ op. next op ts) ≡ None) [ None ↦ λ e. refl | Some op ↦ λ e. absurd (omega (arith, h, comparison_strength v op e)) ] refl
+    elim (comparison v) as (λ o. comparison v ≡ o → (o >>= λ op. next op ts) ≡ None)
+    [ None ↦ λ e. refl | Some op ↦ λ e. absurd (omega (arith, h, comparison_strength v op e)) ] refl
 
 not_prefixed : (ts us : List Lexeme) → Begins 13 ts → prefix_at (ts ++ us) ≡ None
 not_prefixed [] us h = absurd h
 not_prefixed (v ∷ ts) us h =
-    elim (prefix v) as (λ o. prefix v ≡ o → (o >>= λ op. next op (ts ++ us)) ≡ None) [ None ↦ λ e. refl | Some op ↦ λ e. absurd (omega (arith, h, prefix_opening v op e)) ] refl
+    elim (prefix v) as (λ o. prefix v ≡ o → (o >>= λ op. next op (ts ++ us)) ≡ None)
+    [ None ↦ λ e. refl | Some op ↦ λ e. absurd (omega (arith, h, prefix_opening v op e)) ] refl
 
 -- ---- names with `::` between them
 
@@ -169,7 +180,9 @@ path_alone w [] h = refl
 path_alone w (constant c ∷ ts) h = refl
 path_alone w (word v ∷ ts) h = refl
 path_alone w (symbol s ∷ ts) h =
-    elim (symbol_tests.eq s tok.ColonColon) as (λ b. symbol_tests.eq s tok.ColonColon ≡ b → (if b then (path_at ts >>= λ x. next (w ∷ x.what) x.behind) else next (w ∷ []) (symbol s ∷ ts)) ≡ next (w ∷ []) (symbol s ∷ ts)) [
+    elim (symbol_tests.eq s tok.ColonColon) as
+    (λ b. symbol_tests.eq s tok.ColonColon ≡ b → (if b then (path_at ts >>= λ x. next (w ∷ x.what) x.behind) else next (w ∷ []) (symbol s ∷ ts))
+    ≡ next (w ∷ []) (symbol s ∷ ts)) [
       | true ↦ λ e. absurd (omega (arith, h, ap (λ s. strength (symbol s)) (same_symbol s tok.ColonColon e)))
       | false ↦ λ e. refl
     ] refl
@@ -191,7 +204,8 @@ last_back (w ∷ v ∷ ws) m = last_back (v ∷ ws) m
 pub path_tree_is : (ws : List (List ℕ)) (m : List ℕ) → 0 < length ws → path_tree (ws ++ m ∷ []) ≡ member (record { path = ws; name = m; given = None })
 path_tree_is [] m h = absurd (omega arith)
 path_tree_is (w ∷ []) m h = refl
-path_tree_is (w ∷ v ∷ ws) m h = ap (λ (x : List (List ℕ) × List ℕ). member (record { path = w ∷ x.0; name = x.1; given = None })) (λ i. (names_back (v ∷ ws) m i, last_back (v ∷ ws) m i))
+path_tree_is (w ∷ v ∷ ws) m h = ap (λ (x : List (List ℕ) × List ℕ). member (record { path = w ∷ x.0; name = x.1; given = None }))
+    (λ i. (names_back (v ∷ ws) m i, last_back (v ∷ ws) m i))
 
 -- ---- what a derivation says of reading
 
@@ -221,7 +235,8 @@ pub record GoalMore (d : ℕ) (front : List Lexeme) (es : Arguments) : Type 0 wh
   pub step : (rest : List Lexeme) (p q : ℕ) → q ≡ all_parts es + p → more_on d (front ++ symbol tok.CloseParenthesis ∷ rest) q ≡ found_list es rest p
 
 -- the second half of a step, where the first found a tree
-first : (r : Option Found) (f : Found → Option Found) (e : Tree) (ts : List Lexeme) (p : ℕ) → r ≡ found e ts p → (r >>= f) ≡ f (record { tree = e; rest = ts; left = p })
+first : (r : Option Found) (f : Found → Option Found) (e : Tree) (ts : List Lexeme) (p : ℕ) → r ≡ found e ts p
+    → (r >>= f) ≡ f (record { tree = e; rest = ts; left = p })
 first r f e ts p h = ap (λ (r : Option Found). r >>= f) h
 
 spends : {A : Type 0} (p q : ℕ) (f : ℕ → Option A) → p ≡ suc q → spend p f ≡ f q
@@ -235,7 +250,8 @@ join_stops : (k : Precedence) (e : Tree) (d : ℕ) (ts : List Lexeme) (p : ℕ) 
 join_stops k e d ts p h = join_on_is k e d ts p ∙ one_way (operator_at k ts) _ _ (no_operator k ts h)
 
 suffix_stops : (e : Tree) (d : ℕ) (ts : List Lexeme) (p : ℕ) → Stops 13 ts → suffix_on e d ts p ≡ found e ts p
-suffix_stops e d ts p h = suffix_on_is e d ts p ∙ one_way (after tok.Dot ts) _ _ (no_after tok.Dot 13 ts (omega arith) h) ∙ one_way (after tok.OpenBracket ts) _ _ (no_after tok.OpenBracket 13 ts (omega arith) h)
+suffix_stops e d ts p h = suffix_on_is e d ts p ∙ one_way (after tok.Dot ts) _ _ (no_after tok.Dot 13 ts (omega arith) h)
+    ∙ one_way (after tok.OpenBracket ts) _ _ (no_after tok.OpenBracket 13 ts (omega arith) h)
 
 go_stops : (l : Level) (e : Tree) (d : ℕ) (ts : List Lexeme) (p : ℕ) → Stops (rank l) ts → go l e d ts p ≡ found e ts p
 go_stops Whole e d ts p h = refl
@@ -266,17 +282,20 @@ rank_below Postfix = omega arith
 rank_below Primary = omega arith
 
 -- the reading of a level with its own loop over
-pub whole : {l : Level} {d : ℕ} {front : List Lexeme} {e : Tree} → Goal l d front e → (rest : List Lexeme) (p q : ℕ) → q ≡ parts e + p → Stops (rank l) rest → read l d (front ++ rest) q ≡ found e rest p
+pub whole : {l : Level} {d : ℕ} {front : List Lexeme} {e : Tree} → Goal l d front e → (rest : List Lexeme) (p q : ℕ) → q ≡ parts e + p → Stops (rank l) rest
+    → read l d (front ++ rest) q ≡ found e rest p
 whole {l} {d} {e = e} g rest p q h s = g.step rest p q h (stops_more (rank l) (below l) rest (rank_below l) s) ∙ go_stops l e d rest p s
 
 -- tokens cut in two or three, with more behind them
 cut_two : {ts : List Lexeme} (xs ys rest : List Lexeme) → ts ≡ xs ++ ys → ts ++ rest ≡ xs ++ (ys ++ rest)
 cut_two xs ys rest e = ap (λ (r : List Lexeme). r ++ rest) e ∙ append_assoc xs ys rest
 
-cut_three : {ts : List Lexeme} (xs : List Lexeme) (v : Lexeme) (ys zs rest : List Lexeme) → ts ≡ xs ++ v ∷ (ys ++ zs) → ts ++ rest ≡ xs ++ v ∷ (ys ++ (zs ++ rest))
+cut_three : {ts : List Lexeme} (xs : List Lexeme) (v : Lexeme) (ys zs rest : List Lexeme) → ts ≡ xs ++ v ∷ (ys ++ zs)
+    → ts ++ rest ≡ xs ++ v ∷ (ys ++ (zs ++ rest))
 cut_three xs v ys zs rest e = cut_two xs (v ∷ (ys ++ zs)) rest e ∙ ap (λ (r : List Lexeme). xs ++ v ∷ r) (append_assoc ys zs rest)
 
-goal_pick : {d : ℕ} {ts : List Lexeme} {a b c : Tree} (xs ys zs : List Lexeme) → ts ≡ xs ++ symbol tok.Question ∷ (ys ++ symbol tok.Colon ∷ zs) → Goal (Joined tier.Or) (suc d) xs a → Goal Whole d ys b → Goal Whole d zs c → Goal Whole (suc d) ts (choice a b c)
+goal_pick : {d : ℕ} {ts : List Lexeme} {a b c : Tree} (xs ys zs : List Lexeme) → ts ≡ xs ++ symbol tok.Question ∷ (ys ++ symbol tok.Colon ∷ zs)
+    → Goal (Joined tier.Or) (suc d) xs a → Goal Whole d ys b → Goal Whole d zs c → Goal Whole (suc d) ts (choice a b c)
 goal_pick {d} {ts} {a} {b} {c} xs ys zs e gx gy gz = record {
   begins = begins_cut 1 2 xs _ e (omega arith) gx.begins;
   step = λ rest p q h s.
@@ -284,11 +303,13 @@ goal_pick {d} {ts} {a} {b} {c} xs ys zs e gx gy gz = record {
       let vs : List Lexeme = ys ++ symbol tok.Colon ∷ us in
       ap (λ (ts : List Lexeme). read Whole (suc d) ts q) (cut_three xs (symbol tok.Question) ys (symbol tok.Colon ∷ zs) rest e)
       ∙ read_whole (suc d) (xs ++ symbol tok.Question ∷ vs) q
-      ∙ first _ (λ a. pick_on a.tree (suc d) a.rest a.left) a (symbol tok.Question ∷ vs) (parts b + parts c + 1 + p) (whole gx (symbol tok.Question ∷ vs) (parts b + parts c + 1 + p) q (omega (arith, h)) (omega arith))
+      ∙ first _ (λ a. pick_on a.tree (suc d) a.rest a.left) a (symbol tok.Question ∷ vs) (parts b + parts c + 1 + p)
+      (whole gx (symbol tok.Question ∷ vs) (parts b + parts c + 1 + p) q (omega (arith, h)) (omega arith))
       ∙ pick_on_is a (suc d) (symbol tok.Question ∷ vs) (parts b + parts c + 1 + p)
       ∙ arm_on_is a (suc d) vs (parts b + parts c + 1 + p)
       ∙ spends (parts b + parts c + 1 + p) (parts b + (parts c + p)) _ (omega arith)
-      ∙ first (read Whole d vs (parts b + (parts c + p))) _ b (symbol tok.Colon ∷ us) (parts c + p) (whole gy (symbol tok.Colon ∷ us) (parts c + p) (parts b + (parts c + p)) refl (omega arith))
+      ∙ first (read Whole d vs (parts b + (parts c + p))) _ b (symbol tok.Colon ∷ us) (parts c + p)
+      (whole gy (symbol tok.Colon ∷ us) (parts c + p) (parts b + (parts c + p)) refl (omega arith))
       ∙ first (read Whole d us (parts c + p)) _ c rest p (whole gz rest p (parts c + p) refl s);
 }
 
@@ -301,7 +322,8 @@ goal_no_pick {d} {ts} {e} g = record {
       ∙ pick_on_is e d rest p ∙ one_way (after tok.Question rest) _ _ (no_after tok.Question 1 rest (omega arith) s);
 }
 
-goal_join : {d : ℕ} (k : Precedence) {ts : List Lexeme} (op : Infix) {a b : Tree} (xs : List Lexeme) (v : Lexeme) (ys : List Lexeme) → operator k v ≡ Some op → ts ≡ xs ++ v ∷ ys → Goal (Joined k) d xs a → Goal (tighter k) d ys b → Goal (Joined k) d ts (join_tree op a b)
+goal_join : {d : ℕ} (k : Precedence) {ts : List Lexeme} (op : Infix) {a b : Tree} (xs : List Lexeme) (v : Lexeme) (ys : List Lexeme) → operator k v ≡ Some op
+    → ts ≡ xs ++ v ∷ ys → Goal (Joined k) d xs a → Goal (tighter k) d ys b → Goal (Joined k) d ts (join_tree op a b)
 goal_join {d} k {ts} op {a} {b} xs v ys is e gx gy = record {
   begins = begins_cut (rank (Joined k)) (rank (Joined k)) xs (v ∷ ys) e (omega arith) gx.begins;
   step = λ rest p q h s.
@@ -309,7 +331,8 @@ goal_join {d} k {ts} op {a} {b} xs v ys is e gx gy = record {
       ap (λ (ts : List Lexeme). read (Joined k) d ts q) (cut_two xs (v ∷ ys) rest e)
       ∙ gx.step (v ∷ us) (parts b + 1 + p) q (omega (arith, h, parts_join op a b)) (omega (arith, operator_strength k v op is, rank_tighter k))
       ∙ join_on_is k a d (v ∷ us) (parts b + 1 + p)
-      ∙ ap (λ (o : Option Infix). choose (o >>= λ op. next op us) (found a (v ∷ us) (parts b + 1 + p)) (λ x. spend (parts b + 1 + p) (λ p. read (tighter k) d x.behind p >>= λ b. join_on k (join_tree x.what a b.tree) d b.rest b.left))) is
+      ∙ ap (λ (o : Option Infix). choose (o >>= λ op. next op us) (found a (v ∷ us) (parts b + 1 + p))
+      (λ x. spend (parts b + 1 + p) (λ p. read (tighter k) d x.behind p >>= λ b. join_on k (join_tree x.what a b.tree) d b.rest b.left))) is
       ∙ spends (parts b + 1 + p) (parts b + p) _ (omega arith)
       ∙ first (read (tighter k) d us (parts b + p)) (λ b. join_on k (join_tree op a b.tree) d b.rest b.left) b rest p (whole gy rest p (parts b + p) refl s);
 }
@@ -339,18 +362,22 @@ goal_no_negation {d} {ts} {e} g = record {
       ∙ whole g rest p q h (stops_more 4 5 rest (omega arith) s);
 }
 
-goal_compare : {d : ℕ} {ts : List Lexeme} (op : BinaryOperator) {a b : Tree} (xs : List Lexeme) (v : Lexeme) (ys : List Lexeme) → comparison v ≡ Some op → ts ≡ xs ++ v ∷ ys → Goal (Joined tier.BitOr) d xs a → Goal (Joined tier.BitOr) d ys b → Goal Comparison d ts (binary op a b)
+goal_compare : {d : ℕ} {ts : List Lexeme} (op : BinaryOperator) {a b : Tree} (xs : List Lexeme) (v : Lexeme) (ys : List Lexeme) → comparison v ≡ Some op
+    → ts ≡ xs ++ v ∷ ys → Goal (Joined tier.BitOr) d xs a → Goal (Joined tier.BitOr) d ys b → Goal Comparison d ts (binary op a b)
 goal_compare {d} {ts} op {a} {b} xs v ys is e gx gy = record {
   begins = begins_cut 5 6 xs (v ∷ ys) e (omega arith) gx.begins;
   step = λ rest p q h s.
       let us : List Lexeme = ys ++ rest in
       ap (λ (ts : List Lexeme). read Comparison d ts q) (cut_two xs (v ∷ ys) rest e)
       ∙ read_comparison d (xs ++ v ∷ us) q
-      ∙ first _ (λ a. compare_on a.tree d a.rest a.left) a (v ∷ us) (parts b + 1 + p) (whole gx (v ∷ us) (parts b + 1 + p) q (omega (arith, h)) (omega (arith, comparison_strength v op is)))
+      ∙ first _ (λ a. compare_on a.tree d a.rest a.left) a (v ∷ us) (parts b + 1 + p)
+      (whole gx (v ∷ us) (parts b + 1 + p) q (omega (arith, h)) (omega (arith, comparison_strength v op is)))
       ∙ compare_on_is a d (v ∷ us) (parts b + 1 + p)
-      ∙ ap (λ (o : Option BinaryOperator). choose (o >>= λ op. next op us) (found a (v ∷ us) (parts b + 1 + p)) (λ x. spend (parts b + 1 + p) (λ p. read (Joined tier.BitOr) d x.behind p >>= λ b. found (binary x.what a b.tree) b.rest b.left))) is
+      ∙ ap (λ (o : Option BinaryOperator). choose (o >>= λ op. next op us) (found a (v ∷ us) (parts b + 1 + p))
+      (λ x. spend (parts b + 1 + p) (λ p. read (Joined tier.BitOr) d x.behind p >>= λ b. found (binary x.what a b.tree) b.rest b.left))) is
       ∙ spends (parts b + 1 + p) (parts b + p) _ (omega arith)
-      ∙ first (read (Joined tier.BitOr) d us (parts b + p)) (λ b. found (binary op a b.tree) b.rest b.left) b rest p (whole gy rest p (parts b + p) refl (stops_more 5 6 rest (omega arith) s));
+      ∙ first (read (Joined tier.BitOr) d us (parts b + p)) (λ b. found (binary op a b.tree) b.rest b.left) b rest p
+      (whole gy rest p (parts b + p) refl (stops_more 5 6 rest (omega arith) s));
 }
 
 goal_no_compare : {d : ℕ} {ts : List Lexeme} {e : Tree} → Goal (Joined tier.BitOr) d ts e → Goal Comparison d ts e
@@ -362,7 +389,8 @@ goal_no_compare {d} {ts} {e} g = record {
       ∙ compare_on_is e d rest p ∙ one_way (comparison_at rest) _ _ (no_comparison rest s);
 }
 
-goal_prefixed : {d : ℕ} {ts : List Lexeme} (op : UnaryOperator) {e : Tree} (v : Lexeme) → prefix v ≡ Some op → Goal Prefix d ts e → Goal Prefix (suc d) (v ∷ ts) (unary op e)
+goal_prefixed : {d : ℕ} {ts : List Lexeme} (op : UnaryOperator) {e : Tree} (v : Lexeme) → prefix v ≡ Some op → Goal Prefix d ts e
+    → Goal Prefix (suc d) (v ∷ ts) (unary op e)
 goal_prefixed {d} {ts} op {e} v is g = record {
   begins = omega (arith, prefix_opening v op is);
   step = λ rest p q h s.
@@ -383,7 +411,8 @@ goal_no_prefix {d} {ts} {e} g = record {
       ∙ whole g rest p q h (stops_more 12 13 rest (omega arith) s);
 }
 
-goal_selected : {d : ℕ} {ts : List Lexeme} {e : Tree} (xs : List Lexeme) (w : List ℕ) → ts ≡ xs ++ symbol tok.Dot ∷ word w ∷ [] → Goal Postfix d xs e → Goal Postfix d ts (select_tree e w)
+goal_selected : {d : ℕ} {ts : List Lexeme} {e : Tree} (xs : List Lexeme) (w : List ℕ) → ts ≡ xs ++ symbol tok.Dot ∷ word w ∷ [] → Goal Postfix d xs e
+    → Goal Postfix d ts (select_tree e w)
 goal_selected {d} {ts} {e} xs w is g = record {
   begins = begins_cut 13 13 xs _ is (omega arith) g.begins;
   step = λ rest p q h s.
@@ -391,16 +420,20 @@ goal_selected {d} {ts} {e} xs w is g = record {
       ∙ g.step (symbol tok.Dot ∷ word w ∷ rest) (1 + p) q (omega (arith, h, parts_select e w)) (omega arith)
       ∙ suffix_on_is e d (symbol tok.Dot ∷ word w ∷ rest) (1 + p)
       ∙ first _ (λ a. suffix_on a.tree d a.rest a.left) (select_tree e w) rest p
-      (select_word e d w rest (1 + p) ∙ spends (1 + p) p _ (omega arith) ∙ one_way (after tok.OpenParenthesis rest) _ _ (no_after tok.OpenParenthesis 14 rest (omega arith) s));
+      (select_word e d w rest (1 + p) ∙ spends (1 + p) p _ (omega arith)
+      ∙ one_way (after tok.OpenParenthesis rest) _ _ (no_after tok.OpenParenthesis 14 rest (omega arith) s));
 }
 
-goal_called : {d : ℕ} {ts : List Lexeme} {e : Tree} {es : Arguments} (xs : List Lexeme) (w : List ℕ) (ys : List Lexeme) → ts ≡ xs ++ symbol tok.Dot ∷ word w ∷ symbol tok.OpenParenthesis ∷ (ys ++ symbol tok.CloseParenthesis ∷ []) → Goal Postfix (suc d) xs e → GoalList d ys es → Goal Postfix (suc d) ts (call e w es)
+goal_called : {d : ℕ} {ts : List Lexeme} {e : Tree} {es : Arguments} (xs : List Lexeme) (w : List ℕ) (ys : List Lexeme)
+    → ts ≡ xs ++ symbol tok.Dot ∷ word w ∷ symbol tok.OpenParenthesis ∷ (ys ++ symbol tok.CloseParenthesis ∷ []) → Goal Postfix (suc d) xs e
+    → GoalList d ys es → Goal Postfix (suc d) ts (call e w es)
 goal_called {d} {ts} {e} {es} xs w ys is g gs = record {
   begins = begins_cut 13 13 xs _ is (omega arith) g.begins;
   step = λ rest p q h s.
       let us : List Lexeme = ys ++ symbol tok.CloseParenthesis ∷ rest in
       let vs : List Lexeme = symbol tok.Dot ∷ word w ∷ symbol tok.OpenParenthesis ∷ us in
-      ap (λ (ts : List Lexeme). read Postfix (suc d) ts q) (cut_two xs (symbol tok.Dot ∷ word w ∷ symbol tok.OpenParenthesis ∷ (ys ++ symbol tok.CloseParenthesis ∷ [])) rest is
+      ap (λ (ts : List Lexeme). read Postfix (suc d) ts q)
+      (cut_two xs (symbol tok.Dot ∷ word w ∷ symbol tok.OpenParenthesis ∷ (ys ++ symbol tok.CloseParenthesis ∷ [])) rest is
       ∙ ap (λ (r : List Lexeme). xs ++ symbol tok.Dot ∷ word w ∷ symbol tok.OpenParenthesis ∷ r) (append_assoc ys (symbol tok.CloseParenthesis ∷ []) rest))
       ∙ g.step vs (all_parts es + 1 + p) q (omega (arith, h)) (omega arith)
       ∙ suffix_on_is e (suc d) vs (all_parts es + 1 + p)
@@ -410,24 +443,30 @@ goal_called {d} {ts} {e} {es} xs w ys is g gs = record {
       ∙ ap (λ (o : Option FoundList). o >>= λ a. found (call e w a.arguments) a.rest a.left) (gs.step rest p (all_parts es + p) refl));
 }
 
-goal_converted : {d : ℕ} {ts : List Lexeme} {e : Tree} (xs : List Lexeme) (ws : List (List ℕ)) → 0 < length ws → ts ≡ xs ++ symbol tok.Dot ∷ symbol tok.As ∷ symbol tok.Less ∷ (path_tokens ws ++ symbol tok.Greater ∷ []) → Goal Postfix d xs e → Goal Postfix d ts (cast e (record { path = ws; number = None }))
+goal_converted : {d : ℕ} {ts : List Lexeme} {e : Tree} (xs : List Lexeme) (ws : List (List ℕ)) → 0 < length ws
+    → ts ≡ xs ++ symbol tok.Dot ∷ symbol tok.As ∷ symbol tok.Less ∷ (path_tokens ws ++ symbol tok.Greater ∷ []) → Goal Postfix d xs e
+    → Goal Postfix d ts (cast e (record { path = ws; number = None }))
 goal_converted xs [] l is g = absurd (omega arith)
 goal_converted {d} {ts} {e} xs (w ∷ ws) l is g = record {
   begins = begins_cut 13 13 xs _ is (omega arith) g.begins;
   step = λ rest p q h s.
       let us : List Lexeme = path_tokens (w ∷ ws) ++ symbol tok.Greater ∷ rest in
       let vs : List Lexeme = symbol tok.Dot ∷ symbol tok.As ∷ symbol tok.Less ∷ us in
-      ap (λ (ts : List Lexeme). read Postfix d ts q) (cut_two xs (symbol tok.Dot ∷ symbol tok.As ∷ symbol tok.Less ∷ (path_tokens (w ∷ ws) ++ symbol tok.Greater ∷ [])) rest is
-      ∙ ap (λ (r : List Lexeme). xs ++ symbol tok.Dot ∷ symbol tok.As ∷ symbol tok.Less ∷ r) (append_assoc (path_tokens (w ∷ ws)) (symbol tok.Greater ∷ []) rest))
+      ap (λ (ts : List Lexeme). read Postfix d ts q)
+      (cut_two xs (symbol tok.Dot ∷ symbol tok.As ∷ symbol tok.Less ∷ (path_tokens (w ∷ ws) ++ symbol tok.Greater ∷ [])) rest is
+      ∙ ap (λ (r : List Lexeme). xs ++ symbol tok.Dot ∷ symbol tok.As ∷ symbol tok.Less ∷ r)
+      (append_assoc (path_tokens (w ∷ ws)) (symbol tok.Greater ∷ []) rest))
       ∙ g.step vs (1 + p) q (omega (arith, h)) (omega arith)
       ∙ suffix_on_is e d vs (1 + p)
       ∙ first _ (λ a. suffix_on a.tree d a.rest a.left) (cast e (record { path = w ∷ ws; number = None })) rest p
       (select_symbol e d tok.As (symbol tok.Less ∷ us) (1 + p)
       ∙ spends (1 + p) p _ (omega arith)
-      ∙ ap (λ (o : Option (Next (List (List ℕ)))). o >>= λ x. after tok.Greater x.behind >>= λ ws. found (cast e (record { path = x.what; number = None })) ws p) (path_read w ws (symbol tok.Greater ∷ rest) (omega arith)));
+      ∙ ap (λ (o : Option (Next (List (List ℕ)))). o >>= λ x. after tok.Greater x.behind >>= λ ws. found (cast e (record { path = x.what; number = None })) ws
+      p) (path_read w ws (symbol tok.Greater ∷ rest) (omega arith)));
 }
 
-goal_indexed : {d : ℕ} {ts : List Lexeme} {e i : Tree} (xs ys : List Lexeme) → ts ≡ xs ++ symbol tok.OpenBracket ∷ (ys ++ symbol tok.CloseBracket ∷ []) → Goal Postfix (suc d) xs e → Goal Whole d ys i → Goal Postfix (suc d) ts (index e i)
+goal_indexed : {d : ℕ} {ts : List Lexeme} {e i : Tree} (xs ys : List Lexeme) → ts ≡ xs ++ symbol tok.OpenBracket ∷ (ys ++ symbol tok.CloseBracket ∷ [])
+    → Goal Postfix (suc d) xs e → Goal Whole d ys i → Goal Postfix (suc d) ts (index e i)
 goal_indexed {d} {ts} {e} {i} xs ys is gx gy = record {
   begins = begins_cut 13 13 xs _ is (omega arith) gx.begins;
   step = λ rest p q h s.
@@ -438,7 +477,8 @@ goal_indexed {d} {ts} {e} {i} xs ys is gx gy = record {
       ∙ first _ (λ a. suffix_on a.tree (suc d) a.rest a.left) (index e i) rest p
       (place_on_is e (suc d) us (parts i + 1 + p)
       ∙ spends (parts i + 1 + p) (parts i + p) _ (omega arith)
-      ∙ first (read Whole d us (parts i + p)) _ i (symbol tok.CloseBracket ∷ rest) p (whole gy (symbol tok.CloseBracket ∷ rest) p (parts i + p) refl (omega arith)));
+      ∙ first (read Whole d us (parts i + p)) _ i (symbol tok.CloseBracket ∷ rest) p
+      (whole gy (symbol tok.CloseBracket ∷ rest) p (parts i + p) refl (omega arith)));
 }
 
 goal_no_postfix : {d : ℕ} {ts : List Lexeme} {e : Tree} → Goal Primary d ts e → Goal Postfix d ts e
@@ -460,7 +500,8 @@ goal_name {d} w o = record {
       ∙ spends q p _ (omega (arith, h, parts_name w));
 }
 
-goal_member : {d : ℕ} {ts : List Lexeme} (w : List ℕ) (ws : List (List ℕ)) (m : List ℕ) → is_left_out w ≡ false → ts ≡ path_tokens (w ∷ (ws ++ m ∷ [])) → Goal Primary d ts (member (record { path = w ∷ ws; name = m; given = None }))
+goal_member : {d : ℕ} {ts : List Lexeme} (w : List ℕ) (ws : List (List ℕ)) (m : List ℕ) → is_left_out w ≡ false → ts ≡ path_tokens (w ∷ (ws ++ m ∷ []))
+    → Goal Primary d ts (member (record { path = w ∷ ws; name = m; given = None }))
 goal_member {d} {ts} w ws m o is = record {
   begins = subst (λ ts. Begins 14 ts) (sym is) (member_begins w ws m);
   step = λ rest p q h s.
@@ -471,7 +512,8 @@ goal_member {d} {ts} w ws m o is = record {
   member_begins w [] m = omega arith
   member_begins w (v ∷ ws) m = omega arith
 
-  member_read : (w : List ℕ) (ws : List (List ℕ)) (m : List ℕ) → is_left_out w ≡ false → (rest : List Lexeme) (p q d : ℕ) → q ≡ 1 + p → Stops 14 rest → read Primary d (path_tokens (w ∷ (ws ++ m ∷ [])) ++ rest) q ≡ found (member (record { path = w ∷ ws; name = m; given = None })) rest p
+  member_read : (w : List ℕ) (ws : List (List ℕ)) (m : List ℕ) → is_left_out w ≡ false → (rest : List Lexeme) (p q d : ℕ) → q ≡ 1 + p → Stops 14 rest
+      → read Primary d (path_tokens (w ∷ (ws ++ m ∷ [])) ++ rest) q ≡ found (member (record { path = w ∷ ws; name = m; given = None })) rest p
   member_read w [] m o rest p q d h s =
       primary_word d w (symbol tok.ColonColon ∷ word m ∷ rest) q
       ∙ ap (λ b. if b then None else (path_on w (symbol tok.ColonColon ∷ word m ∷ rest) >>= λ x. spend q (λ p. found (path_tree x.what) x.behind p))) o
@@ -483,9 +525,11 @@ goal_member {d} {ts} w ws m o is = record {
       ∙ ap (λ b. if b then None else (path_on w (symbol tok.ColonColon ∷ us) >>= λ x. spend q (λ p. found (path_tree x.what) x.behind p))) o
       ∙ ap (λ (x : Option (Next (List (List ℕ)))). x >>= λ x. spend q (λ p. found (path_tree x.what) x.behind p)) (path_read w (v ∷ (ws ++ m ∷ [])) rest s)
       ∙ spends q p _ (omega (arith, h))
-      ∙ ap (λ (x : List (List ℕ) × List ℕ). found (member (record { path = w ∷ x.0; name = x.1; given = None })) rest p) (λ i. (names_back (v ∷ ws) m i, last_back (v ∷ ws) m i))
+      ∙ ap (λ (x : List (List ℕ) × List ℕ). found (member (record { path = w ∷ x.0; name = x.1; given = None })) rest p)
+      (λ i. (names_back (v ∷ ws) m i, last_back (v ∷ ws) m i))
 
-goal_group : {d : ℕ} {ts : List Lexeme} {e : Tree} (xs : List Lexeme) → ts ≡ symbol tok.OpenParenthesis ∷ (xs ++ symbol tok.CloseParenthesis ∷ []) → Goal Whole d xs e → Goal Primary (suc d) ts e
+goal_group : {d : ℕ} {ts : List Lexeme} {e : Tree} (xs : List Lexeme) → ts ≡ symbol tok.OpenParenthesis ∷ (xs ++ symbol tok.CloseParenthesis ∷ [])
+    → Goal Whole d xs e → Goal Primary (suc d) ts e
 goal_group {d} {ts} {e} xs is g = record {
   begins = subst (λ ts. Begins 14 ts) (sym is) (omega arith);
   step = λ rest p q h s.
@@ -497,13 +541,17 @@ goal_group {d} {ts} {e} xs is g = record {
 }
 
 goal_empty : {d : ℕ} → GoalList d [] no_arguments
-goal_empty {d} = record { step = λ rest p q h. read_list_is d (symbol tok.CloseParenthesis ∷ rest) q ∙ ap (λ p. found_list no_arguments rest p) (let e : q ≡ p = omega (arith, h) in e) }
+goal_empty {d} = record {
+  step = λ rest p q h. read_list_is d (symbol tok.CloseParenthesis ∷ rest) q
+      ∙ ap (λ p. found_list no_arguments rest p) (let e : q ≡ p = omega (arith, h) in e);
+}
 
 goal_listed : {d : ℕ} {ts : List Lexeme} {es : Arguments} → GoalMore d ts es → GoalList d ts es
 goal_listed {d} {ts} {es} g = record {
   step = λ rest p q h.
       read_list_is d (ts ++ symbol tok.CloseParenthesis ∷ rest) q
-      ∙ one_way (after tok.CloseParenthesis (ts ++ symbol tok.CloseParenthesis ∷ rest)) _ _ (not_begun tok.CloseParenthesis 1 ts (symbol tok.CloseParenthesis ∷ rest) (omega arith) g.begins)
+      ∙ one_way (after tok.CloseParenthesis (ts ++ symbol tok.CloseParenthesis ∷ rest)) _ _
+      (not_begun tok.CloseParenthesis 1 ts (symbol tok.CloseParenthesis ∷ rest) (omega arith) g.begins)
       ∙ g.step rest p q h;
 }
 
@@ -512,18 +560,23 @@ goal_last_one {d} {ts} {e} g = record {
   begins = g.begins;
   step = λ rest p q h.
       more_on_is d (ts ++ symbol tok.CloseParenthesis ∷ rest) q
-      ∙ ap (λ (r : Option Found). r >>= λ a. choose (after tok.Comma a.rest) (after tok.CloseParenthesis a.rest >>= λ us. found_list (argument a.tree no_arguments) us a.left) (λ us. more_on d us a.left >>= λ b. found_list (argument a.tree b.arguments) b.rest b.left))
+      ∙ ap (λ (r : Option Found). r >>= λ a. choose (after tok.Comma a.rest)
+      (after tok.CloseParenthesis a.rest >>= λ us. found_list (argument a.tree no_arguments) us a.left)
+      (λ us. more_on d us a.left >>= λ b. found_list (argument a.tree b.arguments) b.rest b.left))
       (whole g (symbol tok.CloseParenthesis ∷ rest) p q (omega (arith, h)) (omega arith));
 }
 
-goal_one_more : {d : ℕ} {ts : List Lexeme} {e : Tree} {es : Arguments} (xs ys : List Lexeme) → ts ≡ xs ++ symbol tok.Comma ∷ ys → Goal Whole d xs e → GoalMore d ys es → GoalMore d ts (argument e es)
+goal_one_more : {d : ℕ} {ts : List Lexeme} {e : Tree} {es : Arguments} (xs ys : List Lexeme) → ts ≡ xs ++ symbol tok.Comma ∷ ys → Goal Whole d xs e
+    → GoalMore d ys es → GoalMore d ts (argument e es)
 goal_one_more {d} {ts} {e} {es} xs ys is g gs = record {
   begins = begins_cut 1 1 xs (symbol tok.Comma ∷ ys) is (omega arith) g.begins;
   step = λ rest p q h.
       let us : List Lexeme = ys ++ symbol tok.CloseParenthesis ∷ rest in
       ap (λ (ts : List Lexeme). more_on d ts q) (cut_two xs (symbol tok.Comma ∷ ys) (symbol tok.CloseParenthesis ∷ rest) is)
       ∙ more_on_is d (xs ++ symbol tok.Comma ∷ us) q
-      ∙ ap (λ (r : Option Found). r >>= λ a. choose (after tok.Comma a.rest) (after tok.CloseParenthesis a.rest >>= λ us. found_list (argument a.tree no_arguments) us a.left) (λ us. more_on d us a.left >>= λ b. found_list (argument a.tree b.arguments) b.rest b.left))
+      ∙ ap (λ (r : Option Found). r >>= λ a. choose (after tok.Comma a.rest)
+      (after tok.CloseParenthesis a.rest >>= λ us. found_list (argument a.tree no_arguments) us a.left)
+      (λ us. more_on d us a.left >>= λ b. found_list (argument a.tree b.arguments) b.rest b.left))
       (whole g (symbol tok.Comma ∷ us) (all_parts es + p) q (omega (arith, h)) (omega arith))
       ∙ ap (λ (r : Option FoundList). r >>= λ b. found_list (argument e b.arguments) b.rest b.left) (gs.step rest p (all_parts es + p) refl);
 }

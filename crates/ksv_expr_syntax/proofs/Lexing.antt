@@ -1,5 +1,6 @@
 -- Facts about cutting a text.
-use Rattle.std.proofs.Common.{◌≡◌, ◌≢◌, ℕ, zero, suc, ◌+◌, ◌*◌, ◌^◌, ◌<◌, ◌≤◌, Bool, true, false, ◌&&◌, List, [], ◌∷◌, ◌++◌, length, take, drop, Option, Some, None, refl, sym, ap, subst, ◌∙◌, append_assoc, arith, if◌then◌else◌}
+use Rattle.std.proofs.Common.{◌≡◌, ◌≢◌, ℕ, zero, suc, ◌+◌, ◌*◌, ◌^◌, ◌<◌, ◌≤◌, Bool, true, false, ◌&&◌, List, [], ◌∷◌, ◌++◌, length, take, drop, Option, Some}
+use Rattle.std.proofs.Common.{None, refl, sym, ap, subst, ◌∙◌, append_assoc, arith, if◌then◌else◌}
 use Rattle.std.specs.Prelude.{◌==◌, take_while, slice_index, IsUtf8, encode_utf8, All}
 use Rattle.std.specs.Str.{is_utf8}
 use Rattle.std.proofs.lemmas.Str.{IsUtf8-from_is_utf8, is_utf8-from_IsUtf8, IsUtf8-from_ascii}
@@ -68,7 +69,8 @@ put_none bs = refl
 
 put_put : (xs bs cs : List ℕ) (o : Option Quoted) → cs ≡ xs ++ bs → put xs (put bs o) ≡ put cs o
 put_put xs bs cs None h = refl
-put_put xs bs cs (Some q) h = ap (λ ds. Some (record { bytes = ds; rest = q.rest })) (sym (append_assoc xs bs q.bytes) ∙ ap (λ (ds : List ℕ). ds ++ q.bytes) (sym h))
+put_put xs bs cs (Some q) h = ap (λ ds. Some (record { bytes = ds; rest = q.rest }))
+    (sym (append_assoc xs bs q.bytes) ∙ ap (λ (ds : List ℕ). ds ++ q.bytes) (sym h))
 
 pub quoted_start : (bs : List ℕ) → quoted bs ≡ put [] (quoted bs)
 quoted_start bs = elim (quoted bs) as (λ o. o ≡ put [] o) [ None ↦ refl | Some q ↦ refl ]
@@ -76,28 +78,35 @@ quoted_start bs = elim (quoted bs) as (λ o. o ≡ put [] o) [ None ↦ refl | S
 pub quoted_end : (o : Option Quoted) (done us : List ℕ) → o ≡ put done (quoted us) → us ≡ [] → o ≡ None
 quoted_end o done us h z = h ∙ ap (λ us. put done (quoted us)) z
 
-pub quoted_close : (o : Option Quoted) (done us : List ℕ) (c : ℕ) (vs : List ℕ) → o ≡ put done (quoted us) → us ≡ c ∷ vs → c ≡ 34 → o ≡ Some (record { bytes = done; rest = vs })
-quoted_close o done us c vs h z e = h ∙ ap (λ us. put done (quoted us)) z ∙ ap (λ c. put done (if c == 34 then Some (record { bytes = []; rest = vs }) else if c == 92 then escaped vs else put (c ∷ []) (quoted vs))) e ∙ ap (λ bs. Some (record { bytes = bs; rest = vs })) (append-nil done)
+pub quoted_close : (o : Option Quoted) (done us : List ℕ) (c : ℕ) (vs : List ℕ) → o ≡ put done (quoted us) → us ≡ c ∷ vs → c ≡ 34
+    → o ≡ Some (record { bytes = done; rest = vs })
+quoted_close o done us c vs h z e = h ∙ ap (λ us. put done (quoted us)) z
+    ∙ ap (λ c. put done (if c == 34 then Some (record { bytes = []; rest = vs }) else if c == 92 then escaped vs else put (c ∷ []) (quoted vs))) e
+    ∙ ap (λ bs. Some (record { bytes = bs; rest = vs })) (append-nil done)
 
 not_equal : (a b : ℕ) → a ≢ b → (a == b) ≡ false
 not_equal a b h = ne_eqb a b h
 
-pub quoted_byte : (o : Option Quoted) (done us : List ℕ) (c : ℕ) (vs all : List ℕ) → o ≡ put done (quoted us) → us ≡ c ∷ vs → c ≢ 34 → c ≢ 92 → all ≡ done ++ c ∷ [] → o ≡ put all (quoted vs)
+pub quoted_byte : (o : Option Quoted) (done us : List ℕ) (c : ℕ) (vs all : List ℕ) → o ≡ put done (quoted us) → us ≡ c ∷ vs → c ≢ 34 → c ≢ 92
+    → all ≡ done ++ c ∷ [] → o ≡ put all (quoted vs)
 quoted_byte o done us c vs all h z a b e = h ∙ ap (λ us. put done (quoted us)) z
     ∙ ap (λ t. put done (if t then Some (record { bytes = []; rest = vs }) else if c == 92 then escaped vs else put (c ∷ []) (quoted vs))) (not_equal c 34 a)
     ∙ ap (λ t. put done (if t then escaped vs else put (c ∷ []) (quoted vs))) (not_equal c 92 b)
     ∙ put_put done (c ∷ []) all (quoted vs) e
 
 quoted_backslash : (o : Option Quoted) (done us : List ℕ) (c : ℕ) (vs : List ℕ) → o ≡ put done (quoted us) → us ≡ c ∷ vs → c ≡ 92 → o ≡ put done (escaped vs)
-quoted_backslash o done us c vs h z e = h ∙ ap (λ us. put done (quoted us)) z ∙ ap (λ c. put done (if c == 34 then Some (record { bytes = []; rest = vs }) else if c == 92 then escaped vs else put (c ∷ []) (quoted vs))) e
+quoted_backslash o done us c vs h z e = h ∙ ap (λ us. put done (quoted us)) z
+    ∙ ap (λ c. put done (if c == 34 then Some (record { bytes = []; rest = vs }) else if c == 92 then escaped vs else put (c ∷ []) (quoted vs))) e
 
-pub quoted_escape : (o : Option Quoted) (done us : List ℕ) (c : ℕ) (vs bs ws all : List ℕ) → o ≡ put done (quoted us) → us ≡ c ∷ vs → c ≡ 92 → escaped vs ≡ put bs (quoted ws) → all ≡ done ++ bs → o ≡ put all (quoted ws)
+pub quoted_escape : (o : Option Quoted) (done us : List ℕ) (c : ℕ) (vs bs ws all : List ℕ) → o ≡ put done (quoted us) → us ≡ c ∷ vs → c ≡ 92
+    → escaped vs ≡ put bs (quoted ws) → all ≡ done ++ bs → o ≡ put all (quoted ws)
 quoted_escape o done us c vs bs ws all h z e k a = quoted_backslash o done us c vs h z e ∙ ap (put done) k ∙ put_put done bs all (quoted ws) a
 
 pub quoted_bad : (o : Option Quoted) (done us : List ℕ) (c : ℕ) (vs : List ℕ) → o ≡ put done (quoted us) → us ≡ c ∷ vs → c ≡ 92 → escaped vs ≡ None → o ≡ None
 quoted_bad o done us c vs h z e k = quoted_backslash o done us c vs h z e ∙ ap (put done) k
 
-pub unicode_is : (bs : List ℕ) → 4 ≤ length bs → unicode bs ≡ (unicode_of (slice_index bs 0) (slice_index bs 1) (slice_index bs 2) (slice_index bs 3) >>= λ u. put (encode_utf8 u) (quoted (drop 4 bs)))
+pub unicode_is : (bs : List ℕ) → 4 ≤ length bs → unicode bs
+    ≡ (unicode_of (slice_index bs 0) (slice_index bs 1) (slice_index bs 2) (slice_index bs 3) >>= λ u. put (encode_utf8 u) (quoted (drop 4 bs)))
 unicode_is [] h = absurd (omega arith)
 unicode_is (a ∷ []) h = absurd (omega arith)
 unicode_is (a ∷ b ∷ []) h = absurd (omega arith)
@@ -128,25 +137,33 @@ natural_least r n (c ∷ cs) =
 
 pub number_over : (r : Radix) (all n c : ℕ) (us cs : List ℕ) → all ≡ natural r n us → us ≡ c ∷ cs → c ≢ 95 → 2 ^ 64 ≤ n * base r + digit_value c → 2 ^ 64 ≤ all
 number_over r all n c us cs h z k l =
-    let e : all ≡ natural r (n * base r + digit_value c) cs = h ∙ ap (natural r n) z ∙ ap (λ b. if b then natural r n cs else natural r (n * base r + digit_value c) cs) (not_equal c 95 k) in
+    let e : all ≡ natural r (n * base r + digit_value c) cs =
+    h ∙ ap (natural r n) z ∙ ap (λ b. if b then natural r n cs else natural r (n * base r + digit_value c) cs) (not_equal c 95 k) in
     omega (arith, e, natural_least r (n * base r + digit_value c) cs, l)
 
 -- ---- characters by their numbers
 
-pub character_made : (n : ℕ) (o : Option ℕ) → is_surrogate n ≡ false → n < 0x110000 → MatchOption o (OutOfScalarRange n) (λ _. InScalarRange n) → SomeIff o (IsScalar n) n → o ≡ Some n
+pub character_made : (n : ℕ) (o : Option ℕ) → is_surrogate n ≡ false → n < 0x110000 → MatchOption o (OutOfScalarRange n) (λ _. InScalarRange n)
+    → SomeIff o (IsScalar n) n → o ≡ Some n
 character_made n None f l (inl r) s = absurd (grind (arith, nat_tests, r, f))
 character_made n None f l (inr k) s = absurd (omega arith)
 character_made n (Some x) f l m s = ap Some s.1
 
-pub unicode_final : (a b c d n : ℕ) (h s : Bool) (o : Option ℕ) → h ≡ (is_ascii_hexdigit a && is_ascii_hexdigit b && is_ascii_hexdigit c && is_ascii_hexdigit d) → h ≡ true → n ≡ four_digits a b c d → s ≡ is_surrogate n → s ≡ false → n < 0x110000 → MatchOption o (OutOfScalarRange n) (λ _. InScalarRange n) → SomeIff o (IsScalar n) n → o ≡ unicode_of a b c d
+pub unicode_final : (a b c d n : ℕ) (h s : Bool) (o : Option ℕ) → h ≡ (is_ascii_hexdigit a && is_ascii_hexdigit b && is_ascii_hexdigit c && is_ascii_hexdigit d)
+    → h ≡ true → n ≡ four_digits a b c d → s ≡ is_surrogate n → s ≡ false → n < 0x110000 → MatchOption o (OutOfScalarRange n) (λ _. InScalarRange n)
+    → SomeIff o (IsScalar n) n → o ≡ unicode_of a b c d
 unicode_final a b c d n h s o e f z g k l m i =
     character_made n o (sym g ∙ k) l m i
     ∙ ap Some z
     ∙ sym (ap (λ h. if h then (if is_surrogate (four_digits a b c d) then None else Some (four_digits a b c d)) else None) (sym e ∙ f)
     ∙ ap (λ t. if t then None else Some (four_digits a b c d)) (ap is_surrogate (sym z) ∙ sym g ∙ k))
 
-pub unicode_read : (bs : List ℕ) (a b c d u : ℕ) (rest : List ℕ) → 4 ≤ length bs → a ≡ slice_index bs 0 → b ≡ slice_index bs 1 → c ≡ slice_index bs 2 → d ≡ slice_index bs 3 → Some u ≡ unicode_of a b c d → rest ≡ drop 4 bs → unicode bs ≡ put (encode_utf8 u) (quoted rest)
+pub unicode_read : (bs : List ℕ) (a b c d u : ℕ) (rest : List ℕ) → 4 ≤ length bs → a ≡ slice_index bs 0 → b ≡ slice_index bs 1 → c ≡ slice_index bs 2
+    → d ≡ slice_index bs 3 → Some u ≡ unicode_of a b c d → rest ≡ drop 4 bs → unicode bs ≡ put (encode_utf8 u) (quoted rest)
 unicode_read bs a b c d u rest l ea eb ec ed e z =
     unicode_is bs l
-    ∙ ap (λ o. o >>= λ u. put (encode_utf8 u) (quoted (drop 4 bs))) (sym (e ∙ ap (λ a. unicode_of a b c d) ea ∙ ap (λ b. unicode_of (slice_index bs 0) b c d) eb ∙ ap (λ c. unicode_of (slice_index bs 0) (slice_index bs 1) c d) ec ∙ ap (λ d. unicode_of (slice_index bs 0) (slice_index bs 1) (slice_index bs 2) d) ed))
+    ∙ ap (λ o. o >>= λ u. put (encode_utf8 u) (quoted (drop 4 bs)))
+    (sym (e ∙ ap (λ a. unicode_of a b c d) ea ∙ ap (λ b. unicode_of (slice_index bs 0) b c d) eb
+    ∙ ap (λ c. unicode_of (slice_index bs 0) (slice_index bs 1) c d) ec
+    ∙ ap (λ d. unicode_of (slice_index bs 0) (slice_index bs 1) (slice_index bs 2) d) ed))
     ∙ ap (λ r. put (encode_utf8 u) (quoted r)) (sym z)

@@ -1,5 +1,7 @@
 -- What is cut at a place is the longest token there.
-use Rattle.std.proofs.Common.{◌≡◌, ◌≢◌, ℕ, suc, ◌+◌, ◌-◌, ◌^◌, ◌<◌, ◌≤◌, Bool, true, false, ◌||◌, ◌&&◌, List, [], ◌∷◌, ◌++◌, length, take, drop, get_or, Option, Some, None, refl, sym, ap, subst, ◌∙◌, append_assoc, arith, if◌then◌else◌, cond, inl, inr, ◌⊎◌, ltb-true, lt-ltb, length-append, length-drop}
+use Rattle.std.proofs.Common.{◌≡◌, ◌≢◌, ℕ, suc, ◌+◌, ◌-◌, ◌^◌, ◌<◌, ◌≤◌, Bool, true, false, ◌||◌, ◌&&◌, List, [], ◌∷◌, ◌++◌, length, take, drop, get_or, Option}
+use Rattle.std.proofs.Common.{Some, None, refl, sym, ap, subst, ◌∙◌, append_assoc, arith, if◌then◌else◌, cond, inl, inr, ◌⊎◌, ltb-true, lt-ltb, length-append}
+use Rattle.std.proofs.Common.{length-drop}
 use Rattle.std.specs.Prelude.{◌==◌, take_while, slice_index, codes, bytes_eq, IsUtf8, nat_lt, encode_utf8, All, position, IsTrue, ◌↔◌}
 use Rattle.std.specs.Char.{is_ascii_lowercase, is_ascii_digit}
 use Rattle.std.specs.Str.{is_utf8}
@@ -20,8 +22,13 @@ use Rattle.ksv_expr_syntax.specs.declared.lexer.Radix.TheVariants as radices
 use Rattle.ksv_expr_tree.specs.Tree.{integer, string}
 use Rattle.ksv_expr_syntax.specs.Lexemes.{Lexeme, constant, symbol}
 use Rattle.ksv_expr_syntax.specs.Reading.{◌>>=◌}
-use Rattle.ksv_expr_syntax.specs.Tokens.{Cut, is_name_start, is_name_byte, word_lexeme, is_digit, natural, escape_of, unicode_of, IsName, begun, IsDigits, last_digit, one_digit, digit_and_line, number_prefix, is_padded, BeginsFloat, fraction, exponent, signed_exponent, IsQuoted, nothing, plain_byte, letter_escape, digits_escape, spelling, is_word, HasShape, like_name, like_number, like_single, like_double, like_symbol, like_float, like_format, IsToken, name, number, single, double, sign, IsLongest, skip, less_follows}
-use Rattle.ksv_expr_syntax.specs.Cutting.{cut_at, cut_name, radix_of, prefix_size, run, run_behind, goes_on_as_float, is_left_out_number, number_of, cut_number, text_of, cut_single, Quoted, put, quoted, escaped, unicode, cut_double, two_bytes, one_byte, cut_symbol, cut}
+use Rattle.ksv_expr_syntax.specs.Tokens.{Cut, is_name_start, is_name_byte, word_lexeme, is_digit, natural, escape_of, unicode_of, IsName, begun, IsDigits}
+use Rattle.ksv_expr_syntax.specs.Tokens.{last_digit, one_digit, digit_and_line, number_prefix, is_padded, BeginsFloat, fraction, exponent, signed_exponent}
+use Rattle.ksv_expr_syntax.specs.Tokens.{IsQuoted, nothing, plain_byte, letter_escape, digits_escape, spelling, is_word, HasShape, like_name, like_number}
+use Rattle.ksv_expr_syntax.specs.Tokens.{like_single, like_double, like_symbol, like_float, like_format, IsToken, name, number, single, double, sign, IsLongest}
+use Rattle.ksv_expr_syntax.specs.Tokens.{skip, less_follows}
+use Rattle.ksv_expr_syntax.specs.Cutting.{cut_at, cut_name, radix_of, prefix_size, run, run_behind, goes_on_as_float, is_left_out_number, number_of, cut_number}
+use Rattle.ksv_expr_syntax.specs.Cutting.{text_of, cut_single, Quoted, put, quoted, escaped, unicode, cut_double, two_bytes, one_byte, cut_symbol, cut}
 use Rattle.ksv_expr_syntax.proofs.Steps.{bind_some}
 use Rattle.ksv_expr_syntax.proofs.Lexing.{take_run, all_cons, all_of_run}
 
@@ -59,11 +66,13 @@ digit_no_name : (c : ℕ) → is_ascii_digit c ≡ true → is_name_start c ≡ 
 digit_no_name c h = is_false (is_name_start c) (λ e. absurd (grind (arith, nat_tests, h, e)))
 
 at_name : (c : ℕ) (cs : List ℕ) → is_name_start c ≡ true → cut (c ∷ cs) ≡ cut_name (c ∷ cs)
-at_name c cs h = ap (λ b. if b then cut_name (c ∷ cs) else if is_ascii_digit c then cut_number (c ∷ cs) else if c == 39 then cut_single cs else if c == 34 then cut_double cs else cut_symbol (c ∷ cs)) h
+at_name c cs h = ap (λ b. if b then cut_name (c ∷ cs) else if is_ascii_digit c then cut_number (c ∷ cs) else if c == 39 then cut_single cs else if c == 34
+    then cut_double cs else cut_symbol (c ∷ cs)) h
 
 at_digit : (c : ℕ) (cs : List ℕ) → is_ascii_digit c ≡ true → cut (c ∷ cs) ≡ cut_number (c ∷ cs)
 at_digit c cs h =
-    ap (λ b. if b then cut_name (c ∷ cs) else if is_ascii_digit c then cut_number (c ∷ cs) else if c == 39 then cut_single cs else if c == 34 then cut_double cs else cut_symbol (c ∷ cs)) (digit_no_name c h)
+    ap (λ b. if b then cut_name (c ∷ cs) else if is_ascii_digit c then cut_number (c ∷ cs) else if c == 39 then cut_single cs else if c == 34 then cut_double cs
+    else cut_symbol (c ∷ cs)) (digit_no_name c h)
     ∙ ap (λ b. if b then cut_number (c ∷ cs) else if c == 39 then cut_single cs else if c == 34 then cut_double cs else cut_symbol (c ∷ cs)) h
 
 -- ---- names
@@ -85,7 +94,8 @@ name_run (c ∷ cs) r h =
     ∙ ap (λ b. cond b (c ∷ take_while is_name_byte (cs ++ r)) []) (head_of (λ b. is_name_byte b ≡ true) c cs h)
     ∙ ap (λ ws. c ∷ ws) (name_run cs r (tail_of (λ b. is_name_byte b ≡ true) c cs h))
 
-name_cut : (bs : List ℕ) (x : Cut) → cut_name bs ≡ Some x → record { lexeme = word_lexeme (take_while is_name_byte bs); rest = drop (length (take_while is_name_byte bs)) bs } ≡ x
+name_cut : (bs : List ℕ) (x : Cut) → cut_name bs ≡ Some x
+    → record { lexeme = word_lexeme (take_while is_name_byte bs); rest = drop (length (take_while is_name_byte bs)) bs } ≡ x
 name_cut bs x h =
     let w = take_while is_name_byte bs in
     (none_or (bytes_eq w (codes "f") && slice_index (drop (length w) bs) 0 == 34) (record { lexeme = word_lexeme w; rest = drop (length w) bs }) x h).1
@@ -96,7 +106,15 @@ name_longer w r x (begun {c} {cs} h k) e =
     let all = name_bytes w (begun h k) in
     let i = name_cut (w ++ r) x (sym (at_name c (cs ++ r) h) ∙ e) in
     let j : length (drop (length (take_while is_name_byte (w ++ r))) (w ++ r)) ≡ length x.rest = ap (λ (x : Cut). length x.rest) i in
-    omega (arith, j, length-drop (length (take_while is_name_byte (w ++ r))) (w ++ r), ap length (name_run w r all), length-append w (take_while is_name_byte r), length-append w r)
+    omega (
+      arith,
+      j,
+      length-drop (length (take_while is_name_byte (w ++ r))) (w ++ r),
+      ap length (name_run w r all),
+      length-append w
+          (take_while is_name_byte r),
+      length-append w r,
+    )
 
 -- ---- numbers
 
@@ -122,7 +140,8 @@ first_digit r ds (digit_and_line {c = c} {cs} h k) = (c, 95 ∷ cs, refl, h)
 behind_run : (r : Radix) (ds rest : List ℕ) → IsDigits r ds → run_behind r (ds ++ rest) ≡ suc (run r (ds ++ rest))
 behind_run r ds rest k =
     let f = first_digit r ds k in
-    subst (λ ds. run_behind r (ds ++ rest) ≡ suc (run r (ds ++ rest))) (sym f.2) (behind_digit r f.0 (f.1 ++ rest) f.3 ∙ ap suc (sym (run_digit r f.0 (f.1 ++ rest) f.3)))
+    subst (λ ds. run_behind r (ds ++ rest) ≡ suc (run r (ds ++ rest))) (sym f.2)
+    (behind_digit r f.0 (f.1 ++ rest) f.3 ∙ ap suc (sym (run_digit r f.0 (f.1 ++ rest) f.3)))
 
 digits_run : (r : Radix) (ds rest : List ℕ) → IsDigits r ds → run r (ds ++ rest) ≡ length ds + run r rest
 digits_run r ds rest (last_digit {c = c} h) = run_digit r c rest h ∙ omega arith
@@ -152,7 +171,10 @@ record NumberCut (r : Radix) (ds rest : List ℕ) (x : Cut) : Type 0 where
 
 number_cut : (r : Radix) (ds rest : List ℕ) (x : Cut) → number_of r ds rest ≡ Some x → NumberCut r ds rest x
 number_cut r ds rest x h =
-    elim (is_left_out_number r ds rest) as (λ b. is_left_out_number r ds rest ≡ b → (if b then None else if nat_lt (natural r 0 ds) (2 ^ 64) then cut_at (constant (integer (natural r 0 ds))) rest else None) ≡ Some x → NumberCut r ds rest x) [
+    elim (is_left_out_number r ds rest) as
+    (λ b. is_left_out_number r ds rest ≡ b
+    → (if b then None else if nat_lt (natural r 0 ds) (2 ^ 64) then cut_at (constant (integer (natural r 0 ds))) rest else None) ≡ Some x
+    → NumberCut r ds rest x) [
       | true ↦ λ e h. absurd cc
       | false ↦ λ e h.
           let s = some_or (nat_lt (natural r 0 ds) (2 ^ 64)) (record { lexeme = constant (integer (natural r 0 ds)); rest = rest }) x h in
@@ -173,20 +195,27 @@ binary_radix c us h = ap (λ b. if b then radices.Binary else radices.Decimal) h
 
 plain_radix : (c d : ℕ) (us : List ℕ) → (d == 120) ≡ false → (d == 98) ≡ false → radix_of (c ∷ d ∷ us) ≡ radices.Decimal
 plain_radix c d us h k =
-    ap (λ b. if c == 48 && b && is_digit radices.Hexadecimal (slice_index (c ∷ d ∷ us) 2) then radices.Hexadecimal else if c == 48 && d == 98 && is_digit radices.Binary (slice_index (c ∷ d ∷ us) 2) then radices.Binary else radices.Decimal) h
-    ∙ ap (λ b. if c == 48 && false && is_digit radices.Hexadecimal (slice_index (c ∷ d ∷ us) 2) then radices.Hexadecimal else if c == 48 && b && is_digit radices.Binary (slice_index (c ∷ d ∷ us) 2) then radices.Binary else radices.Decimal) k
-    ∙ elim (c == 48) as (λ b. (if b && false && is_digit radices.Hexadecimal (slice_index (c ∷ d ∷ us) 2) then radices.Hexadecimal else if b && false && is_digit radices.Binary (slice_index (c ∷ d ∷ us) 2) then radices.Binary else radices.Decimal) ≡ radices.Decimal) [ true ↦ refl | false ↦ refl ]
+    ap (λ b. if c == 48 && b && is_digit radices.Hexadecimal (slice_index (c ∷ d ∷ us) 2) then radices.Hexadecimal else if c == 48 && d == 98
+    && is_digit radices.Binary (slice_index (c ∷ d ∷ us) 2) then radices.Binary else radices.Decimal) h
+    ∙ ap (λ b. if c == 48 && false && is_digit radices.Hexadecimal (slice_index (c ∷ d ∷ us) 2) then radices.Hexadecimal else if c == 48 && b
+    && is_digit radices.Binary (slice_index (c ∷ d ∷ us) 2) then radices.Binary else radices.Decimal) k
+    ∙ elim (c == 48) as (λ b.
+    (if b && false && is_digit radices.Hexadecimal (slice_index (c ∷ d ∷ us) 2) then radices.Hexadecimal else if b && false
+    && is_digit radices.Binary (slice_index (c ∷ d ∷ us) 2) then radices.Binary else radices.Decimal) ≡ radices.Decimal)
+    [ true ↦ refl | false ↦ refl ]
 
 cut_hex : (ds rest : List ℕ) → IsDigits radices.Hexadecimal ds → cut (48 ∷ 120 ∷ (ds ++ rest)) ≡ number_at radices.Hexadecimal (ds ++ rest)
 cut_hex ds rest k =
     let f = first_digit radices.Hexadecimal ds k in
-    let e : radix_of (48 ∷ 120 ∷ (ds ++ rest)) ≡ radices.Hexadecimal = subst (λ ds. radix_of (48 ∷ 120 ∷ (ds ++ rest)) ≡ radices.Hexadecimal) (sym f.2) (hex_radix f.0 (f.1 ++ rest) f.3) in
+    let e : radix_of (48 ∷ 120 ∷ (ds ++ rest)) ≡ radices.Hexadecimal =
+    subst (λ ds. radix_of (48 ∷ 120 ∷ (ds ++ rest)) ≡ radices.Hexadecimal) (sym f.2) (hex_radix f.0 (f.1 ++ rest) f.3) in
     as_radix radices.Hexadecimal (48 ∷ 120 ∷ (ds ++ rest)) e
 
 cut_binary : (ds rest : List ℕ) → IsDigits radices.Binary ds → cut (48 ∷ 98 ∷ (ds ++ rest)) ≡ number_at radices.Binary (ds ++ rest)
 cut_binary ds rest k =
     let f = first_digit radices.Binary ds k in
-    let e : radix_of (48 ∷ 98 ∷ (ds ++ rest)) ≡ radices.Binary = subst (λ ds. radix_of (48 ∷ 98 ∷ (ds ++ rest)) ≡ radices.Binary) (sym f.2) (binary_radix f.0 (f.1 ++ rest) f.3) in
+    let e : radix_of (48 ∷ 98 ∷ (ds ++ rest)) ≡ radices.Binary =
+    subst (λ ds. radix_of (48 ∷ 98 ∷ (ds ++ rest)) ≡ radices.Binary) (sym f.2) (binary_radix f.0 (f.1 ++ rest) f.3) in
     as_radix radices.Binary (48 ∷ 98 ∷ (ds ++ rest)) e
 
 digit_no_x : (d : ℕ) → is_ascii_digit d ≡ true → (d == 120) ≡ false
@@ -203,12 +232,14 @@ decimal_radix ds rest (one_digit {c = c} {cs} h k) l =
     subst (λ cs. radix_of (c ∷ (cs ++ rest)) ≡ radices.Decimal) (sym f.2) (plain_radix c f.0 (f.1 ++ rest) (digit_no_x f.0 f.3) (digit_no_b f.0 f.3))
 decimal_radix ds rest (digit_and_line {c = c} {cs} h k) l = plain_radix c 95 (cs ++ rest) refl refl
 
-cut_decimal : (ds rest : List ℕ) → IsDigits radices.Decimal ds → radix_of (ds ++ rest) ≡ radices.Decimal → cut (ds ++ rest) ≡ number_at radices.Decimal (ds ++ rest)
+cut_decimal : (ds rest : List ℕ) → IsDigits radices.Decimal ds → radix_of (ds ++ rest) ≡ radices.Decimal
+    → cut (ds ++ rest) ≡ number_at radices.Decimal (ds ++ rest)
 cut_decimal ds rest k e =
     let f = first_digit radices.Decimal ds k in
     subst (λ ds. cut (ds ++ rest) ≡ cut_number (ds ++ rest)) (sym f.2) (at_digit f.0 (f.1 ++ rest) f.3) ∙ as_radix radices.Decimal (ds ++ rest) e
 
-other_rest : (r : Radix) (c : ℕ) (rest : List ℕ) (x : Cut) → prefix_size r ≡ 2 → cut_number (c ∷ rest) ≡ Some x → radix_of (c ∷ rest) ≡ r → length x.rest ≤ length rest
+other_rest : (r : Radix) (c : ℕ) (rest : List ℕ) (x : Cut) → prefix_size r ≡ 2 → cut_number (c ∷ rest) ≡ Some x → radix_of (c ∷ rest) ≡ r
+    → length x.rest ≤ length rest
 other_rest r c rest x p h e =
     let i = number_rest r (drop (prefix_size r) (c ∷ rest)) x (sym (as_radix r (c ∷ rest) e) ∙ h) in
     omega (arith, i, p, length-drop (prefix_size r) (c ∷ rest))
@@ -224,10 +255,12 @@ decimal_longer ds rest x (last_digit {c = c} h) e =
 decimal_longer ds rest x (one_digit {c = c} {cs} h k) e =
     let f = first_digit radices.Decimal cs k in
     let l : 1 < length (c ∷ cs) = omega (arith, ap length f.2) in
-    digits_rest radices.Decimal (c ∷ cs) rest x (one_digit h k) (sym (cut_decimal (c ∷ cs) rest (one_digit h k) (decimal_radix (c ∷ cs) rest (one_digit h k) l)) ∙ e)
+    digits_rest radices.Decimal (c ∷ cs) rest x (one_digit h k)
+    (sym (cut_decimal (c ∷ cs) rest (one_digit h k) (decimal_radix (c ∷ cs) rest (one_digit h k) l)) ∙ e)
 decimal_longer ds rest x (digit_and_line {c = c} {cs} h k) e =
     let l : 1 < length (c ∷ 95 ∷ cs) = omega arith in
-    digits_rest radices.Decimal (c ∷ 95 ∷ cs) rest x (digit_and_line h k) (sym (cut_decimal (c ∷ 95 ∷ cs) rest (digit_and_line h k) (decimal_radix (c ∷ 95 ∷ cs) rest (digit_and_line h k) l)) ∙ e)
+    digits_rest radices.Decimal (c ∷ 95 ∷ cs) rest x (digit_and_line h k)
+    (sym (cut_decimal (c ∷ 95 ∷ cs) rest (digit_and_line h k) (decimal_radix (c ∷ 95 ∷ cs) rest (digit_and_line h k) l)) ∙ e)
 
 number_longer : (r : Radix) (ds rest : List ℕ) (x : Cut) → IsDigits r ds → cut (number_prefix r ++ (ds ++ rest)) ≡ Some x → length x.rest ≤ length rest
 number_longer radices.Binary ds rest x k e = digits_rest radices.Binary ds rest x k (sym (cut_binary ds rest k) ∙ e)
@@ -290,7 +323,8 @@ float_radix ds fs rest (digit_and_line {c = c} {cs} h k) b = decimal_radix (c �
 float_longer : (ds fs rest : List ℕ) (x : Cut) → IsDigits radices.Decimal ds → BeginsFloat fs → cut (ds ++ (fs ++ rest)) ≡ Some x → ⊥
 float_longer ds fs rest x k b e =
     let n = sym (number_whole radices.Decimal ds (fs ++ rest) k (float_run fs rest b)) ∙ sym (cut_decimal ds (fs ++ rest) k (float_radix ds fs rest k b)) ∙ e in
-    let t : is_left_out_number radices.Decimal ds (fs ++ rest) ≡ true = ap (λ b. b || (slice_index ds 0 == 48 && nat_lt 1 (length ds))) (float_goes fs rest b) in
+    let t : is_left_out_number radices.Decimal ds (fs ++ rest) ≡ true =
+    ap (λ b. b || (slice_index ds 0 == 48 && nat_lt 1 (length ds))) (float_goes fs rest b) in
     absurd (let z : true ≡ false = sym t ∙ (number_cut radices.Decimal ds (fs ++ rest) x n).kept in cc)
 
 -- ---- texts
@@ -298,7 +332,8 @@ float_longer ds fs rest x k b e =
 no_quote_place : (bs r : List ℕ) → All (λ b. b ≢ 39) bs → position_or_len (λ c. c == 39) (bs ++ 39 ∷ r) ≡ length bs
 no_quote_place [] r h = refl
 no_quote_place (c ∷ cs) r h =
-    let e : position_or_len (λ c. c == 39) (c ∷ (cs ++ 39 ∷ r)) ≡ 1 + position_or_len (λ c. c == 39) (cs ++ 39 ∷ r) = ap (λ b. cond (not b) (1 + position_or_len (λ c. c == 39) (cs ++ 39 ∷ r)) 0) (ne_eqb c 39 (head_of (λ b. b ≢ 39) c cs h)) in
+    let e : position_or_len (λ c. c == 39) (c ∷ (cs ++ 39 ∷ r)) ≡ 1 + position_or_len (λ c. c == 39) (cs ++ 39 ∷ r) =
+    ap (λ b. cond (not b) (1 + position_or_len (λ c. c == 39) (cs ++ 39 ∷ r)) 0) (ne_eqb c 39 (head_of (λ b. b ≢ 39) c cs h)) in
     omega (arith, e, no_quote_place cs r (tail_of (λ b. b ≢ 39) c cs h))
 
 quote_place : (bs r : List ℕ) → All (λ b. b ≢ 39) bs → position (λ c. c == 39) (bs ++ 39 ∷ r) ≡ Some (length bs)
@@ -318,7 +353,8 @@ escape_no_u c u h = is_false (c == 117) (λ e. let k : escape_of 117 ≡ Some u 
 quoted_is : (bs cs r : List ℕ) → IsQuoted bs cs → quoted (bs ++ 34 ∷ r) ≡ Some (record { bytes = cs; rest = r })
 quoted_is bs cs r nothing = refl
 quoted_is bs cs r (plain_byte {c = c} {cs = xs} {ds = ys} h k q) =
-    ap (λ b. if b then Some (record { bytes = []; rest = xs ++ 34 ∷ r }) else if c == 92 then escaped (xs ++ 34 ∷ r) else put (c ∷ []) (quoted (xs ++ 34 ∷ r))) (ne_eqb c 34 h)
+    ap (λ b. if b then Some (record { bytes = []; rest = xs ++ 34 ∷ r }) else if c == 92 then escaped (xs ++ 34 ∷ r) else put (c ∷ []) (quoted (xs ++ 34 ∷ r)))
+    (ne_eqb c 34 h)
     ∙ ap (λ b. if b then escaped (xs ++ 34 ∷ r) else put (c ∷ []) (quoted (xs ++ 34 ∷ r))) (ne_eqb c 92 k)
     ∙ ap (put (c ∷ [])) (quoted_is xs ys r q)
 quoted_is bs cs r (letter_escape {c = c} {u = u} {cs = xs} {ds = ys} h q) =
@@ -342,8 +378,11 @@ text_longer bs r x h = omega (arith, ap (λ (x : Cut). length x.rest) (text_cut 
 
 symbol_rest : (c : ℕ) (r : List ℕ) (x : Cut) → cut_symbol (c ∷ r) ≡ Some x → length x.rest ≤ length r
 symbol_rest c r x h =
-    elim (two_bytes c (slice_index (c ∷ r) 1)) as (λ o. (elim o [ Some s ↦ cut_at (symbol s) (drop 2 (c ∷ r)) | None ↦ one_byte c >>= λ s. cut_at (symbol s) (drop 1 (c ∷ r)) ]) ≡ Some x → length x.rest ≤ length r) [
-      | Some s ↦ λ h. let e : record { lexeme = symbol s; rest = drop 2 (c ∷ r) } ≡ x = cc in omega (arith, ap (λ (x : Cut). length x.rest) e, length-drop 2 (c ∷ r))
+    elim (two_bytes c (slice_index (c ∷ r) 1)) as
+    (λ o. (elim o [ Some s ↦ cut_at (symbol s) (drop 2 (c ∷ r)) | None ↦ one_byte c >>= λ s. cut_at (symbol s) (drop 1 (c ∷ r)) ]) ≡ Some x
+    → length x.rest ≤ length r) [
+      | Some s ↦ λ h. let e : record { lexeme = symbol s; rest = drop 2 (c ∷ r) } ≡ x =
+          cc in omega (arith, ap (λ (x : Cut). length x.rest) e, length-drop 2 (c ∷ r))
       | None ↦ λ h. let b = bind_some (one_byte c) (λ s. cut_at (symbol s) (drop 1 (c ∷ r))) x h in
           let e : record { lexeme = symbol b.0; rest = drop 1 (c ∷ r) } ≡ x = (let k = b.2 in cc) in
           omega (arith, ap (λ (x : Cut). length x.rest) e, length-drop 1 (c ∷ r))
@@ -388,8 +427,10 @@ symbol_longer tok.As r x w h = absurd (let k = w in cc)
 no_longer : (ts r : List ℕ) (x : Cut) → HasShape ts → cut (ts ++ r) ≡ Some x → length x.rest ≤ length r
 no_longer ts r x (like_name k) h = name_longer ts r x k h
 no_longer ts r x (like_number q ds k e) h = number_longer q ds r x k (ap cut (sym (ap (λ ts. ts ++ r) e ∙ append_assoc (number_prefix q) ds r)) ∙ h)
-no_longer ts r x (like_single bs k e) h = text_longer bs r x (sym (single_is bs r k) ∙ ap cut (sym (ap (λ ts. ts ++ r) e ∙ append_assoc (39 ∷ bs) (39 ∷ []) r)) ∙ h)
-no_longer ts r x (like_double bs cs k e) h = text_longer cs r x (sym (double_is bs cs r k) ∙ ap cut (sym (ap (λ ts. ts ++ r) e ∙ append_assoc (34 ∷ bs) (34 ∷ []) r)) ∙ h)
+no_longer ts r x (like_single bs k e) h = text_longer bs r x
+    (sym (single_is bs r k) ∙ ap cut (sym (ap (λ ts. ts ++ r) e ∙ append_assoc (39 ∷ bs) (39 ∷ []) r)) ∙ h)
+no_longer ts r x (like_double bs cs k e) h = text_longer cs r x
+    (sym (double_is bs cs r k) ∙ ap cut (sym (ap (λ ts. ts ++ r) e ∙ append_assoc (34 ∷ bs) (34 ∷ []) r)) ∙ h)
 no_longer ts r x (like_symbol s w) h = symbol_longer s r x w h
 no_longer ts r x (like_float ds fs k b e) h = absurd (float_longer ds fs r x k b (ap cut (sym (ap (λ ts. ts ++ r) e ∙ append_assoc ds fs r)) ∙ h))
 no_longer ts r x like_format h = absurd (let k : None ≡ Some x = h in cc)
@@ -407,7 +448,8 @@ token_at text piece rest t x e s k = let P : Cut → Type 0 = λ x. TokenAt text
 name_at : (c : ℕ) (cs : List ℕ) (x : Cut) → is_name_start c ≡ true → cut_name (c ∷ cs) ≡ Some x → TokenAt (c ∷ cs) x
 name_at c cs x h e =
     let w = take_while is_name_byte (c ∷ cs) in
-    let i : w ≡ c ∷ take_while is_name_byte cs = take_while-cons is_name_byte c cs ∙ ap (λ b. cond b (c ∷ take_while is_name_byte cs) []) (name_start_byte c h) in
+    let i : w ≡ c ∷ take_while is_name_byte cs = take_while-cons is_name_byte c cs
+    ∙ ap (λ b. cond b (c ∷ take_while is_name_byte cs) []) (name_start_byte c h) in
     let k : IsName (c ∷ take_while is_name_byte cs) = begun h (all_of_run (λ b. is_name_byte b ≡ true) is_name_byte (λ c h. h) cs) in
     let P : List ℕ → Type 0 = λ w. IsToken w (word_lexeme w) in
     token_at (c ∷ cs) w (drop (length w) (c ∷ cs)) (word_lexeme w) x (name_cut (c ∷ cs) x e)
@@ -423,7 +465,8 @@ no_digits r c us h k = ap (λ b. if b then suc (run r us) else if c == 95 then r
 just_one : (r : Radix) (c : ℕ) (us : List ℕ) → is_digit r c ≡ true → run r us ≡ 0 → IsDigits r (take (run r (c ∷ us)) (c ∷ us))
 just_one r c us h z = subst (λ ds. IsDigits r ds) (sym (take_digit r c us h ∙ ap (λ n. c ∷ take n us) z)) (last_digit h)
 
-one_more_digit : (r : Radix) (c d : ℕ) (us : List ℕ) → is_digit r c ≡ true → IsDigits r (take (run r (d ∷ us)) (d ∷ us)) → IsDigits r (take (run r (c ∷ d ∷ us)) (c ∷ d ∷ us))
+one_more_digit : (r : Radix) (c d : ℕ) (us : List ℕ) → is_digit r c ≡ true → IsDigits r (take (run r (d ∷ us)) (d ∷ us))
+    → IsDigits r (take (run r (c ∷ d ∷ us)) (c ∷ d ∷ us))
 one_more_digit r c d us h k = subst (λ ds. IsDigits r ds) (sym (take_digit r c (d ∷ us) h)) (one_digit h k)
 
 line_run : (r : Radix) (d e : ℕ) (us : List ℕ) → (d == 95) ≡ true → is_digit r d ≡ false → is_digit r e ≡ true → run r (d ∷ e ∷ us) ≡ suc (suc (run r us))
@@ -438,7 +481,8 @@ line_stop r d us h n z =
     ∙ ap (λ b. if b then run_behind r us else 0) h
     ∙ z
 
-line_and_digit : (r : Radix) (c d e : ℕ) (us : List ℕ) → is_digit r c ≡ true → (d == 95) ≡ true → is_digit r d ≡ false → is_digit r e ≡ true → IsDigits r (take (run r (e ∷ us)) (e ∷ us)) → IsDigits r (take (run r (c ∷ d ∷ e ∷ us)) (c ∷ d ∷ e ∷ us))
+line_and_digit : (r : Radix) (c d e : ℕ) (us : List ℕ) → is_digit r c ≡ true → (d == 95) ≡ true → is_digit r d ≡ false → is_digit r e ≡ true
+    → IsDigits r (take (run r (e ∷ us)) (e ∷ us)) → IsDigits r (take (run r (c ∷ d ∷ e ∷ us)) (c ∷ d ∷ e ∷ us))
 line_and_digit r c d e us h l n k t =
     let i : take (run r (c ∷ d ∷ e ∷ us)) (c ∷ d ∷ e ∷ us) ≡ c ∷ 95 ∷ take (run r (e ∷ us)) (e ∷ us) =
     take_digit r c (d ∷ e ∷ us) h
@@ -480,9 +524,11 @@ not_padded radices.Decimal [] rest h = refl
 not_padded radices.Decimal (c ∷ []) rest h = refl
 not_padded radices.Decimal (c ∷ d ∷ ds) rest h =
     let o = or_false (goes_on_as_float rest) (c == 48 && nat_lt 1 (length (c ∷ d ∷ ds))) h in
-    is_false (c == 48) (λ e. let z : true ≡ false = sym (ap (λ b. b && nat_lt 1 (length (c ∷ d ∷ ds))) e ∙ lt-ltb 1 (length (c ∷ d ∷ ds)) (omega arith)) ∙ o.1 in cc)
+    is_false (c == 48) (λ e. let z : true ≡ false = sym (ap (λ b. b && nat_lt 1 (length (c ∷ d ∷ ds))) e ∙ lt-ltb 1 (length (c ∷ d ∷ ds)) (omega arith))
+    ∙ o.1 in cc)
 
-number_token : (r : Radix) (text us : List ℕ) (c : ℕ) (cs : List ℕ) (x : Cut) → text ≡ number_prefix r ++ us → us ≡ c ∷ cs → is_digit r c ≡ true → number_at r us ≡ Some x → TokenAt text x
+number_token : (r : Radix) (text us : List ℕ) (c : ℕ) (cs : List ℕ) (x : Cut) → text ≡ number_prefix r ++ us → us ≡ c ∷ cs → is_digit r c ≡ true
+    → number_at r us ≡ Some x → TokenAt text x
 number_token r text us c cs x s z h e =
     let n = run r us in
     let k = number_cut r (take n us) (drop n us) x e in
@@ -498,29 +544,38 @@ record Prefixed (p : ℕ) (r : Radix) (bs : List ℕ) : Type 0 where
   is : bs ≡ 48 ∷ p ∷ digit ∷ others
   tested : is_digit r digit ≡ true
 
-prefixed : (p : ℕ) (r : Radix) (bs : List ℕ) → 0 < p → is_digit r 0 ≡ false → (slice_index bs 0 == 48) ≡ true → (slice_index bs 1 == p) ≡ true → is_digit r (slice_index bs 2) ≡ true → Prefixed p r bs
+prefixed : (p : ℕ) (r : Radix) (bs : List ℕ) → 0 < p → is_digit r 0 ≡ false → (slice_index bs 0 == 48) ≡ true → (slice_index bs 1 == p) ≡ true
+    → is_digit r (slice_index bs 2) ≡ true → Prefixed p r bs
 prefixed p r [] l z h j k = absurd (let e : 0 ≡ 48 = eqb-true 0 48 h in omega (arith, e))
 prefixed p r (a ∷ []) l z h j k = absurd (let e : 0 ≡ p = eqb-true 0 p j in omega (arith, e))
 prefixed p r (a ∷ b ∷ []) l z h j k = absurd (let e : false ≡ true = sym z ∙ k in cc)
-prefixed p r (a ∷ b ∷ d ∷ us) l z h j k = record { digit = d; others = us; is = ap (λ a. a ∷ b ∷ d ∷ us) (eqb-true a 48 h) ∙ ap (λ b. 48 ∷ b ∷ d ∷ us) (eqb-true b p j); tested = k }
+prefixed p r (a ∷ b ∷ d ∷ us) l z h j k =
+    record { digit = d; others = us; is = ap (λ a. a ∷ b ∷ d ∷ us) (eqb-true a 48 h) ∙ ap (λ b. 48 ∷ b ∷ d ∷ us) (eqb-true b p j); tested = k }
 
-prefix_tested : (p : ℕ) (r : Radix) (bs : List ℕ) → 0 < p → is_digit r 0 ≡ false → (slice_index bs 0 == 48 && slice_index bs 1 == p && is_digit r (slice_index bs 2)) ≡ true → Prefixed p r bs
+prefix_tested : (p : ℕ) (r : Radix) (bs : List ℕ) → 0 < p → is_digit r 0 ≡ false
+    → (slice_index bs 0 == 48 && slice_index bs 1 == p && is_digit r (slice_index bs 2)) ≡ true → Prefixed p r bs
 prefix_tested p r bs l z h =
     let e = both (slice_index bs 0 == 48 && slice_index bs 1 == p) (is_digit r (slice_index bs 2)) h in
     let f = both (slice_index bs 0 == 48) (slice_index bs 1 == p) e.0 in
     prefixed p r bs l z f.0 f.1 e.1
 
 -- how the number at the front is written tells its prefix
-is_prefixed : (r : Radix) (bs : List ℕ) → radix_of bs ≡ r → (r ≡ radices.Decimal) ⊎ (((r ≡ radices.Binary) × Prefixed 98 radices.Binary bs) ⊎ ((r ≡ radices.Hexadecimal) × Prefixed 120 radices.Hexadecimal bs))
+is_prefixed : (r : Radix) (bs : List ℕ) → radix_of bs ≡ r
+    → (r ≡ radices.Decimal) ⊎ (((r ≡ radices.Binary) × Prefixed 98 radices.Binary bs) ⊎ ((r ≡ radices.Hexadecimal) × Prefixed 120 radices.Hexadecimal bs))
 is_prefixed r bs h =
     let A = slice_index bs 0 == 48 && slice_index bs 1 == 120 && is_digit radices.Hexadecimal (slice_index bs 2) in
     let B = slice_index bs 0 == 48 && slice_index bs 1 == 98 && is_digit radices.Binary (slice_index bs 2) in
-    elim A as (λ a. A ≡ a → (if a then radices.Hexadecimal else if B then radices.Binary else radices.Decimal) ≡ r → (r ≡ radices.Decimal) ⊎ (((r ≡ radices.Binary) × Prefixed 98 radices.Binary bs) ⊎ ((r ≡ radices.Hexadecimal) × Prefixed 120 radices.Hexadecimal bs))) [
+    elim A as (λ a. A ≡ a → (if a then radices.Hexadecimal else if B then radices.Binary else radices.Decimal) ≡ r
+    → (r ≡ radices.Decimal) ⊎
+    (((r ≡ radices.Binary) × Prefixed 98 radices.Binary bs) ⊎ ((r ≡ radices.Hexadecimal) × Prefixed 120 radices.Hexadecimal bs))) [
       | true ↦ λ e h. inr (inr (sym h, prefix_tested 120 radices.Hexadecimal bs (omega arith) refl e))
-      | false ↦ λ e h. elim B as (λ b. B ≡ b → (if b then radices.Binary else radices.Decimal) ≡ r → (r ≡ radices.Decimal) ⊎ (((r ≡ radices.Binary) × Prefixed 98 radices.Binary bs) ⊎ ((r ≡ radices.Hexadecimal) × Prefixed 120 radices.Hexadecimal bs))) [
-        | true ↦ λ f h. inr (inl (sym h, prefix_tested 98 radices.Binary bs (omega arith) refl f))
-        | false ↦ λ f h. inl (sym h)
-      ] refl h
+      | false ↦ λ e h. elim B as
+          (λ b. B ≡ b → (if b then radices.Binary else radices.Decimal) ≡ r
+          → (r ≡ radices.Decimal) ⊎
+          (((r ≡ radices.Binary) × Prefixed 98 radices.Binary bs) ⊎ ((r ≡ radices.Hexadecimal) × Prefixed 120 radices.Hexadecimal bs))) [
+            | true ↦ λ f h. inr (inl (sym h, prefix_tested 98 radices.Binary bs (omega arith) refl f))
+            | false ↦ λ f h. inl (sym h)
+          ] refl h
     ] refl h
 
 number_found : (c : ℕ) (cs : List ℕ) (x : Cut) → is_ascii_digit c ≡ true → cut_number (c ∷ cs) ≡ Some x → TokenAt (c ∷ cs) x
@@ -529,8 +584,11 @@ number_found c cs x h e =
     elim (is_prefixed (radix_of bs) bs refl) [
       | inl q ↦ number_token radices.Decimal bs bs c cs x refl refl h (sym (as_radix radices.Decimal bs q) ∙ e)
       | inr p ↦ elim p [
-        | inl b ↦ let f = b.1 in number_token radices.Binary bs (drop 2 bs) f.digit f.others x (f.is ∙ ap (λ us. 48 ∷ 98 ∷ us) (sym (ap (λ us. drop 2 us) f.is))) (ap (λ us. drop 2 us) f.is) f.tested (sym (as_radix radices.Binary bs b.0) ∙ e)
-        | inr b ↦ let f = b.1 in number_token radices.Hexadecimal bs (drop 2 bs) f.digit f.others x (f.is ∙ ap (λ us. 48 ∷ 120 ∷ us) (sym (ap (λ us. drop 2 us) f.is))) (ap (λ us. drop 2 us) f.is) f.tested (sym (as_radix radices.Hexadecimal bs b.0) ∙ e)
+        | inl b ↦ let f = b.1 in number_token radices.Binary bs (drop 2 bs) f.digit f.others x
+            (f.is ∙ ap (λ us. 48 ∷ 98 ∷ us) (sym (ap (λ us. drop 2 us) f.is))) (ap (λ us. drop 2 us) f.is) f.tested (sym (as_radix radices.Binary bs b.0) ∙ e)
+        | inr b ↦ let f = b.1 in number_token radices.Hexadecimal bs (drop 2 bs) f.digit f.others x
+            (f.is ∙ ap (λ us. 48 ∷ 120 ∷ us) (sym (ap (λ us. drop 2 us) f.is))) (ap (λ us. drop 2 us) f.is) f.tested
+            (sym (as_radix radices.Hexadecimal bs b.0) ∙ e)
       ]
     ]
 
@@ -559,37 +617,48 @@ record QuotedAt (bs : List ℕ) (q : Quoted) : Type 0 where
   split : bs ≡ front ++ 34 ∷ q.rest
   spelled : IsQuoted front q.bytes
 
-put_some : (bs : List ℕ) (o : Option Quoted) (q : Quoted) → put bs o ≡ Some q → (p : Quoted) × (o ≡ Some p) × (record { bytes = bs ++ p.bytes; rest = p.rest } ≡ q)
+put_some : (bs : List ℕ) (o : Option Quoted) (q : Quoted) → put bs o ≡ Some q
+    → (p : Quoted) × (o ≡ Some p) × (record { bytes = bs ++ p.bytes; rest = p.rest } ≡ q)
 put_some bs None q h = absurd cc
 put_some bs (Some p) q h = (p, refl, cc)
 
 -- one more byte or escape before what is quoted
-quoted_more : (fs ms bs us : List ℕ) (q : Quoted) → ((front ds : List ℕ) → IsQuoted front ds → IsQuoted (fs ++ front) (ms ++ ds)) → bs ≡ fs ++ us → put ms (quoted us) ≡ Some q → ((p : Quoted) → quoted us ≡ Some p → QuotedAt us p) → QuotedAt bs q
+quoted_more : (fs ms bs us : List ℕ) (q : Quoted) → ((front ds : List ℕ) → IsQuoted front ds → IsQuoted (fs ++ front) (ms ++ ds)) → bs ≡ fs ++ us
+    → put ms (quoted us) ≡ Some q → ((p : Quoted) → quoted us ≡ Some p → QuotedAt us p) → QuotedAt bs q
 quoted_more fs ms bs us q f s h g =
     let k = put_some ms (quoted us) q h in
     let p = g k.0 k.1 in
     let P : Quoted → Type 0 = λ q. QuotedAt bs q in
-    subst P k.2 (record { front = fs ++ p.front; split = s ∙ ap (λ us. fs ++ us) p.split ∙ sym (append_assoc fs p.front (34 ∷ k.0.rest)); spelled = f p.front k.0.bytes p.spelled })
+    subst P k.2 (record {
+      front = fs ++ p.front;
+      split = s ∙ ap (λ us. fs ++ us) p.split
+          ∙ sym (append_assoc fs p.front (34 ∷ k.0.rest));
+      spelled = f p.front k.0.bytes p.spelled;
+    })
 
 mutual
   quoted_found : (bs : List ℕ) (q : Quoted) → quoted bs ≡ Some q → QuotedAt bs q
   quoted_found [] q h = absurd cc
   quoted_found (c ∷ cs) q h =
-      elim (c == 34) as (λ b. (c == 34) ≡ b → (if b then Some (record { bytes = []; rest = cs }) else if c == 92 then escaped cs else put (c ∷ []) (quoted cs)) ≡ Some q → QuotedAt (c ∷ cs) q) [
+      elim (c == 34) as (λ b. (c == 34) ≡ b → (if b then Some (record { bytes = []; rest = cs }) else if c == 92 then escaped cs else put (c ∷ []) (quoted cs))
+      ≡ Some q → QuotedAt (c ∷ cs) q) [
         | true ↦ λ e h.
             let k : record { bytes = []; rest = cs } ≡ q = cc in
             let P : Quoted → Type 0 = λ q. QuotedAt (c ∷ cs) q in
             subst P k (record { front = []; split = ap (λ c. c ∷ cs) (eqb-true c 34 e); spelled = nothing })
         | false ↦ λ e h. elim (c == 92) as (λ b. (c == 92) ≡ b → (if b then escaped cs else put (c ∷ []) (quoted cs)) ≡ Some q → QuotedAt (c ∷ cs) q) [
           | true ↦ λ k h. let P : ℕ → Type 0 = λ c. QuotedAt (c ∷ cs) q in subst P (sym (eqb-true c 92 k)) (escaped_found cs q h)
-          | false ↦ λ k h. quoted_more (c ∷ []) (c ∷ []) (c ∷ cs) cs q (λ front ds i. plain_byte (λ z. let y : true ≡ false = sym (eq-eqb c 34 z) ∙ e in absurd cc) (λ z. let y : true ≡ false = sym (eq-eqb c 92 z) ∙ k in absurd cc) i) refl h (λ p g. quoted_found cs p g)
+          | false ↦ λ k h. quoted_more (c ∷ []) (c ∷ []) (c ∷ cs) cs q
+              (λ front ds i. plain_byte (λ z. let y : true ≡ false = sym (eq-eqb c 34 z) ∙ e in absurd cc)
+              (λ z. let y : true ≡ false = sym (eq-eqb c 92 z) ∙ k in absurd cc) i) refl h (λ p g. quoted_found cs p g)
         ] refl h
       ] refl h
 
   escaped_found : (cs : List ℕ) (q : Quoted) → escaped cs ≡ Some q → QuotedAt (92 ∷ cs) q
   escaped_found [] q h = absurd cc
   escaped_found (e ∷ es) q h =
-      elim (e == 117) as (λ b. (e == 117) ≡ b → (if b then unicode es else (escape_of e >>= λ u. put (encode_utf8 u) (quoted es))) ≡ Some q → QuotedAt (92 ∷ e ∷ es) q) [
+      elim (e == 117) as (λ b. (e == 117) ≡ b → (if b then unicode es else (escape_of e >>= λ u. put (encode_utf8 u) (quoted es))) ≡ Some q
+      → QuotedAt (92 ∷ e ∷ es) q) [
         | true ↦ λ k h. let P : ℕ → Type 0 = λ e. QuotedAt (92 ∷ e ∷ es) q in subst P (sym (eqb-true e 117 k)) (unicode_found es q h)
         | false ↦ λ k h.
             let b = bind_some (escape_of e) (λ u. put (encode_utf8 u) (quoted es)) q h in
@@ -603,7 +672,8 @@ mutual
   unicode_found (a ∷ b ∷ c ∷ []) q h = absurd cc
   unicode_found (a ∷ b ∷ c ∷ d ∷ cs) q h =
       let k = bind_some (unicode_of a b c d) (λ u. put (encode_utf8 u) (quoted cs)) q h in
-      quoted_more (92 ∷ 117 ∷ a ∷ b ∷ c ∷ d ∷ []) (encode_utf8 k.0) (92 ∷ 117 ∷ a ∷ b ∷ c ∷ d ∷ cs) cs q (λ front ds i. digits_escape k.1 i) refl k.2 (λ p g. quoted_found cs p g)
+      quoted_more (92 ∷ 117 ∷ a ∷ b ∷ c ∷ d ∷ []) (encode_utf8 k.0) (92 ∷ 117 ∷ a ∷ b ∷ c ∷ d ∷ cs) cs q (λ front ds i. digits_escape k.1 i) refl k.2
+      (λ p g. quoted_found cs p g)
 
 double_found : (cs : List ℕ) (x : Cut) → cut_double cs ≡ Some x → TokenAt (34 ∷ cs) x
 double_found cs x h =
@@ -625,18 +695,25 @@ record OneByte (c : ℕ) (s : Symbol) : Type 0 where
   plain : is_word s ≡ false
   spelled : spelling s ≡ c ∷ []
 
-two_step : (c d a b : ℕ) (t : Symbol) (o : Option Symbol) (s : Symbol) → TwoBytes a b t → (if c == a && d == b then Some t else o) ≡ Some s → (o ≡ Some s → TwoBytes c d s) → TwoBytes c d s
+two_step : (c d a b : ℕ) (t : Symbol) (o : Option Symbol) (s : Symbol) → TwoBytes a b t → (if c == a && d == b then Some t else o) ≡ Some s
+    → (o ≡ Some s → TwoBytes c d s) → TwoBytes c d s
 two_step c d a b t o s w h f =
     elim (c == a && d == b) as (λ v. (c == a && d == b) ≡ v → (if v then Some t else o) ≡ Some s → TwoBytes c d s) [
       | true ↦ λ e h.
           let k = both (c == a) (d == b) e in
           let i : t ≡ s = cc in
           let P : Symbol → Type 0 = λ s. TwoBytes c d s in
-          subst P i (record { plain = w.plain; spelled = w.spelled ∙ ap (λ a. a ∷ b ∷ []) (sym (eqb-true c a k.0)) ∙ ap (λ b. c ∷ b ∷ []) (sym (eqb-true d b k.1)); there = (let m = eqb-true d b k.1 in let n = w.there in omega arith) })
+          subst P i (record {
+            plain = w.plain;
+            spelled = w.spelled ∙ ap (λ a. a ∷ b ∷ []) (sym (eqb-true c a k.0))
+                ∙ ap (λ b. c ∷ b ∷ []) (sym (eqb-true d b k.1));
+            there = (let m = eqb-true d b k.1 in let n = w.there in omega arith);
+          })
       | false ↦ λ e h. f h
     ] refl h
 
-one_step : (c a : ℕ) (t : Symbol) (o : Option Symbol) (s : Symbol) → OneByte a t → (if c == a then Some t else o) ≡ Some s → (o ≡ Some s → OneByte c s) → OneByte c s
+one_step : (c a : ℕ) (t : Symbol) (o : Option Symbol) (s : Symbol) → OneByte a t → (if c == a then Some t else o) ≡ Some s → (o ≡ Some s → OneByte c s)
+    → OneByte c s
 one_step c a t o s w h f =
     elim (c == a) as (λ v. (c == a) ≡ v → (if v then Some t else o) ≡ Some s → OneByte c s) [
       | true ↦ λ e h.
@@ -678,7 +755,8 @@ one_found c s h =
     one_step c 44 tok.Comma _ s (record { plain = refl; spelled = refl }) h (λ h.
     one_step c 46 tok.Dot _ s (record { plain = refl; spelled = refl }) h (λ h. absurd cc)))))))))))))))))))
 
-pair_token : (c : ℕ) (cs : List ℕ) (s : Symbol) (x : Cut) → TwoBytes c (slice_index (c ∷ cs) 1) s → record { lexeme = symbol s; rest = drop 2 (c ∷ cs) } ≡ x → TokenAt (c ∷ cs) x
+pair_token : (c : ℕ) (cs : List ℕ) (s : Symbol) (x : Cut) → TwoBytes c (slice_index (c ∷ cs) 1) s → record { lexeme = symbol s; rest = drop 2 (c ∷ cs) } ≡ x
+    → TokenAt (c ∷ cs) x
 pair_token c [] s x w e = absurd (omega (arith, w.there))
 pair_token c (d ∷ us) s x w e = token_at (c ∷ d ∷ us) (spelling s) us (symbol s) x e (ap (λ ts. ts ++ us) (sym w.spelled)) (sign s w.plain)
 
@@ -687,8 +765,12 @@ byte_token c cs s x w e = token_at (c ∷ cs) (spelling s) cs (symbol s) x e (ap
 
 symbol_found : (c : ℕ) (cs : List ℕ) (x : Cut) → cut_symbol (c ∷ cs) ≡ Some x → TokenAt (c ∷ cs) x
 symbol_found c cs x h =
-    elim (two_bytes c (slice_index (c ∷ cs) 1)) as (λ o. two_bytes c (slice_index (c ∷ cs) 1) ≡ o → (elim o [ Some s ↦ cut_at (symbol s) (drop 2 (c ∷ cs)) | None ↦ one_byte c >>= λ s. cut_at (symbol s) (drop 1 (c ∷ cs)) ]) ≡ Some x → TokenAt (c ∷ cs) x) [
-      | Some s ↦ λ e h. let k : record { lexeme = symbol s; rest = drop 2 (c ∷ cs) } ≡ x = cc in pair_token c cs s x (two_found c (slice_index (c ∷ cs) 1) s e) k
+    elim (two_bytes c (slice_index (c ∷ cs) 1)) as
+    (λ o. two_bytes c (slice_index (c ∷ cs) 1) ≡ o
+    → (elim o [ Some s ↦ cut_at (symbol s) (drop 2 (c ∷ cs)) | None ↦ one_byte c >>= λ s. cut_at (symbol s) (drop 1 (c ∷ cs)) ]) ≡ Some x
+    → TokenAt (c ∷ cs) x) [
+      | Some s ↦ λ e h. let k : record { lexeme = symbol s; rest = drop 2 (c ∷ cs) } ≡ x =
+          cc in pair_token c cs s x (two_found c (slice_index (c ∷ cs) 1) s e) k
       | None ↦ λ e h.
           let b = bind_some (one_byte c) (λ s. cut_at (symbol s) (drop 1 (c ∷ cs))) x h in
           let k : record { lexeme = symbol b.0; rest = cs } ≡ x = (let i = b.2 in cc) in
@@ -698,18 +780,25 @@ symbol_found c cs x h =
 cut_found : (bs : List ℕ) (x : Cut) → cut bs ≡ Some x → TokenAt bs x
 cut_found [] x h = absurd (let k : None ≡ Some x = h in cc)
 cut_found (c ∷ cs) x h =
-    elim (is_name_start c) as (λ b. is_name_start c ≡ b → (if b then cut_name (c ∷ cs) else if is_ascii_digit c then cut_number (c ∷ cs) else if c == 39 then cut_single cs else if c == 34 then cut_double cs else cut_symbol (c ∷ cs)) ≡ Some x → TokenAt (c ∷ cs) x) [
+    elim (is_name_start c) as
+    (λ b. is_name_start c ≡ b
+    → (if b then cut_name (c ∷ cs) else if is_ascii_digit c then cut_number (c ∷ cs) else if c == 39 then cut_single cs else if c == 34
+    then cut_double cs else cut_symbol (c ∷ cs)) ≡ Some x → TokenAt (c ∷ cs) x) [
       | true ↦ λ e h. name_at c cs x e h
-      | false ↦ λ e h. elim (is_ascii_digit c) as (λ b. is_ascii_digit c ≡ b → (if b then cut_number (c ∷ cs) else if c == 39 then cut_single cs else if c == 34 then cut_double cs else cut_symbol (c ∷ cs)) ≡ Some x → TokenAt (c ∷ cs) x) [
-        | true ↦ λ e h. number_found c cs x e h
-        | false ↦ λ e h. elim (c == 39) as (λ b. (c == 39) ≡ b → (if b then cut_single cs else if c == 34 then cut_double cs else cut_symbol (c ∷ cs)) ≡ Some x → TokenAt (c ∷ cs) x) [
-          | true ↦ λ e h. let P : ℕ → Type 0 = λ c. TokenAt (c ∷ cs) x in subst P (sym (eqb-true c 39 e)) (single_found cs x h)
-          | false ↦ λ e h. elim (c == 34) as (λ b. (c == 34) ≡ b → (if b then cut_double cs else cut_symbol (c ∷ cs)) ≡ Some x → TokenAt (c ∷ cs) x) [
-            | true ↦ λ e h. let P : ℕ → Type 0 = λ c. TokenAt (c ∷ cs) x in subst P (sym (eqb-true c 34 e)) (double_found cs x h)
-            | false ↦ λ e h. symbol_found c cs x h
+      | false ↦ λ e h. elim (is_ascii_digit c) as
+          (λ b. is_ascii_digit c ≡ b
+          → (if b then cut_number (c ∷ cs) else if c == 39 then cut_single cs else if c == 34 then cut_double cs else cut_symbol (c ∷ cs)) ≡ Some x
+          → TokenAt (c ∷ cs) x) [
+            | true ↦ λ e h. number_found c cs x e h
+            | false ↦ λ e h. elim (c == 39) as
+                (λ b. (c == 39) ≡ b → (if b then cut_single cs else if c == 34 then cut_double cs else cut_symbol (c ∷ cs)) ≡ Some x → TokenAt (c ∷ cs) x) [
+                  | true ↦ λ e h. let P : ℕ → Type 0 = λ c. TokenAt (c ∷ cs) x in subst P (sym (eqb-true c 39 e)) (single_found cs x h)
+                  | false ↦ λ e h. elim (c == 34) as (λ b. (c == 34) ≡ b → (if b then cut_double cs else cut_symbol (c ∷ cs)) ≡ Some x → TokenAt (c ∷ cs) x) [
+                    | true ↦ λ e h. let P : ℕ → Type 0 = λ c. TokenAt (c ∷ cs) x in subst P (sym (eqb-true c 34 e)) (double_found cs x h)
+                    | false ↦ λ e h. symbol_found c cs x h
+                  ] refl h
+                ] refl h
           ] refl h
-        ] refl h
-      ] refl h
     ] refl h
 
 is_longest : (text : List ℕ) (x : Cut) → cut text ≡ Some x → IsLongest text x
@@ -738,10 +827,12 @@ name_stops : (w rest : List ℕ) → IsName w → NoLonger w rest → take_while
 name_stops w [] k n = refl
 name_stops w (d ∷ us) (begun {c} {cs} h k) n =
     take_while-cons is_name_byte d us
-    ∙ ap (λ b. cond b (d ∷ take_while is_name_byte us) []) (is_false (is_name_byte d) (λ e. not_with w (d ∷ []) us n (omega arith) (like_name (begun h (All-push (λ b. is_name_byte b ≡ true) cs d k e)))))
+    ∙ ap (λ b. cond b (d ∷ take_while is_name_byte us) [])
+    (is_false (is_name_byte d) (λ e. not_with w (d ∷ []) us n (omega arith) (like_name (begun h (All-push (λ b. is_name_byte b ≡ true) cs d k e)))))
 
 not_format : (w rest : List ℕ) → NoLonger w rest → (bytes_eq w (codes "f") && slice_index rest 0 == 34) ≡ false
-not_format w [] n = is_false (bytes_eq w (codes "f") && slice_index [] 0 == 34) (λ e. let k = (both (bytes_eq w (codes "f")) (slice_index [] 0 == 34) e).1 in absurd cc)
+not_format w [] n = is_false (bytes_eq w (codes "f") && slice_index [] 0 == 34)
+    (λ e. let k = (both (bytes_eq w (codes "f")) (slice_index [] 0 == 34) e).1 in absurd cc)
 not_format w (d ∷ us) n =
     is_false (bytes_eq w (codes "f") && d == 34) (λ e.
     let k = both (bytes_eq w (codes "f")) (d == 34) e in
@@ -774,22 +865,28 @@ digits_push_line r ds d (digit_and_line {cs = cs} h j) k = digit_and_line h (dig
 abbrev NoMore : Radix → List ℕ → List ℕ → Type 0
 NoMore r ds rest = (next behind : List ℕ) → rest ≡ next ++ behind → 0 < length next → IsDigits r (ds ++ next) → ⊥
 
-behind_stops : (r : Radix) (ds us : List ℕ) → IsDigits r ds → ((next behind : List ℕ) → us ≡ next ++ behind → 0 < length next → IsDigits r (ds ++ 95 ∷ next) → ⊥) → run_behind r us ≡ 0
+behind_stops : (r : Radix) (ds us : List ℕ) → IsDigits r ds
+    → ((next behind : List ℕ) → us ≡ next ++ behind → 0 < length next → IsDigits r (ds ++ 95 ∷ next) → ⊥) → run_behind r us ≡ 0
 behind_stops r ds [] k n = refl
-behind_stops r ds (e ∷ us) k n = ap (λ b. if b then suc (suc (run r us)) else 0) (is_false (is_digit r e) (λ h. n (e ∷ []) us refl (omega arith) (digits_push_line r ds e k h)))
+behind_stops r ds (e ∷ us) k n = ap (λ b. if b then suc (suc (run r us)) else 0)
+    (is_false (is_digit r e) (λ h. n (e ∷ []) us refl (omega arith) (digits_push_line r ds e k h)))
 
 digits_stop : (r : Radix) (ds rest : List ℕ) → IsDigits r ds → NoMore r ds rest → run r rest ≡ 0
 digits_stop r ds [] k n = refl
 digits_stop r ds (d ∷ us) k n =
     let e : is_digit r d ≡ false = is_false (is_digit r d) (λ e. n (d ∷ []) us refl (omega arith) (digits_push r ds d k e)) in
     elim (d == 95) as (λ b. (d == 95) ≡ b → run r (d ∷ us) ≡ 0) [
-      | true ↦ λ l. line_stop r d us l e (behind_stops r ds us k (let i = eqb-true d 95 l in λ next behind s m j. n (95 ∷ next) behind (ap (λ d. d ∷ us) i ∙ ap (λ us. 95 ∷ us) s) (omega arith) j))
+      | true ↦ λ l. line_stop r d us l e
+          (behind_stops r ds us k
+          (let i = eqb-true d 95 l in λ next behind s m j. n (95 ∷ next) behind (ap (λ d. d ∷ us) i ∙ ap (λ us. 95 ∷ us) s) (omega arith) j))
       | false ↦ λ l. no_digits r d us e l
     ] refl
 
 number_goes_on : (r : Radix) (ds rest : List ℕ) → NoLonger (number_prefix r ++ ds) rest → NoMore r ds rest
 number_goes_on r ds rest n next behind s l k =
-    n (number_prefix r ++ (ds ++ next)) behind (append_assoc (number_prefix r) ds rest ∙ ap (λ us. number_prefix r ++ (ds ++ us)) s ∙ ap (λ us. number_prefix r ++ us) (sym (append_assoc ds next behind)) ∙ sym (append_assoc (number_prefix r) (ds ++ next) behind))
+    n (number_prefix r ++ (ds ++ next)) behind
+    (append_assoc (number_prefix r) ds rest ∙ ap (λ us. number_prefix r ++ (ds ++ us)) s
+    ∙ ap (λ us. number_prefix r ++ us) (sym (append_assoc ds next behind)) ∙ sym (append_assoc (number_prefix r) (ds ++ next) behind))
     (omega (arith, length-append (number_prefix r) ds, length-append (number_prefix r) (ds ++ next), length-append ds next))
     (like_number r (ds ++ next) k refl)
 
@@ -810,7 +907,8 @@ exponent_front [] h k = absurd cc
 exponent_front (a ∷ []) h k = absurd cc
 exponent_front (a ∷ b ∷ us) h k = record { front = a ∷ b ∷ []; behind = us; split = refl; begins = exponent h k }
 
-signed_front : (rest : List ℕ) → (slice_index rest 0 == 101 || slice_index rest 0 == 69) ≡ true → (slice_index rest 1 == 43 || slice_index rest 1 == 45) ≡ true → is_ascii_digit (slice_index rest 2) ≡ true → FloatFront rest
+signed_front : (rest : List ℕ) → (slice_index rest 0 == 101 || slice_index rest 0 == 69) ≡ true → (slice_index rest 1 == 43 || slice_index rest 1 == 45) ≡ true
+    → is_ascii_digit (slice_index rest 2) ≡ true → FloatFront rest
 signed_front [] h j k = absurd cc
 signed_front (a ∷ []) h j k = absurd cc
 signed_front (a ∷ b ∷ []) h j k = absurd cc
@@ -836,14 +934,16 @@ not_more_digits [] p = refl
 not_more_digits (c ∷ []) p = elim (c == 48) as (λ b. (b && nat_lt 1 (length (c ∷ []))) ≡ false) [ true ↦ refl | false ↦ refl ]
 not_more_digits (c ∷ d ∷ ds) p = ap (λ b. b && nat_lt 1 (length (c ∷ d ∷ ds))) p
 
-kept_number : (r : Radix) (ds rest : List ℕ) → IsDigits r ds → is_padded r ds ≡ false → NoLonger (number_prefix r ++ ds) rest → is_left_out_number r ds rest ≡ false
+kept_number : (r : Radix) (ds rest : List ℕ) → IsDigits r ds → is_padded r ds ≡ false → NoLonger (number_prefix r ++ ds) rest
+    → is_left_out_number r ds rest ≡ false
 kept_number radices.Binary ds rest k p n = refl
 kept_number radices.Hexadecimal ds rest k p n = refl
 kept_number radices.Decimal ds rest k p n =
     let no_float : goes_on_as_float rest ≡ false = is_false (goes_on_as_float rest) (λ e.
     let f = float_front rest e in
     let g = float_head f.front f.begins in
-    n (ds ++ f.front) f.behind (ap (λ us. ds ++ us) f.split ∙ sym (append_assoc ds f.front f.behind)) (omega (arith, length-append ds f.front, ap length g.2)) (like_float ds f.front k f.begins refl)) in
+    n (ds ++ f.front) f.behind (ap (λ us. ds ++ us) f.split ∙ sym (append_assoc ds f.front f.behind)) (omega (arith, length-append ds f.front, ap length g.2))
+    (like_float ds f.front k f.begins refl)) in
     ap (λ b. b || (slice_index ds 0 == 48 && nat_lt 1 (length ds))) no_float ∙ not_more_digits ds p
 
 not_prefixed : (text ds rest : List ℕ) → text ≡ ds ++ rest → length ds < 3 → NoLonger ds rest → radix_of text ≡ radices.Decimal
@@ -852,7 +952,8 @@ not_prefixed text ds rest s l n =
       | inl q ↦ q
       | inr p ↦ absurd (elim p [
         | inl b ↦ let f = b.1 in n (48 ∷ 98 ∷ f.digit ∷ []) f.others (sym s ∙ f.is) l (like_number radices.Binary (f.digit ∷ []) (last_digit f.tested) refl)
-        | inr b ↦ let f = b.1 in n (48 ∷ 120 ∷ f.digit ∷ []) f.others (sym s ∙ f.is) l (like_number radices.Hexadecimal (f.digit ∷ []) (last_digit f.tested) refl)
+        | inr b ↦ let f = b.1 in n (48 ∷ 120 ∷ f.digit ∷ []) f.others (sym s ∙ f.is) l
+            (like_number radices.Hexadecimal (f.digit ∷ []) (last_digit f.tested) refl)
       ])
     ]
 
@@ -863,16 +964,19 @@ decimal_alone ds rest (one_digit {c = c} {cs} h k) n =
     decimal_radix (c ∷ cs) rest (one_digit h k) (omega (arith, ap length f.2))
 decimal_alone ds rest (digit_and_line {c = c} {cs} h k) n = decimal_radix (c ∷ 95 ∷ cs) rest (digit_and_line h k) (omega arith)
 
-begins_number : (r : Radix) (ds rest : List ℕ) → IsDigits r ds → NoLonger (number_prefix r ++ ds) rest → cut (number_prefix r ++ (ds ++ rest)) ≡ number_at r (ds ++ rest)
+begins_number : (r : Radix) (ds rest : List ℕ) → IsDigits r ds → NoLonger (number_prefix r ++ ds) rest
+    → cut (number_prefix r ++ (ds ++ rest)) ≡ number_at r (ds ++ rest)
 begins_number radices.Binary ds rest k n = cut_binary ds rest k
 begins_number radices.Hexadecimal ds rest k n = cut_hex ds rest k
 begins_number radices.Decimal ds rest k n = cut_decimal ds rest k (decimal_alone ds rest k n)
 
-number_is_cut : (r : Radix) (ds rest : List ℕ) → IsDigits r ds → is_padded r ds ≡ false → natural r 0 ds < 2 ^ 64 → NoLonger (number_prefix r ++ ds) rest → cut (number_prefix r ++ (ds ++ rest)) ≡ cut_at (constant (integer (natural r 0 ds))) rest
+number_is_cut : (r : Radix) (ds rest : List ℕ) → IsDigits r ds → is_padded r ds ≡ false → natural r 0 ds < 2 ^ 64 → NoLonger (number_prefix r ++ ds) rest
+    → cut (number_prefix r ++ (ds ++ rest)) ≡ cut_at (constant (integer (natural r 0 ds))) rest
 number_is_cut r ds rest k p b n =
     begins_number r ds rest k n
     ∙ number_whole r ds rest k (digits_stop r ds rest k (number_goes_on r ds rest n))
-    ∙ ap (λ b. if b then None else if nat_lt (natural r 0 ds) (2 ^ 64) then cut_at (constant (integer (natural r 0 ds))) rest else None) (kept_number r ds rest k p n)
+    ∙ ap (λ b. if b then None else if nat_lt (natural r 0 ds) (2 ^ 64) then cut_at (constant (integer (natural r 0 ds))) rest else None)
+    (kept_number r ds rest k p n)
     ∙ ap (λ b. if b then cut_at (constant (integer (natural r 0 ds))) rest else None) (lt-ltb (natural r 0 ds) (2 ^ 64) b)
 
 no_pair : (c : ℕ) (rest : List ℕ) → NoLonger (c ∷ []) rest → (t : Symbol) → TwoBytes c (slice_index (c ∷ rest) 1) t → ⊥
@@ -881,7 +985,10 @@ no_pair c (d ∷ us) n t w = n (spelling t) us (ap (λ ts. ts ++ us) (sym w.spel
 
 byte_is_cut : (c : ℕ) (s : Symbol) (rest : List ℕ) → one_byte c ≡ Some s → NoLonger (c ∷ []) rest → cut_symbol (c ∷ rest) ≡ cut_at (symbol s) rest
 byte_is_cut c s rest h n =
-    elim (two_bytes c (slice_index (c ∷ rest) 1)) as (λ o. two_bytes c (slice_index (c ∷ rest) 1) ≡ o → (elim o [ Some s ↦ cut_at (symbol s) (drop 2 (c ∷ rest)) | None ↦ one_byte c >>= λ s. cut_at (symbol s) (drop 1 (c ∷ rest)) ]) ≡ cut_at (symbol s) rest) [
+    elim (two_bytes c (slice_index (c ∷ rest) 1)) as
+    (λ o. two_bytes c (slice_index (c ∷ rest) 1) ≡ o
+    → (elim o [ Some s ↦ cut_at (symbol s) (drop 2 (c ∷ rest)) | None ↦ one_byte c >>= λ s. cut_at (symbol s) (drop 1 (c ∷ rest)) ])
+    ≡ cut_at (symbol s) rest) [
       | Some t ↦ λ e. absurd (no_pair c rest n t (two_found c (slice_index (c ∷ rest) 1) t e))
       | None ↦ λ e. ap (λ o. o >>= λ s. cut_at (symbol s) rest) h
     ] refl
@@ -926,8 +1033,10 @@ token_is_cut piece rest t (name k) n = name_is_cut piece rest k n
 token_is_cut piece rest t (number r ds k p b e) n =
     let P : List ℕ → Type 0 = λ ts. NoLonger ts rest in
     ap cut (ap (λ ts. ts ++ rest) e ∙ append_assoc (number_prefix r) ds rest) ∙ number_is_cut r ds rest k p b (subst P e n)
-token_is_cut piece rest t (single bs k u e) n = ap cut (ap (λ ts. ts ++ rest) e ∙ append_assoc (39 ∷ bs) (39 ∷ []) rest) ∙ single_is bs rest k ∙ text_kept bs rest u
-token_is_cut piece rest t (double bs cs k u e) n = ap cut (ap (λ ts. ts ++ rest) e ∙ append_assoc (34 ∷ bs) (34 ∷ []) rest) ∙ double_is bs cs rest k ∙ text_kept cs rest u
+token_is_cut piece rest t (single bs k u e) n = ap cut (ap (λ ts. ts ++ rest) e ∙ append_assoc (39 ∷ bs) (39 ∷ []) rest) ∙ single_is bs rest k
+    ∙ text_kept bs rest u
+token_is_cut piece rest t (double bs cs k u e) n = ap cut (ap (λ ts. ts ++ rest) e ∙ append_assoc (34 ∷ bs) (34 ∷ []) rest) ∙ double_is bs cs rest k
+    ∙ text_kept cs rest u
 token_is_cut piece rest t (sign s w) n = symbol_is_cut s rest w n
 
 is_cut : (text : List ℕ) (x : Cut) → IsLongest text x → cut text ≡ Some x
@@ -977,10 +1086,11 @@ abbrev ends_less : ℕ → Bool
 ends_less d = if d == 60 || d == 61 then false else true
 
 ends_less_is : (d : ℕ) → ends_less d ≡ true → ((d == 60) ≡ false) × ((d == 61) ≡ false)
-ends_less_is d h = elim (d == 60 || d == 61) as (λ b. (d == 60 || d == 61) ≡ b → (if b then false else true) ≡ true → ((d == 60) ≡ false) × ((d == 61) ≡ false)) [
-  | true ↦ λ e h. absurd cc
-  | false ↦ λ e h. or_false (d == 60) (d == 61) e
-] refl h
+ends_less_is d h = elim (d == 60 || d == 61) as (λ b. (d == 60 || d == 61) ≡ b → (if b then false else true) ≡ true
+    → ((d == 60) ≡ false) × ((d == 61) ≡ false)) [
+      | true ↦ λ e h. absurd cc
+      | false ↦ λ e h. or_false (d == 60) (d == 61) e
+    ] refl h
 
 less_forth : (bs : List ℕ) → (slice_index bs 0 == 60 && ends_less (slice_index bs 1)) ≡ true → cut bs ≡ cut_at (symbol tok.Less) (drop 1 bs)
 less_forth [] h = absurd cc
@@ -988,11 +1098,13 @@ less_forth (a ∷ us) h =
     let k = both (a == 60) (ends_less (slice_index (a ∷ us) 1)) h in
     let d = slice_index (a ∷ us) 1 in
     let e = ends_less_is d k.1 in
-    let i : two_bytes 60 d ≡ None = ap (λ b. if b then Some tok.ShiftLeft else if d == 61 then Some tok.LessOrEqual else None) e.0 ∙ ap (λ b. if b then Some tok.LessOrEqual else None) e.1 in
+    let i : two_bytes 60 d ≡ None = ap (λ b. if b then Some tok.ShiftLeft else if d == 61 then Some tok.LessOrEqual else None) e.0
+    ∙ ap (λ b. if b then Some tok.LessOrEqual else None) e.1 in
     ap (λ a. cut (a ∷ us)) (eqb-true a 60 k.0)
     ∙ ap (λ (o : Option Symbol). elim o [ Some s ↦ cut_at (symbol s) (drop 2 (60 ∷ us)) | None ↦ cut_at (symbol tok.Less) us ]) i
 
-less_ends : (rest : List ℕ) → ((d : ℕ) (us : List ℕ) → 60 ∷ rest ≡ 60 ∷ d ∷ us → ((s : Symbol) × (spelling s ≡ 60 ∷ d ∷ []) × (is_word s ≡ false)) → ⊥) → ends_less (slice_index (60 ∷ rest) 1) ≡ true
+less_ends : (rest : List ℕ) → ((d : ℕ) (us : List ℕ) → 60 ∷ rest ≡ 60 ∷ d ∷ us → ((s : Symbol) × (spelling s ≡ 60 ∷ d ∷ []) × (is_word s ≡ false)) → ⊥)
+    → ends_less (slice_index (60 ∷ rest) 1) ≡ true
 less_ends [] n = refl
 less_ends (d ∷ us) n =
     ap (λ b. if b then false else true) (is_false (d == 60 || d == 61) (λ e. elim (either (d == 60) (d == 61) e) [
@@ -1005,7 +1117,9 @@ less_back bs x l e =
     let p = less_piece l.piece x.lexeme l.means e in
     let s : bs ≡ 60 ∷ x.rest = l.split ∙ ap (λ ts. ts ++ x.rest) p in
     let short : length l.piece < 2 = omega (arith, ap length p) in
-    ap (λ bs. slice_index bs 0 == 60 && ends_less (slice_index bs 1)) s ∙ less_ends x.rest (λ d us z k. l.longest (spelling k.0) us (s ∙ z ∙ ap (λ ts. ts ++ us) (sym k.1)) (omega (arith, short, ap length k.1)) (like_symbol k.0 k.2))
+    ap (λ bs. slice_index bs 0 == 60 && ends_less (slice_index bs 1)) s
+    ∙ less_ends x.rest (λ d us z k. l.longest (spelling k.0) us (s ∙ z ∙ ap (λ ts. ts ++ us) (sym k.1)) (omega (arith, short, ap length k.1))
+    (like_symbol k.0 k.2))
 
 pub less_is_cut : (text : List ℕ) → IsTrue (less_follows text) ↔ ((x : Cut) × IsLongest (skip text) x × (x.lexeme ≡ symbol tok.Less))
 less_is_cut text = (

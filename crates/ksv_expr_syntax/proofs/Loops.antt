@@ -6,12 +6,16 @@ use Rattle.ksv_expr_syntax.specs.Lexemes.{Lexeme, constant, word, symbol}
 use Rattle.ksv_expr_syntax.specs.Reading.{Next, next, ◌>>=◌, choose, after, path_at, path_on}
 
 -- behind a name, by what stands there
-pub path_on_is : (w : List ℕ) (ts : List Lexeme) → path_on w ts ≡ choose (after tok.ColonColon ts) (next (w ∷ []) ts) (λ us. path_at us >>= λ x. next (w ∷ x.what) x.behind)
+pub path_on_is : (w : List ℕ) (ts : List Lexeme) → path_on w ts
+    ≡ choose (after tok.ColonColon ts) (next (w ∷ []) ts) (λ us. path_at us >>= λ x. next (w ∷ x.what) x.behind)
 path_on_is w [] = refl
 path_on_is w (constant c ∷ ts) = refl
 path_on_is w (word v ∷ ts) = refl
 path_on_is w (symbol s ∷ ts) =
-    elim (symbol_tests.eq s tok.ColonColon) as (λ b. (if b then (path_at ts >>= λ x. next (w ∷ x.what) x.behind) else next (w ∷ []) (symbol s ∷ ts)) ≡ choose (if b then Some ts else None) (next (w ∷ []) (symbol s ∷ ts)) (λ us. path_at us >>= λ x. next (w ∷ x.what) x.behind)) [ true ↦ refl | false ↦ refl ]
+    elim (symbol_tests.eq s tok.ColonColon) as
+    (λ b. (if b then (path_at ts >>= λ x. next (w ∷ x.what) x.behind) else next (w ∷ []) (symbol s ∷ ts))
+    ≡ choose (if b then Some ts else None) (next (w ∷ []) (symbol s ∷ ts)) (λ us. path_at us >>= λ x. next (w ∷ x.what) x.behind))
+    [ true ↦ refl | false ↦ refl ]
 
 -- these names were read, and reading goes on from these tokens
 pub record PathNow (ts : List Lexeme) (done : List (List ℕ)) (us : List Lexeme) : Type 0 where
@@ -26,21 +30,27 @@ no_name (constant c ∷ us) h = refl
 no_name (word w ∷ us) h = absurd (h w us refl)
 no_name (symbol s ∷ us) h = refl
 
-pub path_stuck : {ts : List Lexeme} {done : List (List ℕ)} {us : List Lexeme} → PathNow ts done us → ((w : List ℕ) (rest : List Lexeme) → us ≢ word w ∷ rest) → path_at ts ≡ None
+pub path_stuck : {ts : List Lexeme} {done : List (List ℕ)} {us : List Lexeme} → PathNow ts done us → ((w : List ℕ) (rest : List Lexeme) → us ≢ word w ∷ rest)
+    → path_at ts ≡ None
 path_stuck {done = done} {us = us} n h = n.is ∙ ap (λ (o : Option (Next (List (List ℕ)))). o >>= λ x. next (done ++ x.what) x.behind) (no_name us h)
 
-pub path_ends : {ts : List Lexeme} {done all : List (List ℕ)} {us : List Lexeme} (w : List ℕ) (vs : List Lexeme) → PathNow ts done us → us ≡ word w ∷ vs → after tok.ColonColon vs ≡ None → all ≡ done ++ w ∷ [] → path_at ts ≡ next all vs
+pub path_ends : {ts : List Lexeme} {done all : List (List ℕ)} {us : List Lexeme} (w : List ℕ) (vs : List Lexeme) → PathNow ts done us → us ≡ word w ∷ vs
+    → after tok.ColonColon vs ≡ None → all ≡ done ++ w ∷ [] → path_at ts ≡ next all vs
 path_ends {done = done} {us = us} w vs n e h a =
     n.is ∙ ap (λ us. path_at us >>= λ x. next (done ++ x.what) x.behind) e
-    ∙ ap (λ (o : Option (Next (List (List ℕ)))). o >>= λ x. next (done ++ x.what) x.behind) (path_on_is w vs ∙ ap (λ o. choose o (next (w ∷ []) vs) (λ us. path_at us >>= λ x. next (w ∷ x.what) x.behind)) h)
+    ∙ ap (λ (o : Option (Next (List (List ℕ)))). o >>= λ x. next (done ++ x.what) x.behind)
+    (path_on_is w vs ∙ ap (λ o. choose o (next (w ∷ []) vs) (λ us. path_at us >>= λ x. next (w ∷ x.what) x.behind)) h)
     ∙ ap (λ ws. next ws vs) (sym a)
 
-pub path_goes_on : {ts : List Lexeme} {done all : List (List ℕ)} {us : List Lexeme} (w : List ℕ) (vs zs : List Lexeme) → PathNow ts done us → us ≡ word w ∷ vs → after tok.ColonColon vs ≡ Some zs → all ≡ done ++ w ∷ [] → PathNow ts all zs
+pub path_goes_on : {ts : List Lexeme} {done all : List (List ℕ)} {us : List Lexeme} (w : List ℕ) (vs zs : List Lexeme) → PathNow ts done us → us ≡ word w ∷ vs
+    → after tok.ColonColon vs ≡ Some zs → all ≡ done ++ w ∷ [] → PathNow ts all zs
 path_goes_on {done = done} {all} {us} w vs zs n e h a = record {
   is =
       n.is ∙ ap (λ us. path_at us >>= λ x. next (done ++ x.what) x.behind) e
-      ∙ ap (λ (o : Option (Next (List (List ℕ)))). o >>= λ x. next (done ++ x.what) x.behind) (path_on_is w vs ∙ ap (λ o. choose o (next (w ∷ []) vs) (λ us. path_at us >>= λ x. next (w ∷ x.what) x.behind)) h)
-      ∙ elim (path_at zs) as (λ o. ((o >>= λ x. next (w ∷ x.what) x.behind) >>= λ x. next (done ++ x.what) x.behind) ≡ (o >>= λ x. next (all ++ x.what) x.behind)) [
+      ∙ ap (λ (o : Option (Next (List (List ℕ)))). o >>= λ x. next (done ++ x.what) x.behind)
+      (path_on_is w vs ∙ ap (λ o. choose o (next (w ∷ []) vs) (λ us. path_at us >>= λ x. next (w ∷ x.what) x.behind)) h)
+      ∙ elim (path_at zs) as
+      (λ o. ((o >>= λ x. next (w ∷ x.what) x.behind) >>= λ x. next (done ++ x.what) x.behind) ≡ (o >>= λ x. next (all ++ x.what) x.behind)) [
         | None ↦ refl
         | Some x ↦ ap (λ ws. next ws x.behind) (sym (append_assoc done (w ∷ []) x.what) ∙ ap (λ (ws : List (List ℕ)). ws ++ x.what) (sym a))
       ];

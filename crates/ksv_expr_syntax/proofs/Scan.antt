@@ -1,11 +1,13 @@
 -- Cutting a text from front to back gives its tokens.
-use Rattle.std.proofs.Common.{◌≡◌, ℕ, ◌<◌, ◌≤◌, Bool, true, false, List, [], ◌∷◌, ◌++◌, length, Some, None, refl, sym, ap, subst, ◌∙◌, append_assoc, arith, length-append, length-drop}
+use Rattle.std.proofs.Common.{◌≡◌, ℕ, ◌<◌, ◌≤◌, Bool, true, false, List, [], ◌∷◌, ◌++◌, length, Some, None, refl, sym, ap, subst, ◌∙◌, append_assoc, arith}
+use Rattle.std.proofs.Common.{length-append, length-drop}
 use Rattle.std.specs.Prelude.{◌==◌, take_while}
 use Rattle.std.proofs.lemmas.List.{append-nil}
 use Rattle.ksv_expr_syntax.specs.declared.token.Symbol.{Symbol}
 use Rattle.ksv_expr_syntax.specs.declared.token.Symbol.TheVariants as tok
 use Rattle.ksv_expr_syntax.specs.Lexemes.{Lexeme}
-use Rattle.ksv_expr_syntax.specs.Tokens.{Cut, is_space, skip, begun, number_prefix, spelling, IsToken, name, number, single, double, sign, IsLongest, mark, is_dot, Tokens, finished, token}
+use Rattle.ksv_expr_syntax.specs.Tokens.{Cut, is_space, skip, begun, number_prefix, spelling, IsToken, name, number, single, double, sign, IsLongest, mark}
+use Rattle.ksv_expr_syntax.specs.Tokens.{is_dot, Tokens, finished, token}
 use Rattle.ksv_expr_syntax.specs.Cutting.{cut}
 use Rattle.ksv_expr_syntax.proofs.Longest.{cut_is_longest, first_digit}
 
@@ -31,26 +33,34 @@ stuck : (dot : Bool) (rest : List ℕ) (us : List Lexeme) → Tokens dot rest us
 stuck dot rest us (finished h) n e = n h
 stuck dot rest us (token x h s) n e = absurd (let k : Some x ≡ None = sym (longest_cut (skip rest) x h) ∙ e in cc)
 
-pub scan_stuck : {text : List ℕ} {done : List Lexeme} {dot : Bool} {rest : List ℕ} → ScanNow text done dot rest → (skip rest ≡ [] → ⊥) → cut (skip rest) ≡ None → (ts : List Lexeme) → Tokens false text ts → ⊥
+pub scan_stuck : {text : List ℕ} {done : List Lexeme} {dot : Bool} {rest : List ℕ} → ScanNow text done dot rest → (skip rest ≡ [] → ⊥) → cut (skip rest) ≡ None
+    → (ts : List Lexeme) → Tokens false text ts → ⊥
 scan_stuck {dot = dot} {rest} s n e ts k = let b = s.back ts k in stuck dot rest b.0 b.2 n e
 
 -- the rest behind a token that is known
-next_token : (dot : Bool) (rest : List ℕ) (us : List Lexeme) (y : Cut) → Tokens dot rest us → cut (skip rest) ≡ Some y → (vs : List Lexeme) × (us ≡ mark dot y ∷ vs) × Tokens (is_dot (mark dot y)) y.rest vs
+next_token : (dot : Bool) (rest : List ℕ) (us : List Lexeme) (y : Cut) → Tokens dot rest us → cut (skip rest) ≡ Some y
+    → (vs : List Lexeme) × (us ≡ mark dot y ∷ vs) × Tokens (is_dot (mark dot y)) y.rest vs
 next_token dot rest us y (finished h) e = absurd (let k : None ≡ Some y = sym no_cut ∙ ap cut (sym h) ∙ e in cc)
 next_token dot rest us y (token {ts = ts} x h s) e =
     let k : x ≡ y = (let i : Some x ≡ Some y = sym (longest_cut (skip rest) x h) ∙ e in cc) in
     (ts, ap (λ x. mark dot x ∷ ts) k, subst (λ x. Tokens (is_dot (mark dot x)) x.rest ts) k s)
 
-pub scan_on : {text : List ℕ} {done : List Lexeme} {dot : Bool} {rest : List ℕ} (y : Cut) (all : List Lexeme) (m : Lexeme) (d : Bool) → ScanNow text done dot rest → cut (skip rest) ≡ Some y → m ≡ mark dot y → d ≡ is_dot m → all ≡ done ++ m ∷ [] → ScanNow text all d y.rest
+pub scan_on : {text : List ℕ} {done : List Lexeme} {dot : Bool} {rest : List ℕ} (y : Cut) (all : List Lexeme) (m : Lexeme) (d : Bool)
+    → ScanNow text done dot rest → cut (skip rest) ≡ Some y → m ≡ mark dot y → d ≡ is_dot m → all ≡ done ++ m ∷ [] → ScanNow text all d y.rest
 scan_on {text} {done} {dot} {rest} y all m d s e g i a =
     let dots : d ≡ is_dot (mark dot y) = i ∙ ap is_dot g in
     let alls : all ≡ done ++ mark dot y ∷ [] = a ∙ ap (λ m. done ++ m ∷ []) g in
     record {
-      forth = λ ts k. subst (λ us. Tokens false text us) (sym (ap (λ (us : List Lexeme). us ++ ts) alls ∙ append_assoc done (mark dot y ∷ []) ts)) (s.forth (mark dot y ∷ ts) (token y ((cut_is_longest (skip rest) y).0 e) (subst (λ d. Tokens d y.rest ts) dots k)));
+      forth = λ ts k. subst (λ us. Tokens false text us) (sym (ap (λ (us : List Lexeme). us ++ ts) alls ∙ append_assoc done (mark dot y ∷ []) ts))
+          (s.forth (mark dot y ∷ ts) (token y ((cut_is_longest (skip rest) y).0 e) (subst (λ d. Tokens d y.rest ts) dots k)));
       back = λ ts k.
           let b = s.back ts k in
-          let n = next_token dot rest b.0 y b.2 e in
-          (n.0, b.1 ∙ ap (λ (us : List Lexeme). done ++ us) n.1 ∙ sym (ap (λ (us : List Lexeme). us ++ n.0) alls ∙ append_assoc done (mark dot y ∷ []) n.0), subst (λ d. Tokens d y.rest n.0) (sym dots) n.2);
+          let n = next_token dot rest b.0 y b.2 e in (
+            n.0,
+            b.1 ∙ ap (λ (us : List Lexeme). done ++ us) n.1
+                ∙ sym (ap (λ (us : List Lexeme). us ++ n.0) alls ∙ append_assoc done (mark dot y ∷ []) n.0),
+            subst (λ d. Tokens d y.rest n.0) (sym dots) n.2,
+          );
     }
 
 -- a text has one list of tokens

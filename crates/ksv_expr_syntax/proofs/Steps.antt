@@ -1,5 +1,6 @@
 -- What a step of reading that found something says.
-use Rattle.std.proofs.Common.{◌≡◌, ℕ, zero, suc, Bool, true, false, List, [], ◌∷◌, ◌++◌, Option, Some, None, refl, sym, ap, subst, ◌∙◌, ◌⊎◌, inl, inr, if◌then◌else◌, rules}
+use Rattle.std.proofs.Common.{◌≡◌, ℕ, zero, suc, Bool, true, false, List, [], ◌∷◌, ◌++◌, Option, Some, None, refl, sym, ap, subst, ◌∙◌, ◌⊎◌, inl, inr}
+use Rattle.std.proofs.Common.{if◌then◌else◌, rules}
 use denote.Enum.Bare.{same_true}
 use Rattle.ksv_expr_syntax.specs.contracts.token.Symbol.{the_type}
 use Rattle.ksv_expr_syntax.specs.contracts.token.SymbolPartialEq.TheImpl.{ghosts as symbol_tests}
@@ -12,7 +13,8 @@ use Rattle.ksv_expr_syntax.specs.declared.operator.Infix.{Infix}
 use Rattle.ksv_expr_tree.specs.Tree.{Tree, Arguments}
 use Rattle.ksv_expr_syntax.specs.Lexemes.{Lexeme, constant, word, symbol}
 use Rattle.ksv_expr_syntax.specs.Grammar.{operator, comparison, prefix, path_tokens}
-use Rattle.ksv_expr_syntax.specs.Reading.{Next, Found, FoundList, found, found_list, next, ◌>>=◌, choose, spend, after, operator_at, comparison_at, prefix_at, path_at, path_on, all_but_last, last_name}
+use Rattle.ksv_expr_syntax.specs.Reading.{Next, Found, FoundList, found, found_list, next, ◌>>=◌, choose, spend, after, operator_at, comparison_at, prefix_at}
+use Rattle.ksv_expr_syntax.specs.Reading.{path_at, path_on, all_but_last, last_name}
 
 pub bind_some : {A B : Type 0} (r : Option A) (f : A → Option B) (y : B) → (r >>= f) ≡ Some y → (x : A) × (r ≡ Some x) × (f x ≡ Some y)
 bind_some None f y h = absurd cc
@@ -22,7 +24,8 @@ pub spend_some : {A : Type 0} (n : ℕ) (f : ℕ → Option A) (y : A) → spend
 spend_some zero f y h = absurd cc
 spend_some (suc n) f y h = (n, refl, h)
 
-pub choose_some : {A B : Type 0} (o : Option A) (x : Option B) (f : A → Option B) (y : B) → choose o x f ≡ Some y → ((o ≡ None) × (x ≡ Some y)) ⊎ ((a : A) × (o ≡ Some a) × (f a ≡ Some y))
+pub choose_some : {A B : Type 0} (o : Option A) (x : Option B) (f : A → Option B) (y : B) → choose o x f ≡ Some y
+    → ((o ≡ None) × (x ≡ Some y)) ⊎ ((a : A) × (o ≡ Some a) × (f a ≡ Some y))
 choose_some None x f y h = inl (refl, h)
 choose_some (Some a) x f y h = inr (a, refl, h)
 
@@ -35,7 +38,8 @@ pub with_spend : {A P : Type 0} (n : ℕ) (f : ℕ → Option A) (y : A) → spe
 with_spend zero f y h k = absurd cc
 with_spend (suc n) f y h k = k n refl h
 
-pub with_choice : {A B P : Type 0} (o : Option A) (x : Option B) (f : A → Option B) (y : B) → choose o x f ≡ Some y → (o ≡ None → x ≡ Some y → P) → ((a : A) → o ≡ Some a → f a ≡ Some y → P) → P
+pub with_choice : {A B P : Type 0} (o : Option A) (x : Option B) (f : A → Option B) (y : B) → choose o x f ≡ Some y → (o ≡ None → x ≡ Some y → P)
+    → ((a : A) → o ≡ Some a → f a ≡ Some y → P) → P
 with_choice None x f y h none some = none refl h
 with_choice (Some a) x f y h none some = some a refl h
 
@@ -53,14 +57,16 @@ after_some s (constant c ∷ ts) us h = absurd cc
 after_some s (word w ∷ ts) us h = absurd cc
 after_some s (symbol x ∷ ts) us h = let e = if_some (symbol_tests.eq x s) ts us h in let i = same_symbol x s e.0 in cc
 
-pub operator_some : (k : Precedence) (ts : List Lexeme) (x : Next Infix) → operator_at k ts ≡ Some x → (t : Lexeme) × (ts ≡ t ∷ x.behind) × (operator k t ≡ Some x.what)
+pub operator_some : (k : Precedence) (ts : List Lexeme) (x : Next Infix) → operator_at k ts ≡ Some x
+    → (t : Lexeme) × (ts ≡ t ∷ x.behind) × (operator k t ≡ Some x.what)
 operator_some k [] x h = absurd cc
 operator_some k (t ∷ ts) x h =
     let b = bind_some (operator k t) (λ op. next op ts) x h in
     let e : record { what = b.0; behind = ts } ≡ x = cc in
     (t, ap (λ (x : Next Infix). t ∷ x.behind) e, b.1 ∙ ap (λ (x : Next Infix). Some x.what) e)
 
-pub comparison_some : (ts : List Lexeme) (x : Next BinaryOperator) → comparison_at ts ≡ Some x → (t : Lexeme) × (ts ≡ t ∷ x.behind) × (comparison t ≡ Some x.what)
+pub comparison_some : (ts : List Lexeme) (x : Next BinaryOperator) → comparison_at ts ≡ Some x
+    → (t : Lexeme) × (ts ≡ t ∷ x.behind) × (comparison t ≡ Some x.what)
 comparison_some [] x h = absurd cc
 comparison_some (t ∷ ts) x h =
     let b = bind_some (comparison t) (λ op. next op ts) x h in
@@ -90,7 +96,8 @@ path_end w ts x h =
     subst (λ x. Path (word w ∷ ts) x) e (record { first = w; others = []; names = refl; cut = refl })
 
 -- a name more
-path_more : (w : List ℕ) (ts : List Lexeme) (y x : Next (List (List ℕ))) → Path ts y → next (w ∷ y.what) y.behind ≡ Some x → Path (word w ∷ symbol tok.ColonColon ∷ ts) x
+path_more : (w : List ℕ) (ts : List Lexeme) (y x : Next (List (List ℕ))) → Path ts y → next (w ∷ y.what) y.behind ≡ Some x
+    → Path (word w ∷ symbol tok.ColonColon ∷ ts) x
 path_more w ts y x s h =
     let e : record { what = w ∷ y.what; behind = y.behind } ≡ x = cc in
     subst (λ x. Path (word w ∷ symbol tok.ColonColon ∷ ts) x) e (record {
@@ -110,7 +117,9 @@ mutual
   path_on_some w (constant c ∷ ts) x h = path_end w (constant c ∷ ts) x h
   path_on_some w (word v ∷ ts) x h = path_end w (word v ∷ ts) x h
   path_on_some w (symbol s ∷ ts) x h =
-      elim (symbol_tests.eq s tok.ColonColon) as (λ b. symbol_tests.eq s tok.ColonColon ≡ b → (if b then (path_at ts >>= λ x. next (w ∷ x.what) x.behind) else next (w ∷ []) (symbol s ∷ ts)) ≡ Some x → Path (word w ∷ symbol s ∷ ts) x) [
+      elim (symbol_tests.eq s tok.ColonColon) as
+      (λ b. symbol_tests.eq s tok.ColonColon ≡ b → (if b then (path_at ts >>= λ x. next (w ∷ x.what) x.behind) else next (w ∷ []) (symbol s ∷ ts))
+      ≡ Some x → Path (word w ∷ symbol s ∷ ts) x) [
         | true ↦ λ e h.
             let y = bind_some (path_at ts) (λ x. next (w ∷ x.what) x.behind) x h in
             let z = path_more w ts y.0 x (path_some ts y.0 y.1) y.2 in
@@ -131,8 +140,10 @@ some x = Some x
 pub some_is : (x y : Found) → some x ≡ some y → x ≡ y
 some_is x y h = cc
 
-pub at_found : (P : Found → Type 0) (e : Tree) (ts : List Lexeme) (p : ℕ) (x : Found) → found e ts p ≡ Some x → P (record { tree = e; rest = ts; left = p }) → P x
+pub at_found : (P : Found → Type 0) (e : Tree) (ts : List Lexeme) (p : ℕ) (x : Found) → found e ts p ≡ Some x → P (record { tree = e; rest = ts; left = p })
+    → P x
 at_found P e ts p x h u = subst P (some_is (record { tree = e; rest = ts; left = p }) x h) u
 
-pub at_list : (P : FoundList → Type 0) (es : Arguments) (ts : List Lexeme) (p : ℕ) (x : FoundList) → found_list es ts p ≡ Some x → P (record { arguments = es; rest = ts; left = p }) → P x
+pub at_list : (P : FoundList → Type 0) (es : Arguments) (ts : List Lexeme) (p : ℕ) (x : FoundList) → found_list es ts p ≡ Some x
+    → P (record { arguments = es; rest = ts; left = p }) → P x
 at_list P es ts p x h u = let e : record { arguments = es; rest = ts; left = p } ≡ x = cc in subst P e u

@@ -69,7 +69,8 @@ some_more (v ∷ us) b h k z = absurd (let k = z in cc)
 
 -- ---- types with arguments
 
-read_path : (w : List ℕ) (ws : List (List ℕ)) (rest : List Lexeme) → after tok.ColonColon rest ≡ None → path_at (path_tokens (w ∷ ws) ++ rest) ≡ next (w ∷ ws) rest
+read_path : (w : List ℕ) (ws : List (List ℕ)) (rest : List Lexeme) → after tok.ColonColon rest ≡ None
+    → path_at (path_tokens (w ∷ ws) ++ rest) ≡ next (w ∷ ws) rest
 read_path w [] rest h = path_on_is w rest ∙ ap (λ o. choose o (next (w ∷ []) rest) (λ us. path_at us >>= λ x. next (w ∷ x.what) x.behind)) h
 read_path w (v ∷ ws) rest h = ap (λ (o : Option (Next (List (List ℕ)))). o >>= λ x. next (w ∷ x.what) x.behind) (read_path v ws rest h)
 
@@ -85,19 +86,24 @@ list_is es fs us vs p q h =
     let e : record { arguments = es; rest = us; left = p } ≡ record { arguments = fs; rest = vs; left = q } = cc in
     (ap (λ (x : FoundList). x.arguments) e, ap (λ (x : FoundList). x.rest) e)
 
-pub type_spelled : (ts : List Lexeme) (ws : List (List ℕ)) (us : List Lexeme) (es : Arguments) (vs : List Lexeme) (q : ℕ) → path_at ts ≡ next ws us → type_list us 256 ≡ found_list es vs q → vs ≡ [] → SpellsType ts (type_tree ws es)
+pub type_spelled : (ts : List Lexeme) (ws : List (List ℕ)) (us : List Lexeme) (es : Arguments) (vs : List Lexeme) (q : ℕ) → path_at ts ≡ next ws us
+    → type_list us 256 ≡ found_list es vs q → vs ≡ [] → SpellsType ts (type_tree ws es)
 unfolding read_list
 type_spelled ts ws us es vs q h k z =
     let x = path_some ts (record { what = ws; behind = us }) h in
     let some : 0 < length ws = omega (arith, ap length x.names) in
     let cut : ts ≡ path_tokens ws ++ us = x.cut ∙ ap (λ ws. path_tokens ws ++ us) (sym x.names) in
-    elim (choose_some (after tok.OpenParenthesis us) (found_list no_arguments us 256) (λ us. read_list 31 us 256) (record { arguments = es; rest = vs; left = q }) k) [
+    elim (choose_some (after tok.OpenParenthesis us) (found_list no_arguments us 256) (λ us. read_list 31 us 256)
+    (record { arguments = es; rest = vs; left = q }) k) [
       | inl c ↦
           let e = list_is no_arguments es us vs 256 q c.1 in
           subst (λ es. SpellsType ts (type_tree ws es)) e.0 (bare ws some (cut ∙ ap (λ us. path_tokens ws ++ us) (e.1 ∙ z) ∙ append-nil (path_tokens ws)))
       | inr c ↦
           let s = list_sound (wide c.0) 31 c.0 256 (record { arguments = es; rest = vs; left = q }) c.2 in
-          applied ws s.front some (cut ∙ ap (λ us. path_tokens ws ++ us) (after_some tok.OpenParenthesis us c.0 c.1 ∙ ap (λ us. symbol tok.OpenParenthesis ∷ us) (s.cut ∙ ap (λ vs. s.front ++ symbol tok.CloseParenthesis ∷ vs) z))) s.spelled (omega (arith, s.spent))
+          applied ws s.front some
+          (cut ∙ ap (λ us. path_tokens ws ++ us)
+          (after_some tok.OpenParenthesis us c.0 c.1 ∙ ap (λ us. symbol tok.OpenParenthesis ∷ us)
+          (s.cut ∙ ap (λ vs. s.front ++ symbol tok.CloseParenthesis ∷ vs) z))) s.spelled (omega (arith, s.spent))
     ]
 
 -- what a type that is spelled is read as
@@ -148,13 +154,15 @@ one_type text t u x y = one_type_tree y.tokens t u (subst (λ ts. SpellsType ts 
 pub no_type_path : (ts : List Lexeme) → path_at ts ≡ None → (t : TypeTree) → SpellsType ts t → ⊥
 no_type_path ts h t x = let r = type_read ts t x in absurd (let k : None ≡ next t.name.path r.rest = sym h ∙ r.path in cc)
 
-pub no_type_list : (ts : List Lexeme) (ws : List (List ℕ)) (us : List Lexeme) → path_at ts ≡ next ws us → type_list us 256 ≡ None → (t : TypeTree) → SpellsType ts t → ⊥
+pub no_type_list : (ts : List Lexeme) (ws : List (List ℕ)) (us : List Lexeme) → path_at ts ≡ next ws us → type_list us 256 ≡ None → (t : TypeTree)
+    → SpellsType ts t → ⊥
 no_type_list ts ws us h k t x =
     let r = type_read ts t x in
     let e = (same_next ws t.name.path us r.rest (sym h ∙ r.path)).1 in
     absurd (let k : None ≡ found_list t.arguments [] r.left = sym k ∙ ap (λ us. type_list us 256) e ∙ r.list in cc)
 
-pub no_type_end : (ts : List Lexeme) (ws : List (List ℕ)) (us : List Lexeme) (es : Arguments) (vs : List Lexeme) (q : ℕ) → path_at ts ≡ next ws us → type_list us 256 ≡ found_list es vs q → (vs ≡ [] → ⊥) → (t : TypeTree) → SpellsType ts t → ⊥
+pub no_type_end : (ts : List Lexeme) (ws : List (List ℕ)) (us : List Lexeme) (es : Arguments) (vs : List Lexeme) (q : ℕ) → path_at ts ≡ next ws us
+    → type_list us 256 ≡ found_list es vs q → (vs ≡ [] → ⊥) → (t : TypeTree) → SpellsType ts t → ⊥
 no_type_end ts ws us es vs q h k z t x =
     let r = type_read ts t x in
     let e = (same_next ws t.name.path us r.rest (sym h ∙ r.path)).1 in
@@ -171,10 +179,14 @@ is_type text ts t s x = record { tokens = ts; cut = s; spelled = x }
 
 -- ---- a text that is refused, whatever is wrong behind its tokens
 
-pub refused_text : (text : List ℕ) (ts : List Lexeme) (o : Option ExprFault) → MatchOption o (Tokens false text ts) (λ _. (us : List Lexeme) → Tokens false text us → ⊥) → ((e : Tree) → IsExpr ts e → ⊥) → (e : Tree) → SpellsText text e → ⊥
+pub refused_text : (text : List ℕ) (ts : List Lexeme) (o : Option ExprFault)
+    → MatchOption o (Tokens false text ts) (λ _. (us : List Lexeme) → Tokens false text us → ⊥) → ((e : Tree) → IsExpr ts e → ⊥) → (e : Tree)
+    → SpellsText text e → ⊥
 refused_text text ts None m h e x = no_expression text ts m h e x
 refused_text text ts (Some f) m h e x = no_tokens text m e x
 
-pub refused_type : (text : List ℕ) (ts : List Lexeme) (o : Option ExprFault) → MatchOption o (Tokens false text ts) (λ _. (us : List Lexeme) → Tokens false text us → ⊥) → ((t : TypeTree) → SpellsType ts t → ⊥) → (t : TypeTree) → SpellsTypeText text t → ⊥
+pub refused_type : (text : List ℕ) (ts : List Lexeme) (o : Option ExprFault)
+    → MatchOption o (Tokens false text ts) (λ _. (us : List Lexeme) → Tokens false text us → ⊥) → ((t : TypeTree) → SpellsType ts t → ⊥) → (t : TypeTree)
+    → SpellsTypeText text t → ⊥
 refused_type text ts None m h t x = no_type text ts m h t x
 refused_type text ts (Some f) m h t x = no_type_tokens text m t x

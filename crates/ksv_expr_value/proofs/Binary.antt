@@ -1,5 +1,6 @@
 -- Bits of bytes, and numbers.
-use Rattle.std.proofs.Common.{◌≡◌, ◌∙◌, ℕ, zero, suc, ◌+◌, ◌*◌, ◌/◌, ◌%◌, ◌^◌, ◌<◌, ◌≤◌, ◌⊎◌, inl, inr, List, [], ◌∷◌, ◌++◌, length, take, drop, get_or, refl, ap, sym, arith, lit<, length-append, append_assoc}
+use Rattle.std.proofs.Common.{◌≡◌, ◌∙◌, ℕ, zero, suc, ◌+◌, ◌*◌, ◌/◌, ◌%◌, ◌^◌, ◌<◌, ◌≤◌, ◌⊎◌, inl, inr, List, [], ◌∷◌, ◌++◌, length, take, drop, get_or, refl}
+use Rattle.std.proofs.Common.{ap, sym, arith, lit<, length-append, append_assoc}
 use Rattle.std.specs.List.{AllByRecursion}
 use Rattle.std.proofs.lemmas.List.{take_more, take-append-drop, length-take, length-drop}
 use Rattle.std.proofs.lemmas.Grind.{pow_more}
@@ -86,20 +87,25 @@ number_small (x ∷ xs) a =
 -- ---- some of them, among others
 
 -- a number between others: those above it are divided away, those below it too
-pub number_between : (above mid below : List ℕ) → AreBits mid → AreBits below → number_of mid ≡ number_of (above ++ (mid ++ below)) / 2 ^ length below % 2 ^ length mid
+pub number_between : (above mid below : List ℕ) → AreBits mid → AreBits below
+    → number_of mid ≡ number_of (above ++ (mid ++ below)) / 2 ^ length below % 2 ^ length mid
 number_between above mid below m b =
     let low = number_small below b in
     let small = number_small mid m in
     let inner = number_append mid below in
-    let power : 2 ^ length (mid ++ below) ≡ 2 ^ length mid * 2 ^ length below = ap (λ k. 2 ^ k) (length-append mid below) ∙ pow-add 2 (length mid) (length below) in
-    let outer : number_of above * 2 ^ length (mid ++ below) ≡ number_of above * 2 ^ length mid * 2 ^ length below = ap (λ k. number_of above * k) power ∙ sym (mul_assoc (number_of above) (2 ^ length mid) (2 ^ length below)) in
+    let power : 2 ^ length (mid ++ below) ≡ 2 ^ length mid * 2 ^ length below =
+    ap (λ k. 2 ^ k) (length-append mid below) ∙ pow-add 2 (length mid) (length below) in
+    let outer : number_of above * 2 ^ length (mid ++ below) ≡ number_of above * 2 ^ length mid * 2 ^ length below =
+    ap (λ k. number_of above * k) power ∙ sym (mul_assoc (number_of above) (2 ^ length mid) (2 ^ length below)) in
     let whole : number_of (above ++ (mid ++ below)) ≡ (number_of above * 2 ^ length mid + number_of mid) * 2 ^ length below + number_of below =
     omega (arith, number_append above (mid ++ below), inner, outer, add-mul (number_of above * 2 ^ length mid) (number_of mid) (2 ^ length below)) in
-    sym (ap (λ n. n / 2 ^ length below % 2 ^ length mid) whole ∙ ap (λ n. n % 2 ^ length mid) (div-mul-add (number_of above * 2 ^ length mid + number_of mid) (2 ^ length below) (number_of below) low)
+    sym (ap (λ n. n / 2 ^ length below % 2 ^ length mid) whole
+    ∙ ap (λ n. n % 2 ^ length mid) (div-mul-add (number_of above * 2 ^ length mid + number_of mid) (2 ^ length below) (number_of below) low)
     ∙ mod-mul-add (number_of above) (2 ^ length mid) (number_of mid) small)
 
 -- the same by places in a list
-pub number_within : (bits : List ℕ) (k width below : ℕ) → AreBits bits → length bits ≡ k + width + below → number_of (take width (drop k bits)) ≡ number_of bits / 2 ^ below % 2 ^ width
+pub number_within : (bits : List ℕ) (k width below : ℕ) → AreBits bits → length bits ≡ k + width + below
+    → number_of (take width (drop k bits)) ≡ number_of bits / 2 ^ below % 2 ^ width
 number_within bits k width below are long =
     let above = take k bits in
     let rest = drop k bits in
@@ -111,12 +117,14 @@ number_within bits k width below are long =
     let count : length last ≡ below = omega (arith, length-drop width rest, length-drop k bits) in
     let wide : length mid ≡ width = omega (arith, length-take width rest, length-drop k bits) in
     number_between above mid last (are_front mid last both) (are_back mid last both)
-    ∙ ap (λ xs. number_of xs / 2 ^ length last % 2 ^ length mid) cut ∙ ap (λ n. number_of bits / 2 ^ n % 2 ^ length mid) count ∙ ap (λ n. number_of bits / 2 ^ below % 2 ^ n) wide
+    ∙ ap (λ xs. number_of xs / 2 ^ length last % 2 ^ length mid) cut ∙ ap (λ n. number_of bits / 2 ^ n % 2 ^ length mid) count
+    ∙ ap (λ n. number_of bits / 2 ^ below % 2 ^ n) wide
 
 -- ---- bytes that are read one by one
 
 -- one more byte after others
-pub one_more : (bytes : List ℕ) (byte i : ℕ) → i < length bytes → byte ≡ get_or bytes i 0 → byte < 256 → number_of (bits_of (take (i + 1) bytes)) ≡ number_of (bits_of (take i bytes)) * 256 + byte
+pub one_more : (bytes : List ℕ) (byte i : ℕ) → i < length bytes → byte ≡ get_or bytes i 0 → byte < 256
+    → number_of (bits_of (take (i + 1) bytes)) ≡ number_of (bits_of (take i bytes)) * 256 + byte
 one_more bytes byte i lt is low =
     let next : take (i + 1) bytes ≡ take i bytes ++ (byte ∷ []) = take_more bytes i 0 lt ∙ ap (λ b. take i bytes ++ (b ∷ [])) (sym is) in
     let more : bits_of (take (i + 1) bytes) ≡ bits_of (take i bytes) ++ bits_of (byte ∷ []) = ap bits_of next ∙ bits_append (take i bytes) (byte ∷ []) in
@@ -124,7 +132,8 @@ one_more bytes byte i lt is low =
     let eight : length (bits_of (byte ∷ [])) ≡ 8 = count_of (byte ∷ []) in
     let whole = number_append (bits_of (take i bytes)) (bits_of (byte ∷ [])) in
     let power : 2 ^ length (bits_of (byte ∷ [])) ≡ 256 = ap (λ k. 2 ^ k) eight in
-    ap number_of more ∙ whole ∙ ap (λ k. number_of (bits_of (take i bytes)) * k + number_of (bits_of (byte ∷ []))) power ∙ ap (λ n. number_of (bits_of (take i bytes)) * 256 + n) single
+    ap number_of more ∙ whole ∙ ap (λ k. number_of (bits_of (take i bytes)) * k + number_of (bits_of (byte ∷ []))) power
+    ∙ ap (λ n. number_of (bits_of (take i bytes)) * 256 + n) single
 
 -- ---- numbers of nine bytes
 
@@ -150,7 +159,8 @@ pub room_for_one : (above count i value : ℕ) → (above + 1) * 256 ^ count ≤
 room_for_one above count i value room lt small =
     let more : 256 ^ (i + 1) ≤ 256 ^ count = pow-le-pow_right {n = 256} (lit< tt) {i = i + 1} {j = count} (omega arith) in
     let most : (above + 1) * 256 ^ (i + 1) ≤ (above + 1) * 256 ^ count = mul-le-mul_left (above + 1) more in
-    let next : (above + 1) * 256 ^ (i + 1) ≡ (above + 1) * 256 ^ i * 256 = ap (λ k. (above + 1) * k) (pow_more 256 i) ∙ sym (mul_assoc (above + 1) (256 ^ i) 256) in
+    let next : (above + 1) * 256 ^ (i + 1) ≡ (above + 1) * 256 ^ i * 256 =
+    ap (λ k. (above + 1) * k) (pow_more 256 i) ∙ sym (mul_assoc (above + 1) (256 ^ i) 256) in
     omega (arith, room, most, next, small)
 
 -- what was read so far, of bytes after another number
@@ -158,7 +168,8 @@ pub read_so_far : (above i value number : ℕ) → number < 256 ^ i → value �
 read_so_far above i value number small is = omega (arith, add-mul above 1 (256 ^ i), small, is)
 
 -- one more byte after those
-pub read_one : (above i value number byte next : ℕ) → value ≡ above * 256 ^ i + number → next ≡ number * 256 + byte → value * 256 + byte ≡ above * 256 ^ (i + 1) + next
+pub read_one : (above i value number byte next : ℕ) → value ≡ above * 256 ^ i + number → next ≡ number * 256 + byte
+    → value * 256 + byte ≡ above * 256 ^ (i + 1) + next
 read_one above i value number byte next is more =
     let power : above * 256 ^ (i + 1) ≡ above * 256 ^ i * 256 = ap (λ k. above * k) (pow_more 256 i) ∙ sym (mul_assoc above (256 ^ i) 256) in
     omega (arith, power, is, more)
@@ -173,7 +184,8 @@ room_for_back number front back small few =
 
 pub bytes_joined : (front back : List ℕ) → number_of (bits_of (front ++ back)) ≡ number_of (bits_of front) * 256 ^ length back + number_of (bits_of back)
 bytes_joined front back =
-    ap number_of (bits_append front back) ∙ number_append (bits_of front) (bits_of back) ∙ ap (λ k. number_of (bits_of front) * 2 ^ k + number_of (bits_of back)) (count_of back)
+    ap number_of (bits_append front back) ∙ number_append (bits_of front) (bits_of back)
+    ∙ ap (λ k. number_of (bits_of front) * 2 ^ k + number_of (bits_of back)) (count_of back)
     ∙ ap (λ k. number_of (bits_of front) * k + number_of (bits_of back)) (byte_power (length back))
 
 -- ---- a field
@@ -184,11 +196,15 @@ pub field_number : (from to : Place) (bytes : List ℕ) → byte_in from + lengt
 unfolding bits_from
 field_number from to bytes meets = by (cases_lt to.bits from.bits)
   where
-    by : (to.bits < from.bits) ⊎ (from.bits ≤ to.bits) → number_of (take (bits_between from to) (drop (bit_in from) (bits_of bytes))) ≡ number_of (bits_of bytes) / 2 ^ bits_left to % 2 ^ bits_between from to
-    by (inr le) = number_within (bits_of bytes) (bit_in from) (bits_between from to) (bits_left to) (are_of bytes) (count_of bytes ∙ bits_cut from to (length bytes) meets le)
+    by : (to.bits < from.bits) ⊎ (from.bits ≤ to.bits)
+        → number_of (take (bits_between from to) (drop (bit_in from) (bits_of bytes))) ≡ number_of (bits_of bytes) / 2 ^ bits_left to % 2 ^ bits_between from
+        to
+    by (inr le) = number_within (bits_of bytes) (bit_in from) (bits_between from to) (bits_left to) (are_of bytes)
+        (count_of bytes ∙ bits_cut from to (length bytes) meets le)
     by (inl lt) =
         let none : bits_between from to ≡ 0 = omega arith in
-        ap (λ n. number_of (take n (drop (bit_in from) (bits_of bytes)))) none ∙ sym (mod-one _) ∙ ap (λ n. number_of (bits_of bytes) / 2 ^ bits_left to % 2 ^ n) (sym none)
+        ap (λ n. number_of (take n (drop (bit_in from) (bits_of bytes)))) none ∙ sym (mod-one _)
+        ∙ ap (λ n. number_of (bits_of bytes) / 2 ^ bits_left to % 2 ^ n) (sym none)
 
 -- how many numbers so many bits write, as a shift
 pub count_unit : (n : ℕ) → n ≤ 72 → 1 * 2 ^ n % 340282366920938463463374607431768211456 ≡ 2 ^ n
@@ -207,13 +223,16 @@ number_one (x ∷ xs) (y ∷ ys) a b long is =
     let low = number_small xs a.1 in
     let low' : number_of ys < 2 ^ length xs = omega (arith, power, number_small ys b.1) in
     let same : x * 2 ^ length xs + number_of xs ≡ y * 2 ^ length xs + number_of ys = is ∙ ap (λ k. y * k + number_of ys) (sym power) in
-    let first : x ≡ y = sym (div-mul-add x (2 ^ length xs) (number_of xs) low) ∙ ap (λ n. n / 2 ^ length xs) same ∙ div-mul-add y (2 ^ length xs) (number_of ys) low' in
-    let rest : number_of xs ≡ number_of ys = sym (mod-mul-add x (2 ^ length xs) (number_of xs) low) ∙ ap (λ n. n % 2 ^ length xs) same ∙ mod-mul-add y (2 ^ length xs) (number_of ys) low' in
+    let first : x ≡ y = sym (div-mul-add x (2 ^ length xs) (number_of xs) low) ∙ ap (λ n. n / 2 ^ length xs) same
+    ∙ div-mul-add y (2 ^ length xs) (number_of ys) low' in
+    let rest : number_of xs ≡ number_of ys = sym (mod-mul-add x (2 ^ length xs) (number_of xs) low) ∙ ap (λ n. n % 2 ^ length xs) same
+    ∙ mod-mul-add y (2 ^ length xs) (number_of ys) low' in
     ap (λ z. z ∷ xs) first ∙ ap (λ zs. y ∷ zs) (number_one xs ys a.1 b.1 count rest)
 
 -- others in the place of some: the number that all write then
 pub number_replaced : (bits : List ℕ) (k width below n : ℕ) → AreBits bits → length bits ≡ k + width + below → n < 2 ^ width
-    → number_of (take k bits ++ (bits_of_number width n ++ drop (k + width) bits)) ≡ (number_of bits / 2 ^ (below + width) * 2 ^ width + n) * 2 ^ below + number_of bits % 2 ^ below
+    → number_of (take k bits ++ (bits_of_number width n ++ drop (k + width) bits)) ≡ (number_of bits / 2 ^ (below + width) * 2 ^ width + n) * 2 ^ below
+    + number_of bits % 2 ^ below
 number_replaced bits k width below n are long small =
     let above = take k bits in
     let rest = drop k bits in
@@ -223,14 +242,28 @@ number_replaced bits k width below n are long small =
     let rests : length rest ≡ below + width = omega (arith, length-drop k bits) in
     let low : number_of last < 2 ^ below = rw (← count) (number_small last (are_back front last (rw (take-append-drop (k + width) bits) are))) in
     let rest_low : number_of rest < 2 ^ (below + width) = rw (← rests) (number_small rest (are_back above rest (rw (take-append-drop k bits) are))) in
-    let whole : number_of bits ≡ number_of above * 2 ^ (below + width) + number_of rest = ap number_of (sym (take-append-drop k bits)) ∙ number_append above rest ∙ ap (λ m. number_of above * 2 ^ m + number_of rest) rests in
-    let whole' : number_of bits ≡ number_of front * 2 ^ below + number_of last = ap number_of (sym (take-append-drop (k + width) bits)) ∙ number_append front last ∙ ap (λ m. number_of front * 2 ^ m + number_of last) count in
-    let high : number_of bits / 2 ^ (below + width) ≡ number_of above = ap (λ m. m / 2 ^ (below + width)) whole ∙ div-mul-add (number_of above) (2 ^ (below + width)) (number_of rest) rest_low in
-    let lowest : number_of bits % 2 ^ below ≡ number_of last = ap (λ m. m % 2 ^ below) whole' ∙ mod-mul-add (number_of front) (2 ^ below) (number_of last) low in
+    let whole : number_of bits ≡ number_of above * 2 ^ (below + width) + number_of rest =
+    ap number_of (sym (take-append-drop k bits)) ∙ number_append above rest ∙ ap (λ m. number_of above * 2 ^ m + number_of rest) rests in
+    let whole' : number_of bits ≡ number_of front * 2 ^ below + number_of last = ap number_of (sym (take-append-drop (k + width) bits))
+    ∙ number_append front last ∙ ap (λ m. number_of front * 2 ^ m + number_of last) count in
+    let high : number_of bits / 2 ^ (below + width) ≡ number_of above =
+    ap (λ m. m / 2 ^ (below + width)) whole ∙ div-mul-add (number_of above) (2 ^ (below + width)) (number_of rest) rest_low in
+    let lowest : number_of bits % 2 ^ below ≡ number_of last =
+    ap (λ m. m % 2 ^ below) whole' ∙ mod-mul-add (number_of front) (2 ^ below) (number_of last) low in
     let new = bits_of_number width n in
     let wide : length (new ++ last) ≡ width + below = omega (arith, length-append new last, count_bits width n) in
-    let inner : number_of (new ++ last) ≡ n * 2 ^ below + number_of last = number_append new last ∙ ap (λ m. number_of new * 2 ^ m + number_of last) count ∙ ap (λ m. m * 2 ^ below + number_of last) (number_bits width n small) in
-    let outer : number_of above * 2 ^ (width + below) ≡ number_of above * 2 ^ width * 2 ^ below = ap (λ m. number_of above * m) (pow-add 2 width below) ∙ sym (mul_assoc (number_of above) (2 ^ width) (2 ^ below)) in
+    let inner : number_of (new ++ last) ≡ n * 2 ^ below + number_of last = number_append new last ∙ ap (λ m. number_of new * 2 ^ m + number_of last) count
+    ∙ ap (λ m. m * 2 ^ below + number_of last) (number_bits width n small) in
+    let outer : number_of above * 2 ^ (width + below) ≡ number_of above * 2 ^ width * 2 ^ below = ap (λ m. number_of above * m) (pow-add 2 width below)
+    ∙ sym (mul_assoc (number_of above) (2 ^ width) (2 ^ below)) in
     let made : number_of (above ++ (new ++ last)) ≡ (number_of above * 2 ^ width + n) * 2 ^ below + number_of last =
-    omega (arith, number_append above (new ++ last) ∙ ap (λ m. number_of above * 2 ^ m + number_of (new ++ last)) wide, inner, outer, add-mul (number_of above * 2 ^ width) n (2 ^ below)) in
-    made ∙ ap (λ m. (m * 2 ^ width + n) * 2 ^ below + number_of last) (sym high) ∙ ap (λ m. (number_of bits / 2 ^ (below + width) * 2 ^ width + n) * 2 ^ below + m) (sym lowest)
+    omega (
+      arith,
+      number_append above (new ++ last) ∙ ap (λ m. number_of above * 2 ^ m + number_of (new ++ last)) wide,
+      inner,
+      outer,
+      add-mul
+          (number_of above * 2 ^ width) n (2 ^ below),
+    ) in
+    made ∙ ap (λ m. (m * 2 ^ width + n) * 2 ^ below + number_of last) (sym high)
+    ∙ ap (λ m. (number_of bits / 2 ^ (below + width) * 2 ^ width + n) * 2 ^ below + m) (sym lowest)

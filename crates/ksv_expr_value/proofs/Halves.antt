@@ -32,14 +32,17 @@ short (x ∷ w) (y ∷ f) b h = ap (λ r. nat_eq x y && r) (short w f b (omega a
 pub split : (w f b : List ℕ) → length f ≤ length w → bytes_eq w (f ++ b) ≡ (bytes_eq (take (length f) w) f && bytes_eq (drop (length f) w) b)
 split w [] b h = refl
 split [] (y ∷ f) b h = absurd (omega arith)
-split (x ∷ w) (y ∷ f) b h = ap (λ r. nat_eq x y && r) (split w f b (omega arith)) ∙ sym (and_assoc (nat_eq x y) (bytes_eq (take (length f) w) f) (bytes_eq (drop (length f) w) b))
+split (x ∷ w) (y ∷ f) b h = ap (λ r. nat_eq x y && r) (split w f b (omega arith))
+    ∙ sym (and_assoc (nat_eq x y) (bytes_eq (take (length f) w) f) (bytes_eq (drop (length f) w) b))
 
 -- two fronts of which the first is no longer, and two backs
 pub halves : (a b c d : List ℕ) → length a ≤ length c → bytes_eq (a ++ b) (c ++ d) ≡ (bytes_eq a (take (length a) c) && bytes_eq b (drop (length a) c ++ d))
 halves [] b c d h = refl
 halves (x ∷ a) b [] d h = absurd (omega arith)
-halves (x ∷ a) b (y ∷ c) d h = ap (λ r. nat_eq x y && r) (halves a b c d (omega arith)) ∙ sym (and_assoc (nat_eq x y) (bytes_eq a (take (length a) c)) (bytes_eq b (drop (length a) c ++ d)))
+halves (x ∷ a) b (y ∷ c) d h = ap (λ r. nat_eq x y && r) (halves a b c d (omega arith))
+    ∙ sym (and_assoc (nat_eq x y) (bytes_eq a (take (length a) c)) (bytes_eq b (drop (length a) c ++ d)))
 
 -- the same where the second is no longer
-pub turned_halves : (a b c d : List ℕ) → length c ≤ length a → bytes_eq (a ++ b) (c ++ d) ≡ (bytes_eq c (take (length c) a) && bytes_eq d (drop (length c) a ++ b))
+pub turned_halves : (a b c d : List ℕ) → length c ≤ length a
+    → bytes_eq (a ++ b) (c ++ d) ≡ (bytes_eq c (take (length c) a) && bytes_eq d (drop (length c) a ++ b))
 turned_halves a b c d h = turned (a ++ b) (c ++ d) ∙ halves c d a b h

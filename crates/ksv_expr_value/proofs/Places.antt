@@ -30,7 +30,8 @@ unfolding byte_of further
 bits_below p n size h = omega arith
 
 -- the bits of some bytes: those before the first place, those between the two, and those after the second
-pub bits_cut : (from to : Place) (size : ℕ) → byte_in from + size ≡ byte_of to → from.bits ≤ to.bits → 8 * size ≡ bit_in from + bits_between from to + bits_left to
+pub bits_cut : (from to : Place) (size : ℕ) → byte_in from + size ≡ byte_of to → from.bits ≤ to.bits
+    → 8 * size ≡ bit_in from + bits_between from to + bits_left to
 unfolding byte_of byte_in bit_in bits_left
 bits_cut from to size e le = omega arith
 

@@ -2,7 +2,8 @@
 use Rattle.std.proofs.Common.{◌≡◌, ℕ, ◌<◌, ◌≤◌, ◌^◌, nat_lt, Bool, true, false, List, [], ◌∷◌, length, is_some, refl, sym, ap, ◌∙◌, arith}
 use Rattle.std.proofs.lemmas.Bool.{ltb-true}
 use Rattle.std.proofs.lemmas.Bool.Decides.{nat_tests}
-use Rattle.ksv_expr_value.specs.Trail.{Trail, all_but_last, child, parent, fits, step_fits, trail_of-true, trail_of-false, fits-more, fits-over, fits-wide, length-fits}
+use Rattle.ksv_expr_value.specs.Trail.{Trail, all_but_last, child, parent, fits, step_fits, trail_of-true, trail_of-false, fits-more, fits-over, fits-wide}
+use Rattle.ksv_expr_value.specs.Trail.{length-fits}
 use Rattle.ksv_expr_value.specs.declared.step.Step.{Step}
 use Rattle.ksv_expr_value.specs.declared.step.Step.TheVariants.{Name, Index}
 

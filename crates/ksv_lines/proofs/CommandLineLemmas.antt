@@ -1,10 +1,12 @@
 -- The command that is built up by an option and two arguments, and what its matches are.
-use Rattle.std.proofs.Common.{◌≡◌, ◌∙◌, ◌<◌, ℕ, zero, suc, List, [], ◌∷◌, true, false, true≢false, codes, ap, ap₂, refl, sym, Option, inl, inr, arith, slice_index, slice_index_or}
+use Rattle.std.proofs.Common.{◌≡◌, ◌∙◌, ◌<◌, ℕ, zero, suc, List, [], ◌∷◌, true, false, true≢false, codes, ap, ap₂, refl, sym, Option, inl, inr, arith}
+use Rattle.std.proofs.Common.{slice_index, slice_index_or}
 use Rattle.std.specs.List.{All}
 use Rattle.std.specs.Str.{bytes_eq}
 use Rattle.clap.specs.Built.{AddsInTurn, FitsChain, HasDistinctIds, IsPlainArg}
 use Rattle.clap.proofs.CallerLemmas.{required_in_chain}
-use Rattle.clap.specs.Words.{args_of, groups_of, AddsArg, HasMatchesOf, Text, app_of, fault_of, first_of, first_value, found_of, is_simple, is_simple_and_free, matches_of, new_app, with_rule}
+use Rattle.clap.specs.Words.{args_of, groups_of, AddsArg, HasMatchesOf, Text, app_of, fault_of, first_of, first_value, found_of, is_simple, is_simple_and_free}
+use Rattle.clap.specs.Words.{matches_of, new_app, with_rule}
 use Rattle.clap.specs.declared.builder.arg.Arg.{Arg}
 use Rattle.clap.specs.declared.builder.command.Command.{Command}
 use Rattle.clap.specs.declared.builder.command.Command.TheViews.{out-Command as fields_of}

@@ -40,7 +40,8 @@ longer_cons : {X : Type 0} (c : X) (part : List X) (parts : List (List X)) → H
 unfolding last_longer
 longer_cons c part parts h = rw h.is refl
 
-longer_onto_cons : {X : Type 0} (c x : X) (first : List X) (others : List (List X)) → onto_first x (last_longer c (first ∷ others)) ≡ last_longer c (onto_first x (first ∷ others))
+longer_onto_cons : {X : Type 0} (c x : X) (first : List X) (others : List (List X))
+    → onto_first x (last_longer c (first ∷ others)) ≡ last_longer c (onto_first x (first ∷ others))
 unfolding last_longer
 longer_onto_cons c x first [] = refl
 longer_onto_cons c x first (next ∷ parts) = refl

@@ -1,5 +1,6 @@
 -- What links and frames are once one slot changed.
-use Rattle.std.proofs.Common.{◌≡◌, ◌≢◌, ℕ, zero, suc, ◌+◌, ◌-◌, ◌<◌, ◌≤◌, true, false, List, [], ◌∷◌, ◌++◌, length, map, take, drop, reverse, Option, Some, None, is_some, refl, sym, ◌∙◌, ap, subst, Result, slice_get, slice_set, ◌⊎◌, inl, inr, arith, length-append}
+use Rattle.std.proofs.Common.{◌≡◌, ◌≢◌, ℕ, zero, suc, ◌+◌, ◌-◌, ◌<◌, ◌≤◌, true, false, List, [], ◌∷◌, ◌++◌, length, map, take, drop, reverse, Option, Some}
+use Rattle.std.proofs.Common.{None, is_some, refl, sym, ◌∙◌, ap, subst, Result, slice_get, slice_set, ◌⊎◌, inl, inr, arith, length-append}
 use Rattle.std.specs.Option.{option_map}
 use Rattle.std.specs.List.{AllByRecursion}
 use Rattle.std.proofs.lemmas.List.{length-set, get_or-set_same, get_or-set_other, take-append-le, drop-append-le, length-take-le, reverse-append}
@@ -16,11 +17,13 @@ use Rattle.ksv_memo.specs.declared.frames.Frame.{Frame}
 use Rattle.ksv_memo.specs.declared.frames.Frames.{Frames}
 use Rattle.ksv_memo_rules.specs.Slots.{answer_in, answer_of, answer_at, answers_at, with_first}
 use Rattle.ksv_memo.specs.Open.{Open, newly, heard}
-use Rattle.ksv_memo.specs.Layout.{IsOneOf, AllDiffer, slots_of, node_at, nodes_at, IsOpen, IsKept, entry_with, entry_at, entries_at, entries_of, open_before, opens_in, opens_of, AreNested, AreLinked, AreFrames}
+use Rattle.ksv_memo.specs.Layout.{IsOneOf, AllDiffer, slots_of, node_at, nodes_at, IsOpen, IsKept, entry_with, entry_at, entries_at, entries_of, open_before}
+use Rattle.ksv_memo.specs.Layout.{opens_in, opens_of, AreNested, AreLinked, AreFrames}
 use Rattle.ksv_memo.specs.Moves.{with_slot, IsVacant, Heard, Popped, Framed}
 use Rattle.ksv_memo_rules.proofs.Lists.{All-map, All-both, All-++}
 use Rattle.ksv_memo.proofs.Finding.{slot_there, node_there, answer_there}
-use Rattle.ksv_memo.proofs.Laying.{++-nil, All-take, same_or, nodes_at-append, answers_at-append, Keeps, IsUsed, HasNode, slot_has_node, stays_kept, same_nodes, same_entry, same_opens, no_entry_at, entries_at-append, entries_at-same, All-numbers, numbers-split}
+use Rattle.ksv_memo.proofs.Laying.{++-nil, All-take, same_or, nodes_at-append, answers_at-append, Keeps, IsUsed, HasNode, slot_has_node, stays_kept, same_nodes}
+use Rattle.ksv_memo.proofs.Laying.{same_entry, same_opens, no_entry_at, entries_at-append, entries_at-same, All-numbers, numbers-split}
 
 -- an entry was put somewhere among others
 pub record IsPut {X : Type 0} (x : X) (before after : List X) : Type 0 where
@@ -112,7 +115,8 @@ module _ {N V F : Type 0} where
       slot = slot_there ps i vacant.0 emptied vacant.1
 
       unused : IsUsed ps i → ⊥
-      unused (inl kept) = let none : answer_at (slots_of ps) i ≡ None = answer_there ps i vacant.0 emptied vacant.1 in let no : is_some (answer_at (slots_of ps) i) ≡ false = ap is_some none in cc
+      unused (inl kept) = let none : answer_at (slots_of ps) i ≡ None =
+          answer_there ps i vacant.0 emptied vacant.1 in let no : is_some (answer_at (slots_of ps) i) ≡ false = ap is_some none in cc
       unused (inr waits) = let now : Some emptied ≡ Some opened = sym slot ∙ waits in cc
 
   length_set : (ps : List (N × Slot V F)) (i : ℕ) (s : Slot V F) → length (with_slot ps i s) ≡ length ps
@@ -138,7 +142,8 @@ module _ {N V F : Type 0} where
     }
       where
         by_node : (j : ℕ) (m : N) → IsUsed ps j → node_at ps j ≡ Some m → (j ≡ i) ⊎ (j ≢ i) → node_at qs j ≡ Some m
-        by_node j m used e (inl same) = ap (node_at qs) same ∙ node_there qs i n s changes.here ∙ ap (λ x. Some x) (sym (changes.before m (subst (IsUsed ps) same used) (ap (node_at ps) (sym same) ∙ e)))
+        by_node j m used e (inl same) = ap (node_at qs) same ∙ node_there qs i n s changes.here
+            ∙ ap (λ x. Some x) (sym (changes.before m (subst (IsUsed ps) same used) (ap (node_at ps) (sym same) ∙ e)))
         by_node j m used e (inr apart) = ap (option_map (λ p. p.0)) (changes.other j apart) ∙ e
 
         by_answer : (j : ℕ) (a : Result V F) → answer_at (slots_of ps) j ≡ Some a → (j ≡ i) ⊎ (j ≢ i) → answer_at (slots_of qs) j ≡ Some a
@@ -151,7 +156,8 @@ module _ {N V F : Type 0} where
     stays = keeps ps qs i n s changes none
 
     -- an entry of another slot is the same
-    other_entry : (l m : Linked) → AreLinked ps l → (j : ℕ) → j ≢ i → row m.asked j ≡ row l.asked j → row m.uses j ≡ row l.uses j → entry_at qs m j ≡ entry_at ps l j
+    other_entry : (l m : Linked) → AreLinked ps l → (j : ℕ) → j ≢ i → row m.asked j ≡ row l.asked j → row m.uses j ≡ row l.uses j
+        → entry_at qs m j ≡ entry_at ps l j
     other_entry l m h j apart asked uses = by (answer_at (slots_of ps) j) refl
       where
         by : (o : Option (Result V F)) → answer_at (slots_of ps) j ≡ o → entry_at qs m j ≡ entry_at ps l j
@@ -175,15 +181,18 @@ module _ {N V F : Type 0} where
         by j (inr apart) = h.kept j ∙ ap is_some (sym (other_answer ps qs i n s changes j apart))
 
         was : (j : ℕ) → IsKept qs j → (j ≡ i) ⊎ (j ≢ i) → IsKept ps j
-        was j k (inl same) = let no : is_some (answer_at (slots_of qs) j) ≡ false = ap (λ x. is_some (answer_at (slots_of qs) x)) same ∙ ap is_some now in absurd (cc)
+        was j k (inl same) = let no : is_some (answer_at (slots_of qs) j) ≡ false = ap (λ x. is_some (answer_at (slots_of qs) x)) same
+            ∙ ap is_some now in absurd (cc)
         was j k (inr apart) = ap is_some (sym (other_answer ps qs i n s changes j apart)) ∙ k
 
     same_at : (l : Linked) → AreLinked ps l → answer_in s ≡ None → (j : ℕ) → (j ≡ i) ⊎ (j ≢ i) → entry_at qs l j ≡ entry_at ps l j
-    same_at l h empty j (inl same) = no_entry_at qs l j (ap (answer_at (slots_of qs)) same ∙ answer_there qs i n s changes.here ∙ empty) ∙ sym (no_entry_at ps l j (ap (answer_at (slots_of ps)) same ∙ none))
+    same_at l h empty j (inl same) = no_entry_at qs l j (ap (answer_at (slots_of qs)) same ∙ answer_there qs i n s changes.here ∙ empty)
+        ∙ sym (no_entry_at ps l j (ap (answer_at (slots_of ps)) same ∙ none))
     same_at l h empty j (inr apart) = other_entry l l h j apart refl refl
 
     -- the same nodes are kept
-    pub entries-stay : answer_in s ≡ None → (l : Linked) → AreLinked ps l → (more : ℕ) → length qs ≡ length ps + more → AllByRecursion (λ j. entry_at qs l j ≡ None) (numbers_from (length ps) more) → entries_of qs l ≡ entries_of ps l
+    pub entries-stay : answer_in s ≡ None → (l : Linked) → AreLinked ps l → (more : ℕ) → length qs ≡ length ps + more
+        → AllByRecursion (λ j. entry_at qs l j ≡ None) (numbers_from (length ps) more) → entries_of qs l ≡ entries_of ps l
     entries-stay empty l h more count new =
         ap (λ k. entries_at qs l (numbers_from 0 k)) count
         ∙ ap (entries_at qs l) (numbers-split 0 (length ps) more)
@@ -191,14 +200,16 @@ module _ {N V F : Type 0} where
         ∙ (let e : 0 + length ps ≡ length ps = omega arith in ap (λ k. entries_at qs l (numbers_from 0 (length ps)) ++ entries_at qs l (numbers_from k more)) e)
         ∙ ap (λ xs. entries_at qs l (numbers_from 0 (length ps)) ++ xs) (nothing (numbers_from (length ps) more) new)
         ∙ ++-nil (entries_at qs l (numbers_from 0 (length ps)))
-        ∙ entries_at-same ps qs l l (numbers_from 0 (length ps)) (All-numbers (λ j. entry_at qs l j ≡ entry_at ps l j) 0 (length ps) (λ j le lt. same_at l h empty j (same_or j i)))
+        ∙ entries_at-same ps qs l l (numbers_from 0 (length ps))
+        (All-numbers (λ j. entry_at qs l j ≡ entry_at ps l j) 0 (length ps) (λ j le lt. same_at l h empty j (same_or j i)))
       where
         nothing : (is : List ℕ) → AllByRecursion (λ j. entry_at qs l j ≡ None) is → entries_at qs l is ≡ []
         nothing [] k = refl
         nothing (j ∷ is) k = ap (λ o. with_first o (entries_at qs l is)) k.0 ∙ nothing is k.1
 
     -- a slot more is kept
-    pub links-keep : (a : Result V F) → answer_in s ≡ Some a → (l m : Linked) (slots : List ℕ) (once : List Use) → AreLinked ps l → AllByRecursion (IsKept ps) slots → i < length l.kept → i < length l.asked → length qs ≤ length l.kept → LinksKeep l m i slots once → AreLinked qs m
+    pub links-keep : (a : Result V F) → answer_in s ≡ Some a → (l m : Linked) (slots : List ℕ) (once : List Use) → AreLinked ps l
+        → AllByRecursion (IsKept ps) slots → i < length l.kept → i < length l.asked → length qs ≤ length l.kept → LinksKeep l m i slots once → AreLinked qs m
     links-keep a is l m slots once h all lt in_asked le k = record {
       kept = λ j. by j (same_or j i);
       asked = λ j q. rows j q (same_or j i);
@@ -210,39 +221,55 @@ module _ {N V F : Type 0} where
         here = answer_there qs i n s changes.here ∙ is
 
         by : (j : ℕ) → (j ≡ i) ⊎ (j ≢ i) → is_kept m.kept j ≡ is_some (answer_at (slots_of qs) j)
-        by j (inl same) = ap (is_kept m.kept) same ∙ ap (λ ks. is_kept ks i) k.kept ∙ get_or-set_same l.kept i true false lt ∙ sym (ap (λ x. is_some (answer_at (slots_of qs) x)) same ∙ ap is_some here)
-        by j (inr apart) = ap (λ ks. is_kept ks j) k.kept ∙ get_or-set_other l.kept i j true false apart ∙ h.kept j ∙ ap is_some (sym (other_answer ps qs i n s changes j apart))
+        by j (inl same) = ap (is_kept m.kept) same ∙ ap (λ ks. is_kept ks i) k.kept ∙ get_or-set_same l.kept i true false lt
+            ∙ sym (ap (λ x. is_some (answer_at (slots_of qs) x)) same ∙ ap is_some here)
+        by j (inr apart) = ap (λ ks. is_kept ks j) k.kept ∙ get_or-set_other l.kept i j true false apart ∙ h.kept j
+            ∙ ap is_some (sym (other_answer ps qs i n s changes j apart))
 
         rows : (j : ℕ) → IsKept qs j → (j ≡ i) ⊎ (j ≢ i) → AllByRecursion (IsKept qs) (row m.asked j)
-        rows j q (inl same) = subst (AllByRecursion (IsKept qs)) (sym (ap (row m.asked) same ∙ ap (λ rs. row rs i) k.asked ∙ get_or-set_same l.asked i slots [] in_asked)) (All-map (stays_kept ps qs stays) slots all)
-        rows j q (inr apart) = subst (AllByRecursion (IsKept qs)) (sym (ap (λ rs. row rs j) k.asked ∙ get_or-set_other l.asked i j slots [] apart)) (All-map (stays_kept ps qs stays) (row l.asked j) (h.asked j (ap is_some (sym (other_answer ps qs i n s changes j apart)) ∙ q)))
+        rows j q (inl same) = subst (AllByRecursion (IsKept qs))
+            (sym (ap (row m.asked) same ∙ ap (λ rs. row rs i) k.asked ∙ get_or-set_same l.asked i slots [] in_asked))
+            (All-map (stays_kept ps qs stays) slots all)
+        rows j q (inr apart) = subst (AllByRecursion (IsKept qs)) (sym (ap (λ rs. row rs j) k.asked ∙ get_or-set_other l.asked i j slots [] apart))
+            (All-map (stays_kept ps qs stays) (row l.asked j) (h.asked j (ap is_some (sym (other_answer ps qs i n s changes j apart)) ∙ q)))
 
     -- the kept nodes are one more, in its place
-    pub entries-keep : (a : Result V F) → answer_in s ≡ Some a → (l m : Linked) (slots : List ℕ) (once : List Use) → AreLinked ps l → AllByRecursion (IsKept ps) slots → i < length l.asked → i < length l.uses → i < length ps → length qs ≡ length ps → LinksKeep l m i slots once
+    pub entries-keep : (a : Result V F) → answer_in s ≡ Some a → (l m : Linked) (slots : List ℕ) (once : List Use) → AreLinked ps l
+        → AllByRecursion (IsKept ps) slots → i < length l.asked → i < length l.uses → i < length ps → length qs ≡ length ps → LinksKeep l m i slots once
         → IsPut (record { node = n; answer = a; asked = nodes_at ps slots; uses = once }) (entries_of ps l) (entries_of qs m)
     entries-keep a is l m slots once h all in_asked in_uses lt count k =
         let rest : ℕ = length ps - (i + 1) in
         let e : length ps ≡ i + suc rest = omega arith in
         let before : List ℕ = numbers_from 0 i in
         let after : List ℕ = numbers_from (i + 1) rest in
-        let cut : numbers_from 0 (length ps) ≡ before ++ i ∷ after = ap (numbers_from 0) e ∙ numbers-split 0 i (suc rest) ∙ (let z : 0 + i ≡ i = omega arith in ap (λ x. before ++ numbers_from x (suc rest)) z) in
-        let same : (j : ℕ) → j ≢ i → entry_at qs m j ≡ entry_at ps l j = λ j apart. other_entry l m h j apart (ap (λ rs. row rs j) k.asked ∙ get_or-set_other l.asked i j slots [] apart) (ap (λ rs. row rs j) k.uses ∙ get_or-set_other l.uses i j once [] apart) in
+        let cut : numbers_from 0 (length ps) ≡ before ++ i ∷ after = ap (numbers_from 0) e ∙ numbers-split 0 i (suc rest)
+        ∙ (let z : 0 + i ≡ i = omega arith in ap (λ x. before ++ numbers_from x (suc rest)) z) in
+        let same : (j : ℕ) → j ≢ i → entry_at qs m j ≡ entry_at ps l j =
+        λ j apart. other_entry l m h j apart (ap (λ rs. row rs j) k.asked ∙ get_or-set_other l.asked i j slots [] apart)
+        (ap (λ rs. row rs j) k.uses ∙ get_or-set_other l.uses i j once [] apart) in
         let now : entry_at qs m i ≡ Some (record { node = n; answer = a; asked = nodes_at ps slots; uses = once }) =
-        (λ j. entry_with (node_there qs i n s changes.here j) ((answer_there qs i n s changes.here ∙ is) j) (nodes_at qs ((ap (λ rs. row rs i) k.asked ∙ get_or-set_same l.asked i slots [] in_asked) j)) ((ap (λ rs. row rs i) k.uses ∙ get_or-set_same l.uses i once [] in_uses) j))
+        (λ j. entry_with (node_there qs i n s changes.here j) ((answer_there qs i n s changes.here ∙ is) j)
+        (nodes_at qs ((ap (λ rs. row rs i) k.asked ∙ get_or-set_same l.asked i slots [] in_asked) j))
+        ((ap (λ rs. row rs i) k.uses ∙ get_or-set_same l.uses i once [] in_uses) j))
         ∙ ap (λ ns. Some (record { node = n; answer = a; asked = ns; uses = once })) (same_nodes ps qs stays slots all) in
         record {
           front = entries_at ps l before;
           back = entries_at ps l after;
-          was = ap (entries_at ps l) cut ∙ entries_at-append ps l before (i ∷ after) ∙ ap (λ o. entries_at ps l before ++ with_first o (entries_at ps l after)) (no_entry_at ps l i none);
+          was = ap (entries_at ps l) cut ∙ entries_at-append ps l before (i ∷ after)
+              ∙ ap (λ o. entries_at ps l before ++ with_first o (entries_at ps l after)) (no_entry_at ps l i none);
           now = ap (λ x. entries_at qs m (numbers_from 0 x)) count ∙ ap (entries_at qs m) cut ∙ entries_at-append qs m before (i ∷ after)
-              ∙ (λ j. entries_at-same ps qs l m before (All-numbers (λ x. entry_at qs m x ≡ entry_at ps l x) 0 i (λ x le lt. same x (omega arith))) j ++ with_first (now j) (entries_at-same ps qs l m after (All-numbers (λ x. entry_at qs m x ≡ entry_at ps l x) (i + 1) rest (λ x le lt. same x (omega arith))) j));
+              ∙ (λ j. entries_at-same ps qs l m before (All-numbers (λ x. entry_at qs m x ≡ entry_at ps l x) 0 i (λ x le lt. same x (omega arith))) j
+              ++ with_first (now j)
+              (entries_at-same ps qs l m after (All-numbers (λ x. entry_at qs m x ≡ entry_at ps l x) (i + 1) rest (λ x le lt. same x (omega arith)))
+              j));
         }
 
   -- ---- frames
   HasNode-opened : (ps : List (N × Slot V F)) (fs : List (Frame N)) → AllByRecursion (λ f. IsOpen ps f.slot) fs → AllByRecursion (λ f. HasNode ps f.slot) fs
   HasNode-opened ps fs h = All-map (λ f o. slot_has_node ps f.slot opened o) fs h
 
-  pub frames_nodes : (ps : List (N × Slot V F)) (frames : Frames N) → AreFrames ps frames → AllByRecursion (λ f. HasNode ps f.slot) (reverse frames.frames.items)
+  pub frames_nodes : (ps : List (N × Slot V F)) (frames : Frames N) → AreFrames ps frames
+      → AllByRecursion (λ f. HasNode ps f.slot) (reverse frames.frames.items)
   frames_nodes ps frames h = HasNode-opened ps (reverse frames.frames.items) h.waits
 
   module _ (ps qs : List (N × Slot V F)) (i : ℕ) (n : N) (s : Slot V F) (changes : ChangesAt ps qs i n s) (none : answer_at (slots_of ps) i ≡ None) where
@@ -272,17 +299,29 @@ module _ {N V F : Type 0} where
         let member : (j : ℕ) → IsOpen qs j → IsOneOf (map (λ f. f.slot) (f ∷ fs)) j = λ j o. by_one fs f slot h.all j (open_or j o) in
         record {
           waits = subst (AllByRecursion (λ f. IsOpen qs f.slot)) (sym now) (here, All-map (λ f o. stays_open f.slot (apart f.slot o) o) fs h.waits);
-          nodes = subst (AllByRecursion (λ f. node_at qs f.slot ≡ Some f.node)) (sym now) (named, All-both (λ (g : Frame N). IsOpen ps g.slot) (λ (g : Frame N). node_at ps g.slot ≡ Some g.node) (λ (g : Frame N). node_at qs g.slot ≡ Some g.node) (λ g o e. other_node g.slot (apart g.slot o) ∙ e) fs h.waits h.nodes);
+          nodes = subst (AllByRecursion (λ f. node_at qs f.slot ≡ Some f.node)) (sym now) (
+            named,
+            All-both (λ (g : Frame N). IsOpen ps g.slot) (λ (g : Frame N). node_at ps g.slot ≡ Some g.node)
+                (λ (g : Frame N). node_at qs g.slot ≡ Some g.node) (λ g o e. other_node g.slot (apart g.slot o) ∙ e) fs h.waits h.nodes,
+          );
           all = λ j o. subst (λ xs. IsOneOf (map (λ (f : Frame N). f.slot) xs) j) (sym now) (member j o);
-          once = subst (λ xs. AllDiffer (map (λ (f : Frame N). f.slot) xs)) (sym now) (map_all (λ (f : Frame N). f.slot) (λ j. f.slot ≢ j) fs (All-map (λ g o same. apart g.slot o (sym same ∙ slot)) fs h.waits), h.once);
+          once = subst (λ xs. AllDiffer (map (λ (f : Frame N). f.slot) xs)) (sym now)
+              (map_all (λ (f : Frame N). f.slot) (λ j. f.slot ≢ j) fs (All-map (λ g o same. apart g.slot o (sym same ∙ slot)) fs h.waits), h.once);
           asked = subst (AllByRecursion (IsKept qs)) (sym framed.asked) (All-map (stays_kept ps qs (keeps ps qs i n s changes none)) old.asked.items h.asked);
           nested = subst (λ xs. AreNested xs (length new.asked.items) (length new.uses.items)) (sym now)
-              (let a : f.asked ≤ length new.asked.items = (let e : f.asked ≡ length new.asked.items = framed.is_new.asked ∙ ap length (sym framed.asked) in omega arith) in
-              let u : f.uses ≤ length new.uses.items = (let e : f.uses ≡ length new.uses.items = framed.is_new.uses ∙ ap length (sym framed.uses) in omega arith) in
-              (a, u, subst (λ k. AreNested fs k f.uses) (sym framed.is_new.asked) (subst (AreNested fs (length old.asked.items)) (sym framed.is_new.uses) h.nested)));
+              (let a : f.asked ≤ length new.asked.items =
+              (let e : f.asked ≡ length new.asked.items = framed.is_new.asked ∙ ap length (sym framed.asked) in omega arith) in
+              let u : f.uses ≤ length new.uses.items =
+              (let e : f.uses ≡ length new.uses.items = framed.is_new.uses ∙ ap length (sym framed.uses) in omega arith) in (
+                a,
+                u,
+                subst (λ k. AreNested fs k f.uses) (sym framed.is_new.asked)
+                    (subst (AreNested fs (length old.asked.items)) (sym framed.is_new.uses) h.nested),
+              ));
         }
       where
-        by_one : (fs : List (Frame N)) (f : Frame N) → f.slot ≡ i → ((j : ℕ) → IsOpen ps j → IsOneOf (map (λ f. f.slot) fs) j) → (j : ℕ) → (j ≡ i) ⊎ IsOpen ps j → IsOneOf (map (λ f. f.slot) (f ∷ fs)) j
+        by_one : (fs : List (Frame N)) (f : Frame N) → f.slot ≡ i → ((j : ℕ) → IsOpen ps j → IsOneOf (map (λ f. f.slot) fs) j) → (j : ℕ) → (j ≡ i) ⊎ IsOpen ps j
+            → IsOneOf (map (λ f. f.slot) (f ∷ fs)) j
         by_one fs f slot all j (inl same) = inl (slot ∙ sym same)
         by_one fs f slot all j (inr o) = inr (all j o)
 
@@ -306,19 +345,27 @@ module _ {N V F : Type 0} where
         let fs : List (Frame N) = reverse new.frames.items in
         let was : reverse old.frames.items ≡ f ∷ fs = ap reverse popped.frames ∙ reverse-append new.frames.items (f ∷ []) in
         let waits : AllByRecursion (λ f. IsOpen ps f.slot) (f ∷ fs) = subst (AllByRecursion (λ f. IsOpen ps f.slot)) was h.waits in
-        let nodes : AllByRecursion (λ f. node_at ps f.slot ≡ Some f.node) (f ∷ fs) = subst (AllByRecursion (λ f. node_at ps f.slot ≡ Some f.node)) was h.nodes in
+        let nodes : AllByRecursion (λ f. node_at ps f.slot ≡ Some f.node) (f ∷ fs) =
+        subst (AllByRecursion (λ f. node_at ps f.slot ≡ Some f.node)) was h.nodes in
         let once : AllDiffer (map (λ f. f.slot) (f ∷ fs)) = subst (λ xs. AllDiffer (map (λ (f : Frame N). f.slot) xs)) was h.once in
-        let all : (j : ℕ) → IsOpen ps j → IsOneOf (map (λ f. f.slot) (f ∷ fs)) j = λ j o. subst (λ xs. IsOneOf (map (λ (f : Frame N). f.slot) xs) j) was (h.all j o) in
-        let nested : AreNested (f ∷ fs) (length old.asked.items) (length old.uses.items) = subst (λ xs. AreNested xs (length old.asked.items) (length old.uses.items)) was h.nested in
+        let all : (j : ℕ) → IsOpen ps j → IsOneOf (map (λ f. f.slot) (f ∷ fs)) j =
+        λ j o. subst (λ xs. IsOneOf (map (λ (f : Frame N). f.slot) xs) j) was (h.all j o) in
+        let nested : AreNested (f ∷ fs) (length old.asked.items) (length old.uses.items) =
+        subst (λ xs. AreNested xs (length old.asked.items) (length old.uses.items)) was h.nested in
         let asked : length new.asked.items ≡ f.asked = ap length popped.asked ∙ length-take-le f.asked old.asked.items nested.0 in
         let uses : length new.uses.items ≡ f.uses = ap length popped.uses ∙ length-take-le f.uses old.uses.items nested.1 in
-        let not_here : (j : ℕ) → IsOpen qs j → j ≢ i = λ j o same. closed (some_same s opened (sym (slot_there qs i n s changes.here) ∙ ap (λ k. slice_get (slots_of qs) k) (sym same) ∙ o)) in
+        let not_here : (j : ℕ) → IsOpen qs j → j ≢ i = λ j o same. closed
+        (some_same s opened (sym (slot_there qs i n s changes.here) ∙ ap (λ k. slice_get (slots_of qs) k) (sym same) ∙ o)) in
         record {
-          waits = All-both (λ (g : Frame N). IsOpen ps g.slot) (λ (g : Frame N). f.slot ≢ g.slot) (λ (g : Frame N). IsOpen qs g.slot) (λ g o apart. stays_open g.slot (λ same. apart (slot ∙ sym same)) o) fs waits.1 (all_map (λ (g : Frame N). g.slot) (λ j. f.slot ≢ j) fs once.0);
-          nodes = All-both (λ (g : Frame N). node_at ps g.slot ≡ Some g.node) (λ (g : Frame N). f.slot ≢ g.slot) (λ (g : Frame N). node_at qs g.slot ≡ Some g.node) (λ g e apart. other_node g.slot (λ same. apart (slot ∙ sym same)) ∙ e) fs nodes.1 (all_map (λ (g : Frame N). g.slot) (λ j. f.slot ≢ j) fs once.0);
+          waits = All-both (λ (g : Frame N). IsOpen ps g.slot) (λ (g : Frame N). f.slot ≢ g.slot) (λ (g : Frame N). IsOpen qs g.slot)
+              (λ g o apart. stays_open g.slot (λ same. apart (slot ∙ sym same)) o) fs waits.1 (all_map (λ (g : Frame N). g.slot) (λ j. f.slot ≢ j) fs once.0);
+          nodes = All-both (λ (g : Frame N). node_at ps g.slot ≡ Some g.node) (λ (g : Frame N). f.slot ≢ g.slot)
+              (λ (g : Frame N). node_at qs g.slot ≡ Some g.node) (λ g e apart. other_node g.slot (λ same. apart (slot ∙ sym same)) ∙ e) fs nodes.1
+              (all_map (λ (g : Frame N). g.slot) (λ j. f.slot ≢ j) fs once.0);
           all = λ j o. by_one fs f slot j (not_here j o) (open_or j o) all;
           once = once.1;
-          asked = subst (AllByRecursion (IsKept qs)) (sym popped.asked) (All-take (IsKept qs) f.asked old.asked.items (All-map (stays_kept ps qs (keeps ps qs i n s changes none)) old.asked.items h.asked));
+          asked = subst (AllByRecursion (IsKept qs)) (sym popped.asked)
+              (All-take (IsKept qs) f.asked old.asked.items (All-map (stays_kept ps qs (keeps ps qs i n s changes none)) old.asked.items h.asked));
           nested = subst (λ k. AreNested fs k (length new.uses.items)) (sym asked) (subst (AreNested fs f.asked) (sym uses) nested.2);
         }
       where
@@ -329,18 +376,21 @@ module _ {N V F : Type 0} where
         tail_of fs f slot j apart (inl e) = absurd (apart (sym e ∙ slot))
         tail_of fs f slot j apart (inr m) = m
 
-        by_one : (fs : List (Frame N)) (f : Frame N) → f.slot ≡ i → (j : ℕ) → j ≢ i → (j ≡ i) ⊎ IsOpen ps j → ((j : ℕ) → IsOpen ps j → IsOneOf (map (λ f. f.slot) (f ∷ fs)) j) → IsOneOf (map (λ f. f.slot) fs) j
+        by_one : (fs : List (Frame N)) (f : Frame N) → f.slot ≡ i → (j : ℕ) → j ≢ i → (j ≡ i) ⊎ IsOpen ps j
+            → ((j : ℕ) → IsOpen ps j → IsOneOf (map (λ f. f.slot) (f ∷ fs)) j) → IsOneOf (map (λ f. f.slot) fs) j
         by_one fs f slot j apart (inl same) all = absurd (apart same)
         by_one fs f slot j apart (inr o) all = tail_of fs f slot j apart (all j o)
 
     -- the others are the same
-    pub opens-pop : (f : Frame N) (old new : Frames N) → AreFrames ps old → Popped f old new → opens_of qs new ≡ opens_in ps (reverse new.frames.items) (take f.asked old.asked.items) (take f.uses old.uses.items)
+    pub opens-pop : (f : Frame N) (old new : Frames N) → AreFrames ps old → Popped f old new
+        → opens_of qs new ≡ opens_in ps (reverse new.frames.items) (take f.asked old.asked.items) (take f.uses old.uses.items)
     opens-pop f old new h popped =
         let fs : List (Frame N) = reverse new.frames.items in
         let was : reverse old.frames.items ≡ f ∷ fs = ap reverse popped.frames ∙ reverse-append new.frames.items (f ∷ []) in
         let nodes : AllByRecursion (λ f. IsOpen ps f.slot) (f ∷ fs) = subst (AllByRecursion (λ f. IsOpen ps f.slot)) was h.waits in
         (λ j. opens_in qs fs (popped.asked j) (popped.uses j))
-        ∙ same_opens ps qs (keeps ps qs i n s changes none) fs (take f.asked old.asked.items) (take f.uses old.uses.items) nodes.1 (All-take (IsKept ps) f.asked old.asked.items h.asked)
+        ∙ same_opens ps qs (keeps ps qs i n s changes none) fs (take f.asked old.asked.items) (take f.uses old.uses.items) nodes.1
+        (All-take (IsKept ps) f.asked old.asked.items h.asked)
 
   -- ---- the last open node
   -- it gets a reply more
@@ -354,24 +404,33 @@ module _ {N V F : Type 0} where
         all = λ k o. subst (λ xs. IsOneOf (map (λ (f : Frame N). f.slot) xs) k) (sym now) (h.all k o);
         once = subst (λ xs. AllDiffer (map (λ (f : Frame N). f.slot) xs)) (sym now) h.once;
         asked = subst (AllByRecursion (IsKept ps)) (sym heard_it.asked) (All-++ (IsKept ps) old.asked.items (j ∷ []) h.asked (kept, tt));
-        nested = subst (λ xs. AreNested xs (length new.asked.items) (length new.uses.items)) (sym now) (grown (reverse old.frames.items) _ _ _ _ (omega arith) (let same : length new.uses.items ≡ length old.uses.items = ap length heard_it.uses in omega arith) h.nested);
+        nested = subst (λ xs. AreNested xs (length new.asked.items) (length new.uses.items)) (sym now)
+            (grown (reverse old.frames.items) _ _ _ _ (omega arith)
+            (let same : length new.uses.items ≡ length old.uses.items = ap length heard_it.uses in omega arith) h.nested);
       }
 
-  pub opens-hear : (ps : List (N × Slot V F)) (j : ℕ) (m : N) (a : Result V F) → node_at ps j ≡ Some m → answer_at (slots_of ps) j ≡ Some a → (old new : Frames N) → AreFrames ps old → Heard j old new → opens_of ps new ≡ heard m a (opens_of ps old)
+  pub opens-hear : (ps : List (N × Slot V F)) (j : ℕ) (m : N) (a : Result V F) → node_at ps j ≡ Some m → answer_at (slots_of ps) j ≡ Some a
+      → (old new : Frames N) → AreFrames ps old → Heard j old new → opens_of ps new ≡ heard m a (opens_of ps old)
   opens-hear ps j m a node answer old new h heard_it =
       (λ k. opens_in ps (reverse (heard_it.frames k)) (heard_it.asked k) (heard_it.uses k))
       ∙ by (reverse old.frames.items) old.asked.items old.uses.items (frames_nodes ps old h) h.nested
     where
-      of_node : (o : Option N) → is_some o ≡ true → (replies : List (Result V F)) (asked : List N) (uses : List Use) (rest : List (Open N (Result V F))) → open_before o (replies ++ a ∷ []) (asked ++ m ∷ []) uses rest ≡ heard m a (open_before o replies asked uses rest)
+      of_node : (o : Option N) → is_some o ≡ true → (replies : List (Result V F)) (asked : List N) (uses : List Use) (rest : List (Open N (Result V F)))
+          → open_before o (replies ++ a ∷ []) (asked ++ m ∷ []) uses rest ≡ heard m a (open_before o replies asked uses rest)
       of_node None e replies asked uses rest = absurd (cc)
       of_node (Some n) e replies asked uses rest = refl
 
-      by : (fs : List (Frame N)) (asked : List ℕ) (uses : List Use) → AllByRecursion (λ f. HasNode ps f.slot) fs → AreNested fs (length asked) (length uses) → opens_in ps fs (asked ++ j ∷ []) uses ≡ heard m a (opens_in ps fs asked uses)
+      by : (fs : List (Frame N)) (asked : List ℕ) (uses : List Use) → AllByRecursion (λ f. HasNode ps f.slot) fs → AreNested fs (length asked) (length uses)
+          → opens_in ps fs (asked ++ j ∷ []) uses ≡ heard m a (opens_in ps fs asked uses)
       by [] asked uses nodes nested = refl
       by (f ∷ fs) asked uses nodes nested =
           let part : drop f.asked (asked ++ j ∷ []) ≡ drop f.asked asked ++ j ∷ [] = drop-append-le f.asked asked (j ∷ []) nested.0 in
           let below : take f.asked (asked ++ j ∷ []) ≡ take f.asked asked = take-append-le f.asked asked (j ∷ []) nested.0 in
-          (λ k. open_before (node_at ps f.slot) (answers_at (slots_of ps) (part k)) (nodes_at ps (part k)) (drop f.uses uses) (opens_in ps fs (below k) (take f.uses uses)))
-          ∙ (λ k. open_before (node_at ps f.slot) (answers_at-append (slots_of ps) (drop f.asked asked) (j ∷ []) k) (nodes_at-append ps (drop f.asked asked) (j ∷ []) k) (drop f.uses uses) (opens_in ps fs (take f.asked asked) (take f.uses uses)))
-          ∙ (λ k. open_before (node_at ps f.slot) (answers_at (slots_of ps) (drop f.asked asked) ++ with_first (answer k) []) (nodes_at ps (drop f.asked asked) ++ with_first (node k) []) (drop f.uses uses) (opens_in ps fs (take f.asked asked) (take f.uses uses)))
-          ∙ of_node (node_at ps f.slot) nodes.0 (answers_at (slots_of ps) (drop f.asked asked)) (nodes_at ps (drop f.asked asked)) (drop f.uses uses) (opens_in ps fs (take f.asked asked) (take f.uses uses))
+          (λ k. open_before (node_at ps f.slot) (answers_at (slots_of ps) (part k)) (nodes_at ps (part k)) (drop f.uses uses)
+          (opens_in ps fs (below k) (take f.uses uses)))
+          ∙ (λ k. open_before (node_at ps f.slot) (answers_at-append (slots_of ps) (drop f.asked asked) (j ∷ []) k)
+          (nodes_at-append ps (drop f.asked asked) (j ∷ []) k) (drop f.uses uses) (opens_in ps fs (take f.asked asked) (take f.uses uses)))
+          ∙ (λ k. open_before (node_at ps f.slot) (answers_at (slots_of ps) (drop f.asked asked) ++ with_first (answer k) [])
+          (nodes_at ps (drop f.asked asked) ++ with_first (node k) []) (drop f.uses uses) (opens_in ps fs (take f.asked asked) (take f.uses uses)))
+          ∙ of_node (node_at ps f.slot) nodes.0 (answers_at (slots_of ps) (drop f.asked asked)) (nodes_at ps (drop f.asked asked)) (drop f.uses uses)
+          (opens_in ps fs (take f.asked asked) (take f.uses uses))

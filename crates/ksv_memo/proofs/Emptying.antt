@@ -1,5 +1,6 @@
 -- Slots that are to be taken are emptied, one upon another.
-use Rattle.std.proofs.Common.{◌≡◌, ◌≢◌, ◌⊎◌, inl, inr, ℕ, zero, suc, ◌+◌, ◌*◌, ◌≤◌, List, [], ◌∷◌, ◌++◌, length, None, Contains, refl, sym, ◌∙◌, ap, subst, arith, append_assoc, slice_get}
+use Rattle.std.proofs.Common.{◌≡◌, ◌≢◌, ◌⊎◌, inl, inr, ℕ, zero, suc, ◌+◌, ◌*◌, ◌≤◌, List, [], ◌∷◌, ◌++◌, length, None, Contains, refl, sym, ◌∙◌, ap, subst}
+use Rattle.std.proofs.Common.{arith, append_assoc, slice_get}
 use Rattle.std.specs.List.{AllPairs}
 use Rattle.std.proofs.lemmas.List.{append-nil, get_or-set_other}
 use Rattle.std.proofs.lemmas.List.Sums.{sum_by-cons}
@@ -57,14 +58,17 @@ module _ {N V F : Type 0} where
     least = omega arith;
   }
 
-  pub taken-more : (ps qs rs : List (N × Slot V F)) (l m n : Linked) (taken : List ℕ) (slot from count more : ℕ) → AllPairs (λ (a b : ℕ). a ≢ b) l.waits → IsTaken ps qs l m taken count from → Takes m n slot → rs ≡ with_slot qs slot emptied → more ≤ count + 1 → IsTaken ps rs l n (slot ∷ taken) more from
+  pub taken-more : (ps qs rs : List (N × Slot V F)) (l m n : Linked) (taken : List ℕ) (slot from count more : ℕ) → AllPairs (λ (a b : ℕ). a ≢ b) l.waits
+      → IsTaken ps qs l m taken count from → Takes m n slot → rs ≡ with_slot qs slot emptied → more ≤ count + 1 → IsTaken ps rs l n (slot ∷ taken) more from
   taken-more ps qs rs l m n taken slot from count more apart h t is le = record {
     split = split;
     nodes = λ i. ap (λ xs. node_at xs i) is ∙ set-node qs slot i emptied ∙ h.nodes i;
     out = λ i c. out i (same_or i slot) (first_or_later slot taken i c);
     same = λ i c. other i (apart_from i c) ∙ h.same i (λ k. c (Contains-append_right (slot ∷ []) taken i k));
-    asked = λ i c. ap (λ rows. row rows i) t.asked ∙ get_or-set_other m.asked slot i [] [] (apart_from i c) ∙ h.asked i (λ k. c (Contains-append_right (slot ∷ []) taken i k));
-    uses = λ i c. ap (λ rows. row rows i) t.uses ∙ get_or-set_other m.uses slot i [] [] (apart_from i c) ∙ h.uses i (λ k. c (Contains-append_right (slot ∷ []) taken i k));
+    asked = λ i c. ap (λ rows. row rows i) t.asked ∙ get_or-set_other m.asked slot i [] [] (apart_from i c)
+        ∙ h.asked i (λ k. c (Contains-append_right (slot ∷ []) taken i k));
+    uses = λ i c. ap (λ rows. row rows i) t.uses ∙ get_or-set_other m.uses slot i [] [] (apart_from i c)
+        ∙ h.uses i (λ k. c (Contains-append_right (slot ∷ []) taken i k));
     kept = t.kept ∙ h.kept;
     slots = set_count qs slot emptied rs is ∙ h.slots;
     opens = λ i o. open_at i o (same_or i slot);
@@ -98,7 +102,8 @@ module _ {N V F : Type 0} where
       out i (inr ne) (inl e) = absurd (ne (sym e))
       out i (inr ne) (inr c) = other i ne ∙ h.out i c
 
-  pub taken-all : (ps qs : List (N × Slot V F)) (l m n : Linked) (taken : List ℕ) (from count : ℕ) → IsTaken ps qs l m taken count from → IsDone m n → IsEmptied ps qs l n from count
+  pub taken-all : (ps qs : List (N × Slot V F)) (l m n : Linked) (taken : List ℕ) (from count : ℕ) → IsTaken ps qs l m taken count from → IsDone m n
+      → IsEmptied ps qs l n from count
   taken-all ps qs l m n taken from count h d = record {
     taken = subst (λ ws. IsTaken ps qs l n ws count (from + 1)) whole (record {
       split = h.split ∙ ap (λ ws. ws ++ taken) (d.waits ∙ sym d.done);

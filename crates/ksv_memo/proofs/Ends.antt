@@ -1,5 +1,6 @@
 -- What is kept ends by the reach of the engine.
-use Rattle.std.proofs.Common.{◌≡◌, ◌⊎◌, inl, inr, ℕ, zero, suc, ◌+◌, ◌-◌, ◌/◌, ◌<◌, ◌≤◌, min, Bool, true, false, not, cond, List, [], ◌∷◌, length, length-append, length-take, length-drop, filter, Contains, refl, sym, ◌∙◌, ap, subst, arith}
+use Rattle.std.proofs.Common.{◌≡◌, ◌⊎◌, inl, inr, ℕ, zero, suc, ◌+◌, ◌-◌, ◌/◌, ◌<◌, ◌≤◌, min, Bool, true, false, not, cond, List, [], ◌∷◌, length}
+use Rattle.std.proofs.Common.{length-append, length-take, length-drop, filter, Contains, refl, sym, ◌∙◌, ap, subst, arith}
 use Rattle.std.specs.List.{AllByRecursion, list_any}
 use Rattle.std.proofs.lemmas.Bool.{or_parts, cases_lt}
 use Rattle.std.proofs.lemmas.Bool.Decides.{Decides-ltb}
@@ -27,10 +28,12 @@ can-end bytes (Bytes f t) h = h
 can-end bytes (Reach t) h = h
 can-end bytes Size h = tt
 
-pub right-ends : {N A : Type 0} (meaning : Meaning N A) → IsLawful meaning → (bytes : List ℕ) (es : List (Entry N A)) → IsRight (on meaning bytes) es → AllEndBy (length bytes) es
+pub right-ends : {N A : Type 0} (meaning : Meaning N A) → IsLawful meaning → (bytes : List ℕ) (es : List (Entry N A)) → IsRight (on meaning bytes) es
+    → AllEndBy (length bytes) es
 right-ends {N} {A} meaning law bytes es right =
     All-map (λ (e : Entry N A) is. All-of-once (EndsBy (length bytes)) e.uses (tells (on meaning bytes) [] e.node).uses is.uses
-    (All-map (can-end bytes) (tells (on meaning bytes) [] e.node).uses (eval_can (on meaning bytes) (CanUse bytes) (law.can_use bytes) meaning.nodes [] e.node))) es right.each
+    (All-map (can-end bytes) (tells (on meaning bytes) [] e.node).uses
+    (eval_can (on meaning bytes) (CanUse bytes) (law.can_use bytes) meaning.nodes [] e.node))) es right.each
 
 -- ---- so it is within its pages
 numbers-few : (a n g : ℕ) → Contains (numbers_from a n) g → g < a + n
@@ -107,25 +110,35 @@ untouched-ends (Delete at n) reach u h e = untouched-insert reach at n u h (same
 untouched-ends Append reach u h e = h
 
 -- the marks of entries that all end by the reach
-ends-left : {N A : Type 0} (change : Change) (reach : ℕ) (all ks : List (Mark N A)) → AllByRecursion (IsMarked change all) ks → AllEndBy reach (entries_with ks) → AllEndBy (left_reach change reach) (entries_left ks)
+ends-left : {N A : Type 0} (change : Change) (reach : ℕ) (all ks : List (Mark N A)) → AllByRecursion (IsMarked change all) ks → AllEndBy reach (entries_with ks)
+    → AllEndBy (left_reach change reach) (entries_left ks)
 ends-left change reach all [] marked h = tt
 ends-left {N} {A} change reach all (k ∷ ks) marked h = by k.goes refl (ends-left change reach all ks marked.1 h.1)
   where
-    by : (b : Bool) → k.goes ≡ b → AllEndBy (left_reach change reach) (entries_left ks) → AllEndBy (left_reach change reach) (entries_with (cond (not b) (k ∷ filter (λ k. not k.goes) ks) (filter (λ k. not k.goes) ks)))
+    by : (b : Bool) → k.goes ≡ b → AllEndBy (left_reach change reach) (entries_left ks)
+        → AllEndBy (left_reach change reach) (entries_with (cond (not b) (k ∷ filter (λ k. not k.goes) ks) (filter (λ k. not k.goes) ks)))
     by true e rest = rest
     by false e rest =
-        let free = none_pass (is_use_touched change) k.entry.uses (or_parts (list_any (is_use_touched change) k.entry.uses) (list_any (λ b. b) marked.0.asked) (sym marked.0.goes ∙ e)).0 in
-        (All-both (EndsBy reach) (λ u. is_use_touched change u ≡ false) (EndsBy (left_reach change reach)) (untouched-ends change reach) k.entry.uses h.0 free, rest)
+        let free = none_pass (is_use_touched change) k.entry.uses
+        (or_parts (list_any (is_use_touched change) k.entry.uses) (list_any (λ b. b) marked.0.asked) (sym marked.0.goes ∙ e)).0 in (
+          All-both (EndsBy reach) (λ u. is_use_touched change u ≡ false) (EndsBy (left_reach change reach)) (untouched-ends change reach) k.entry.uses h.0 free,
+          rest,
+        )
 
-pub left-ends : {N A : Type 0} (change : Change) (pages reach : ℕ) (es all : List (Entry N A)) (looked : ℕ) → Sweeps change pages es all looked → AllEndBy reach es → AllEndBy (left_reach change reach) all
+pub left-ends : {N A : Type 0} (change : Change) (pages reach : ℕ) (es all : List (Entry N A)) (looked : ℕ) → Sweeps change pages es all looked
+    → AllEndBy reach es → AllEndBy (left_reach change reach) all
 left-ends {N} {A} change pages reach es all looked sweeps h =
     let P : List (Entry N A) → Type 0 = λ xs. AllEndBy reach xs in
     let Q : List (Entry N A) → Type 0 = λ xs. AllEndBy (left_reach change reach) xs in
     subst Q (sym sweeps.stays) (ends-left change reach sweeps.marks sweeps.marks sweeps.marked (subst P (sym sweeps.entries) h))
 
 -- and the reach is within the file again
-pub reach-fits : (change : Change) (before after : List ℕ) (reach : ℕ) → Makes change before after → reach ≤ length before → left_reach change reach ≤ length after
-reach-fits (Overwrite at n) before after reach made le = let e = ap length made.3 in let n1 = made.1 in let k = made.2 in omega (arith, length-append {A = ℕ}, length-take {A = ℕ}, length-drop {A = ℕ})
-reach-fits (Insert at n) before after reach made le = let e = ap length made.3 in let n1 = made.1 in let k = made.2 in omega (arith, length-append {A = ℕ}, length-take {A = ℕ}, length-drop {A = ℕ})
-reach-fits (Delete at n) before after reach made le = let e = ap length made.1 in let k = made.0 in omega (arith, length-append {A = ℕ}, length-take {A = ℕ}, length-drop {A = ℕ})
+pub reach-fits : (change : Change) (before after : List ℕ) (reach : ℕ) → Makes change before after → reach ≤ length before
+    → left_reach change reach ≤ length after
+reach-fits (Overwrite at n) before after reach made le = let e = ap length made.3 in let n1 = made.1 in let k =
+    made.2 in omega (arith, length-append {A = ℕ}, length-take {A = ℕ}, length-drop {A = ℕ})
+reach-fits (Insert at n) before after reach made le = let e = ap length made.3 in let n1 = made.1 in let k =
+    made.2 in omega (arith, length-append {A = ℕ}, length-take {A = ℕ}, length-drop {A = ℕ})
+reach-fits (Delete at n) before after reach made le = let e = ap length made.1 in let k =
+    made.0 in omega (arith, length-append {A = ℕ}, length-take {A = ℕ}, length-drop {A = ℕ})
 reach-fits Append before after reach made le = let e = ap length made.1 in omega (arith, length-append {A = ℕ})

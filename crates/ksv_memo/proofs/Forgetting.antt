@@ -1,6 +1,7 @@
 -- What an edit takes from the kept nodes is what the pass takes from the table, and what stays is right.
 use Rattle.std.proofs.lemmas.List.Sums.{sum_by-cons}
-use Rattle.std.proofs.Common.{◌≡◌, ℕ, zero, suc, ◌+◌, ◌*◌, ◌<◌, ◌≤◌, arith, length, length-append, sum_by, count_by, get_or, nat_lt, Bool, true, false, not, cond, ◌||◌, ◌&&◌, nat_eq, List, [], ◌∷◌, ◌++◌, map, filter, Contains, Any, refl, sym, ◌∙◌, ap, subst, inl, inr, eq-eqb}
+use Rattle.std.proofs.Common.{◌≡◌, ℕ, zero, suc, ◌+◌, ◌*◌, ◌<◌, ◌≤◌, arith, length, length-append, sum_by, count_by, get_or, nat_lt, Bool, true, false, not}
+use Rattle.std.proofs.Common.{cond, ◌||◌, ◌&&◌, nat_eq, List, [], ◌∷◌, ◌++◌, map, filter, Contains, Any, refl, sym, ◌∙◌, ap, subst, inl, inr, eq-eqb}
 use Rattle.std.specs.Bool.{Decides}
 use Rattle.std.specs.List.{AllByRecursion, list_any, flat_map}
 use Rattle.std.proofs.Math.Bool.{and-false}
@@ -40,10 +41,15 @@ Any-map P Q f xs h = (h.0, h.1, h.2, h.3, f h.1 h.4)
 
 -- some element passes exactly if the test's fact holds of some element
 any_decides : {X : Type 0} (p : X → Bool) (P : X → Type 0) → ((x : X) → Decides (p x) (P x)) → (xs : List X) → Decides (list_any p xs) (Any P xs)
-any_decides p P each xs = (λ e. Any-map (λ x. p x ≡ true) P (λ x h. (each x).0 h) xs (Any-from_list_any p xs e), λ h. list_any-from_Any p xs (Any-map P (λ x. p x ≡ true) (λ x k. (each x).1 k) xs h))
+any_decides p P each xs = (
+  λ e. Any-map (λ x. p x ≡ true) P (λ x h. (each x).0 h) xs (Any-from_list_any p xs e),
+  λ h. list_any-from_Any p xs
+      (Any-map P (λ x. p x ≡ true) (λ x k. (each x).1 k) xs h),
+)
 
 pub touched_decides : {N A : Type 0} (w : Standing N A) (change : Change) (n : N) → Decides (is_touched w change n) (IsTouched w change n)
-touched_decides w change n = any_decides (is_hit w change) (λ m. Any (Touches change) (tells w [] m).uses) (λ m. any_decides (is_use_touched change) (Touches change) (use_touched change) (tells w [] m).uses) (tree w n)
+touched_decides w change n = any_decides (is_hit w change) (λ m. Any (Touches change) (tells w [] m).uses)
+    (λ m. any_decides (is_use_touched change) (Touches change) (use_touched change) (tells w [] m).uses) (tree w n)
 
 -- ---- a test on a list and on its members, each once
 any_once : {X : Type 0} (p : X → Bool) (once xs : List X) → HasEachOnce once xs → list_any p once ≡ list_any p xs
@@ -70,59 +76,80 @@ pub All-entries_left : {N A : Type 0} (P : Entry N A → Type 0) (ks : List (Mar
 All-entries_left P [] h = tt
 All-entries_left {N} {A} P (k ∷ ks) h = by k.goes (All-entries_left P ks h.1)
   where
-    by : (b : Bool) → AllByRecursion P (entries_left ks) → AllByRecursion P (entries_in (cond (not b) (k ∷ filter (λ k. not k.goes) ks) (filter (λ k. not k.goes) ks)))
+    by : (b : Bool) → AllByRecursion P (entries_left ks)
+        → AllByRecursion P (entries_in (cond (not b) (k ∷ filter (λ k. not k.goes) ks) (filter (λ k. not k.goes) ks)))
     by true rest = rest
     by false rest = (h.0, rest)
 
 module _ {N A : Type 0} (w : Standing N A) where
-  numbers-entries_left : (P : ℕ → Type 0) (ks : List (Mark N A)) → AllByRecursion P (map w.number (nodes_of (entries_in ks))) → AllByRecursion P (map w.number (nodes_of (entries_left ks)))
+  numbers-entries_left : (P : ℕ → Type 0) (ks : List (Mark N A)) → AllByRecursion P (map w.number (nodes_of (entries_in ks)))
+      → AllByRecursion P (map w.number (nodes_of (entries_left ks)))
   numbers-entries_left P [] h = tt
   numbers-entries_left P (k ∷ ks) h = by k.goes (numbers-entries_left P ks h.1)
     where
-      by : (b : Bool) → AllByRecursion P (map w.number (nodes_of (entries_left ks))) → AllByRecursion P (map w.number (nodes_of (entries_in (cond (not b) (k ∷ filter (λ k. not k.goes) ks) (filter (λ k. not k.goes) ks)))))
+      by : (b : Bool) → AllByRecursion P (map w.number (nodes_of (entries_left ks)))
+          → AllByRecursion P (map w.number (nodes_of (entries_in (cond (not b) (k ∷ filter (λ k. not k.goes) ks) (filter (λ k. not k.goes) ks)))))
       by true rest = rest
       by false rest = (h.0, rest)
 
   distinct-entries_left : (ks : List (Mark N A)) → AreDistinct w (nodes_of (entries_in ks)) → AreDistinct w (nodes_of (entries_left ks))
   distinct-entries_left [] h = AreDistinct-none w
-  distinct-entries_left (k ∷ ks) h = by k.goes (distinct-entries_left ks (IsDistinct-tail nat_eq (w.number k.entry.node) (map w.number (nodes_of (entries_in ks))) h))
+  distinct-entries_left (k ∷ ks) h =
+      by k.goes (distinct-entries_left ks (IsDistinct-tail nat_eq (w.number k.entry.node) (map w.number (nodes_of (entries_in ks))) h))
     where
-      by : (b : Bool) → AreDistinct w (nodes_of (entries_left ks)) → AreDistinct w (nodes_of (entries_in (cond (not b) (k ∷ filter (λ k. not k.goes) ks) (filter (λ k. not k.goes) ks))))
+      by : (b : Bool) → AreDistinct w (nodes_of (entries_left ks))
+          → AreDistinct w (nodes_of (entries_in (cond (not b) (k ∷ filter (λ k. not k.goes) ks) (filter (λ k. not k.goes) ks))))
       by true rest = rest
-      by false rest = IsDistinct-cons nat_eq (w.number k.entry.node) (map w.number (nodes_of (entries_left ks))) (numbers-entries_left (λ y. nat_eq (w.number k.entry.node) y ≡ false) ks (IsDistinct-head nat_eq (w.number k.entry.node) (map w.number (nodes_of (entries_in ks))) h)) rest
+      by false rest = IsDistinct-cons nat_eq (w.number k.entry.node) (map w.number (nodes_of (entries_left ks)))
+          (numbers-entries_left (λ y. nat_eq (w.number k.entry.node) y ≡ false) ks
+          (IsDistinct-head nat_eq (w.number k.entry.node) (map w.number (nodes_of (entries_in ks))) h)) rest
 
 -- what stays has no touched use
-free-entries_left : {N A : Type 0} (change : Change) (before ks : List (Mark N A)) → AllByRecursion (IsMarked change before) ks → AllByRecursion (λ e. AllByRecursion (λ used. Touches change used → ⊥) e.uses) (entries_left ks)
+free-entries_left : {N A : Type 0} (change : Change) (before ks : List (Mark N A)) → AllByRecursion (IsMarked change before) ks
+    → AllByRecursion (λ e. AllByRecursion (λ used. Touches change used → ⊥) e.uses) (entries_left ks)
 free-entries_left change before [] h = tt
 free-entries_left {N} {A} change before (k ∷ ks) h = by k.goes refl (free-entries_left change before ks h.1)
   where
-    by : (b : Bool) → k.goes ≡ b → AllByRecursion (λ e. AllByRecursion (λ used. Touches change used → ⊥) e.uses) (entries_left ks) → AllByRecursion (λ e. AllByRecursion (λ used. Touches change used → ⊥) e.uses) (entries_in (cond (not b) (k ∷ filter (λ k. not k.goes) ks) (filter (λ k. not k.goes) ks)))
+    by : (b : Bool) → k.goes ≡ b → AllByRecursion (λ e. AllByRecursion (λ used. Touches change used → ⊥) e.uses) (entries_left ks)
+        → AllByRecursion (λ e. AllByRecursion (λ used. Touches change used → ⊥) e.uses)
+        (entries_in (cond (not b) (k ∷ filter (λ k. not k.goes) ks) (filter (λ k. not k.goes) ks)))
     by true e rest = rest
-    by false e rest = (All-map (untouched_use change) k.entry.uses (none_pass (is_use_touched change) k.entry.uses (or_parts (list_any (is_use_touched change) k.entry.uses) (list_any (λ b. b) h.0.asked) (sym h.0.goes ∙ e)).0), rest)
+    by false e rest = (
+      All-map (untouched_use change) k.entry.uses
+          (none_pass (is_use_touched change) k.entry.uses
+          (or_parts (list_any (is_use_touched change) k.entry.uses) (list_any (λ b. b) h.0.asked) (sym h.0.goes ∙ e)).0),
+      rest,
+    )
 
 module _ {N A : Type 0} (w : Standing N A) where
   -- the mark of an entry says whether its node is touched
   abbrev pub IsTold : Change → Mark N A → Type 0
   IsTold change k = k.goes ≡ is_touched w change k.entry.node
 
-  left_here : (change : Change) (k : Mark N A) (ks : List (Mark N A)) → IsTold change k → nodes_of (entries_left ks) ≡ left_after w change (nodes_of (entries_in ks)) → nodes_of (entries_left (k ∷ ks)) ≡ left_after w change (nodes_of (entries_in (k ∷ ks)))
+  left_here : (change : Change) (k : Mark N A) (ks : List (Mark N A)) → IsTold change k
+      → nodes_of (entries_left ks) ≡ left_after w change (nodes_of (entries_in ks))
+      → nodes_of (entries_left (k ∷ ks)) ≡ left_after w change (nodes_of (entries_in (k ∷ ks)))
   left_here change k ks told rest = by k.goes (is_touched w change k.entry.node) told
     where
-      by : (b c : Bool) → b ≡ c → nodes_of (entries_in (cond (not b) (k ∷ filter (λ k. not k.goes) ks) (filter (λ k. not k.goes) ks))) ≡ cond (not c) (k.entry.node ∷ left_after w change (nodes_of (entries_in ks))) (left_after w change (nodes_of (entries_in ks)))
+      by : (b c : Bool) → b ≡ c → nodes_of (entries_in (cond (not b) (k ∷ filter (λ k. not k.goes) ks) (filter (λ k. not k.goes) ks)))
+          ≡ cond (not c) (k.entry.node ∷ left_after w change (nodes_of (entries_in ks))) (left_after w change (nodes_of (entries_in ks)))
       by true true e = rest
       by false false e = ap (λ ns. k.entry.node ∷ ns) rest
       by true false e = absurd (cc)
       by false true e = absurd (cc)
 
   -- where each does, those nodes stay that aren't touched
-  left_nodes : (change : Change) (ks : List (Mark N A)) → AllByRecursion (IsTold change) ks → nodes_of (entries_left ks) ≡ left_after w change (nodes_of (entries_in ks))
+  left_nodes : (change : Change) (ks : List (Mark N A)) → AllByRecursion (IsTold change) ks
+      → nodes_of (entries_left ks) ≡ left_after w change (nodes_of (entries_in ks))
   left_nodes change [] told = refl
   left_nodes change (k ∷ ks) told = left_here change k ks told.0 (left_nodes change ks told.1)
 
-  gone_here : (change : Change) (k : Mark N A) (ks : List (Mark N A)) → IsTold change k → entries_gone ks ≡ gone_of w change (entries_in ks) → entries_gone (k ∷ ks) ≡ gone_of w change (entries_in (k ∷ ks))
+  gone_here : (change : Change) (k : Mark N A) (ks : List (Mark N A)) → IsTold change k → entries_gone ks ≡ gone_of w change (entries_in ks)
+      → entries_gone (k ∷ ks) ≡ gone_of w change (entries_in (k ∷ ks))
   gone_here change k ks told rest = by k.goes (is_touched w change k.entry.node) told
     where
-      by : (b c : Bool) → b ≡ c → entries_in (cond b (k ∷ filter (λ k. k.goes) ks) (filter (λ k. k.goes) ks)) ≡ cond c (k.entry ∷ gone_of w change (entries_in ks)) (gone_of w change (entries_in ks))
+      by : (b c : Bool) → b ≡ c → entries_in (cond b (k ∷ filter (λ k. k.goes) ks) (filter (λ k. k.goes) ks))
+          ≡ cond c (k.entry ∷ gone_of w change (entries_in ks)) (gone_of w change (entries_in ks))
       by true true e = ap (λ es. k.entry ∷ es) rest
       by false false e = rest
       by true false e = absurd (cc)
@@ -157,19 +184,26 @@ some-ask all [] [] h e = absurd (cc)
 some-ask all [] (b ∷ bs) h e = absurd h
 some-ask all (m ∷ ms) bs h e = omega arith
 
-one-near : {N A : Type 0} (change : Change) (all : List (Mark N A)) (k : Mark N A) → IsOverwrite change → IsMarked change all k → k.goes ≡ true → 1 ≤ length k.entry.asked + length (pages_in k.entry.uses)
+one-near : {N A : Type 0} (change : Change) (all : List (Mark N A)) (k : Mark N A) → IsOverwrite change → IsMarked change all k → k.goes ≡ true
+    → 1 ≤ length k.entry.asked + length (pages_in k.entry.uses)
 one-near change all k over mark goes = by (list_any (is_use_touched change) k.entry.uses) refl (list_any (λ b. b) mark.asked) refl
   where
-    by : (a : Bool) → list_any (is_use_touched change) k.entry.uses ≡ a → (b : Bool) → list_any (λ b. b) mark.asked ≡ b → 1 ≤ length k.entry.asked + length (pages_in k.entry.uses)
+    by : (a : Bool) → list_any (is_use_touched change) k.entry.uses ≡ a → (b : Bool) → list_any (λ b. b) mark.asked ≡ b
+        → 1 ≤ length k.entry.asked + length (pages_in k.entry.uses)
     by true e b f = let p = some-page change k.entry.uses over e in omega arith
     by false e true f = let p = some-ask all k.entry.asked mark.asked mark.say f in omega arith
     by false e false f = let no : true ≡ (false || false) = sym goes ∙ mark.goes ∙ (λ i. e i || f i) in absurd (cc)
 
-gone-few : {N A : Type 0} (change : Change) (all ks : List (Mark N A)) → IsOverwrite change → AllByRecursion (IsMarked change all) ks → length (entries_gone ks) ≤ sum_by (λ e. length e.asked) (entries_gone ks) + sum_by (λ e. length (pages_in e.uses)) (entries_gone ks)
+gone-few : {N A : Type 0} (change : Change) (all ks : List (Mark N A)) → IsOverwrite change → AllByRecursion (IsMarked change all) ks
+    → length (entries_gone ks) ≤ sum_by (λ e. length e.asked) (entries_gone ks) + sum_by (λ e. length (pages_in e.uses)) (entries_gone ks)
 gone-few change all [] over h = omega arith
 gone-few {N} {A} change all (k ∷ ks) over h = by k.goes refl (gone-few change all ks over h.1)
   where
-    by : (b : Bool) → k.goes ≡ b → length (entries_gone ks) ≤ sum_by (λ e. length e.asked) (entries_gone ks) + sum_by (λ e. length (pages_in e.uses)) (entries_gone ks) → length (entries_in (cond b (k ∷ filter (λ k. k.goes) ks) (filter (λ k. k.goes) ks))) ≤ sum_by (λ e. length e.asked) (entries_in (cond b (k ∷ filter (λ k. k.goes) ks) (filter (λ k. k.goes) ks))) + sum_by (λ e. length (pages_in e.uses)) (entries_in (cond b (k ∷ filter (λ k. k.goes) ks) (filter (λ k. k.goes) ks)))
+    by : (b : Bool) → k.goes ≡ b → length (entries_gone ks) ≤ sum_by (λ e. length e.asked) (entries_gone ks)
+        + sum_by (λ e. length (pages_in e.uses)) (entries_gone ks)
+        → length (entries_in (cond b (k ∷ filter (λ k. k.goes) ks) (filter (λ k. k.goes) ks)))
+        ≤ sum_by (λ e. length e.asked) (entries_in (cond b (k ∷ filter (λ k. k.goes) ks) (filter (λ k. k.goes) ks)))
+        + sum_by (λ e. length (pages_in e.uses)) (entries_in (cond b (k ∷ filter (λ k. k.goes) ks) (filter (λ k. k.goes) ks)))
     by false e rest = rest
     by true e rest =
         let one = one-near change all k over h.0 e in
@@ -192,9 +226,11 @@ count-some p (y ∷ ys) (suc k) x lt is e =
 some-past : (at : ℕ) (us : List Use) → EndsPast at us → 1 ≤ length (pages_in us) + count_by (λ l. nat_eq l 0 || nat_lt (first_page at) l) (ends_in us)
 some-past at us (inl (g, c, le)) = let lt = c.1 in omega arith
 some-past at us (inr (l, c, inl z)) =
-    let n = count-some (λ l. nat_eq l 0 || nat_lt (first_page at) l) (ends_in us) c.0 l c.1 c.2 (ap (λ b. b || nat_lt (first_page at) l) (eq-eqb l 0 z)) in omega arith
+    let n = count-some (λ l. nat_eq l 0 || nat_lt (first_page at) l) (ends_in us) c.0 l c.1 c.2 (ap (λ b. b || nat_lt (first_page at) l) (eq-eqb l 0 z)) in
+    omega arith
 some-past at us (inr (l, c, inr lt)) =
-    let n = count-some (λ l. nat_eq l 0 || nat_lt (first_page at) l) (ends_in us) c.0 l c.1 c.2 (or_right (nat_eq l 0) (nat_lt (first_page at) l) ((Decides-ltb (first_page at) l).1 lt)) in omega arith
+    let n = count-some (λ l. nat_eq l 0 || nat_lt (first_page at) l) (ends_in us) c.0 l c.1 c.2
+    (or_right (nat_eq l 0) (nat_lt (first_page at) l) ((Decides-ltb (first_page at) l).1 lt)) in omega arith
 
 some-behind : (change : Change) (us : List Use) → IsMove change → list_any (is_use_touched change) us ≡ true → 1 ≤ length (pages_in us) + ended_by change us
 some-behind (Overwrite at n) us h e = absurd h
@@ -202,15 +238,19 @@ some-behind (Insert at n) us h e = some-past at us (insert-past at n us e)
 some-behind (Delete at n) us h e = some-past at us (delete-past at n us e)
 some-behind Append us h e = let c = append-ends us e in let n = count-some (λ l. nat_eq l 0) (ends_in us) c.0 0 c.1 c.2 refl in omega arith
 
-one-behind : {N A : Type 0} (change : Change) (all : List (Mark N A)) (k : Mark N A) → IsMove change → IsMarked change all k → k.goes ≡ true → 1 ≤ length k.entry.asked + length (pages_in k.entry.uses) + ended_by change k.entry.uses
+one-behind : {N A : Type 0} (change : Change) (all : List (Mark N A)) (k : Mark N A) → IsMove change → IsMarked change all k → k.goes ≡ true
+    → 1 ≤ length k.entry.asked + length (pages_in k.entry.uses) + ended_by change k.entry.uses
 one-behind change all k moves mark goes = by (list_any (is_use_touched change) k.entry.uses) refl (list_any (λ b. b) mark.asked) refl
   where
-    by : (a : Bool) → list_any (is_use_touched change) k.entry.uses ≡ a → (b : Bool) → list_any (λ b. b) mark.asked ≡ b → 1 ≤ length k.entry.asked + length (pages_in k.entry.uses) + ended_by change k.entry.uses
+    by : (a : Bool) → list_any (is_use_touched change) k.entry.uses ≡ a → (b : Bool) → list_any (λ b. b) mark.asked ≡ b
+        → 1 ≤ length k.entry.asked + length (pages_in k.entry.uses) + ended_by change k.entry.uses
     by true e b f = let p = some-behind change k.entry.uses moves e in omega arith
     by false e true f = let p = some-ask all k.entry.asked mark.asked mark.say f in omega arith
     by false e false f = let no : true ≡ (false || false) = sym goes ∙ mark.goes ∙ (λ i. e i || f i) in absurd (cc)
 
-gone-behind : {N A : Type 0} (change : Change) (all ks : List (Mark N A)) → IsMove change → AllByRecursion (IsMarked change all) ks → length (entries_gone ks) ≤ sum_by (λ e. length e.asked) (entries_gone ks) + sum_by (λ e. length (pages_in e.uses)) (entries_gone ks) + sum_by (λ e. ended_by change e.uses) (entries_gone ks)
+gone-behind : {N A : Type 0} (change : Change) (all ks : List (Mark N A)) → IsMove change → AllByRecursion (IsMarked change all) ks
+    → length (entries_gone ks) ≤ sum_by (λ e. length e.asked) (entries_gone ks) + sum_by (λ e. length (pages_in e.uses)) (entries_gone ks)
+    + sum_by (λ e. ended_by change e.uses) (entries_gone ks)
 gone-behind change all [] moves h = omega arith
 gone-behind {N} {A} change all (k ∷ ks) moves h = by k.goes refl (gone-behind change all ks moves h.1)
   where
@@ -231,13 +271,15 @@ gone-less : {N A : Type 0} (p : Entry N A → ℕ) (ks : List (Mark N A)) → su
 gone-less p [] = omega arith
 gone-less {N} {A} p (k ∷ ks) = by k.goes (gone-less p ks)
   where
-    by : (b : Bool) → sum_by p (entries_gone ks) ≤ sum_by p (entries_in ks) → sum_by p (entries_in (cond b (k ∷ filter (λ k. k.goes) ks) (filter (λ k. k.goes) ks))) ≤ sum_by p (entries_in (k ∷ ks))
+    by : (b : Bool) → sum_by p (entries_gone ks) ≤ sum_by p (entries_in ks)
+        → sum_by p (entries_in (cond b (k ∷ filter (λ k. k.goes) ks) (filter (λ k. k.goes) ks))) ≤ sum_by p (entries_in (k ∷ ks))
     by false rest = let a = sum_by-cons p k.entry (entries_in ks) in omega arith
     by true rest = let a = sum_by-cons p k.entry (entries_in ks) in let b = sum_by-cons p k.entry (entries_gone ks) in omega arith
 
 module _ {N A : Type 0} (w : Standing N A) (law : IsSettled w) where
   -- ---- a kept node is touched if one of its uses is, or a node that it asked
-  touched-kept : (change : Change) (kept : List N) (e : Entry N A) → IsRightEntry w kept e → is_touched w change e.node ≡ (list_any (is_use_touched change) e.uses || list_any (is_touched w change) e.asked)
+  touched-kept : (change : Change) (kept : List N) (e : Entry N A) → IsRightEntry w kept e
+      → is_touched w change e.node ≡ (list_any (is_use_touched change) e.uses || list_any (is_touched w change) e.asked)
   touched-kept change kept e right =
       let Q : Outcome N A → Type 0 = λ out. IsAnswered out in
       let answered : IsAnswered (tells w [] e.node).outcome = subst Q (sym right.outcome) tt in
@@ -245,14 +287,19 @@ module _ {N A : Type 0} (w : Standing N A) (law : IsSettled w) where
       let parts : list_any (is_hit w change) (tree w e.node) ≡ (list_any (is_touched w change) e.asked || (is_hit w change e.node || false)) =
       ap (list_any (is_hit w change)) (kept-tree w law e.node answered)
       ∙ list_any-append (is_hit w change) (flat_map (completed w w.nodes []) asked) (e.node ∷ [])
-      ∙ ap (λ b. b || (is_hit w change e.node || false)) (any-flat_map (is_hit w change) (completed w w.nodes []) asked ∙ ap (list_any (is_touched w change)) right.asked) in
+      ∙ ap (λ b. b || (is_hit w change e.node || false))
+      (any-flat_map (is_hit w change) (completed w w.nodes []) asked ∙ ap (list_any (is_touched w change)) right.asked) in
       parts ∙ or_turn (list_any (is_touched w change) e.asked) (is_hit w change e.node)
       ∙ ap (λ b. b || list_any (is_touched w change) e.asked) (sym (any_once (is_use_touched change) e.uses (tells w [] e.node).uses right.uses))
 
   -- ---- what is left of a list, as a set
-  among_cases : (p : N → Bool) (m n : N) (ns : List N) → is_among w.number (filter p ns) n ≡ (is_among w.number ns n && p n) → (a : Bool) → nat_eq (w.number n) (w.number m) ≡ a → (b : Bool) → p m ≡ b → is_among w.number (cond b (m ∷ filter p ns) (filter p ns)) n ≡ ((a || is_among w.number ns n) && p n)
-  among_cases p m n ns rest true e true f = ap (λ x. x || is_among w.number (filter p ns) n) e ∙ sym (ap p (law.own_number n m (eqb_true (w.number n) (w.number m) e)) ∙ f)
-  among_cases p m n ns rest true e false f = let fails : p n ≡ false = ap p (law.own_number n m (eqb_true (w.number n) (w.number m) e)) ∙ f in rest ∙ ap (λ x. is_among w.number ns n && x) fails ∙ and-false (is_among w.number ns n) ∙ sym fails
+  among_cases : (p : N → Bool) (m n : N) (ns : List N) → is_among w.number (filter p ns) n ≡ (is_among w.number ns n && p n) → (a : Bool)
+      → nat_eq (w.number n) (w.number m) ≡ a → (b : Bool) → p m ≡ b
+      → is_among w.number (cond b (m ∷ filter p ns) (filter p ns)) n ≡ ((a || is_among w.number ns n) && p n)
+  among_cases p m n ns rest true e true f = ap (λ x. x || is_among w.number (filter p ns) n) e
+      ∙ sym (ap p (law.own_number n m (eqb_true (w.number n) (w.number m) e)) ∙ f)
+  among_cases p m n ns rest true e false f = let fails : p n ≡ false = ap p (law.own_number n m (eqb_true (w.number n) (w.number m) e)) ∙ f in rest
+      ∙ ap (λ x. is_among w.number ns n && x) fails ∙ and-false (is_among w.number ns n) ∙ sym fails
   among_cases p m n ns rest false e true f = ap (λ x. x || is_among w.number (filter p ns) n) e ∙ rest
   among_cases p m n ns rest false e false f = rest
 
@@ -260,14 +307,19 @@ module _ {N A : Type 0} (w : Standing N A) (law : IsSettled w) where
   among-filter p [] n = refl
   among-filter p (m ∷ ns) n = among_cases p m n ns (among-filter p ns n) (nat_eq (w.number n) (w.number m)) refl (p m) refl
 
-  pub left-decides : (change : Change) (ns : List N) (n : N) → Decides (is_among w.number (left_after w change ns) n) ((is_among w.number ns n ≡ true) × (IsTouched w change n → ⊥))
+  pub left-decides : (change : Change) (ns : List N) (n : N)
+      → Decides (is_among w.number (left_after w change ns) n) ((is_among w.number ns n ≡ true) × (IsTouched w change n → ⊥))
   left-decides change ns n =
       let P : Bool → Type 0 = λ b. Decides b ((is_among w.number ns n ≡ true) × (IsTouched w change n → ⊥)) in
-      subst P (sym (among-filter (λ m. not (is_touched w change m)) ns n)) (Decides-and (is_among w.number ns n) (not (is_touched w change n)) (λ e. e, λ e. e) (Decides-not (is_touched w change n) (touched_decides w change n)))
+      subst P (sym (among-filter (λ m. not (is_touched w change m)) ns n))
+      (Decides-and (is_among w.number ns n) (not (is_touched w change n)) (λ e. e, λ e. e)
+      (Decides-not (is_touched w change n) (touched_decides w change n)))
 
   -- lists with the same members have the same members left
-  pub left_after-same : (change : Change) (ns ms : List N) → ((x : N) → is_among w.number ns x ≡ is_among w.number ms x) → (x : N) → is_among w.number (left_after w change ns) x ≡ is_among w.number (left_after w change ms) x
-  left_after-same change ns ms same x = among-filter (λ m. not (is_touched w change m)) ns x ∙ ap (λ b. b && not (is_touched w change x)) (same x) ∙ sym (among-filter (λ m. not (is_touched w change m)) ms x)
+  pub left_after-same : (change : Change) (ns ms : List N) → ((x : N) → is_among w.number ns x ≡ is_among w.number ms x) → (x : N)
+      → is_among w.number (left_after w change ns) x ≡ is_among w.number (left_after w change ms) x
+  left_after-same change ns ms same x = among-filter (λ m. not (is_touched w change m)) ns x ∙ ap (λ b. b && not (is_touched w change x)) (same x)
+      ∙ sym (among-filter (λ m. not (is_touched w change m)) ms x)
 
   -- ---- the marks
   -- what a node asked has a shorter tree
@@ -277,7 +329,9 @@ module _ {N A : Type 0} (w : Standing N A) (law : IsSettled w) where
       let n = length-append (tree w m) (flat_map (tree w) ms) in
       (omega arith, All-map (λ x le. (let k : length (tree w x) ≤ length (tree w m ++ flat_map (tree w) ms) = omega arith in k)) ms (small ms))
 
-  said : (change : Change) (all : List (Mark N A)) (n : ℕ) → ((k : Mark N A) → IsOneOf all k → length (tree w k.entry.node) < n → IsTold w change k) → (ms : List N) → AllByRecursion (λ m. length (tree w m) < n) ms → (bs : List Bool) → AllSay all ms bs → list_any (λ b. b) bs ≡ list_any (is_touched w change) ms
+  said : (change : Change) (all : List (Mark N A)) (n : ℕ) → ((k : Mark N A) → IsOneOf all k → length (tree w k.entry.node) < n → IsTold w change k)
+      → (ms : List N) → AllByRecursion (λ m. length (tree w m) < n) ms → (bs : List Bool) → AllSay all ms bs
+      → list_any (λ b. b) bs ≡ list_any (is_touched w change) ms
   said change all n told [] few [] h = refl
   said change all n told [] few (b ∷ bs) h = absurd h
   said change all n told (m ∷ ms) few [] h = absurd h
@@ -286,72 +340,97 @@ module _ {N A : Type 0} (w : Standing N A) (law : IsSettled w) where
       let here : b ≡ is_touched w change m = sym h.0.goes ∙ told h.0.mark h.0.there short ∙ ap (is_touched w change) h.0.node in
       ap (λ c. c || list_any (λ b. b) bs) here ∙ ap (λ c. is_touched w change m || c) (said change all n told ms few.1 bs h.1)
 
-  entry_right : (kept : List N) (ks : List (Mark N A)) → AllByRecursion (IsRightEntry w kept) (entries_in ks) → AllByRecursion (λ k. IsRightEntry w kept k.entry) ks
+  entry_right : (kept : List N) (ks : List (Mark N A)) → AllByRecursion (IsRightEntry w kept) (entries_in ks)
+      → AllByRecursion (λ k. IsRightEntry w kept k.entry) ks
   entry_right kept [] h = tt
   entry_right kept (k ∷ ks) h = (h.0, entry_right kept ks h.1)
 
   -- each mark says whether the node is touched, by the length of its tree
-  mark-told : (change : Change) (kept : List N) (all : List (Mark N A)) → AllByRecursion (IsMarked change all) all → AllByRecursion (λ k. IsRightEntry w kept k.entry) all → (n : ℕ) (k : Mark N A) → IsOneOf all k → length (tree w k.entry.node) < n → IsTold w change k
+  mark-told : (change : Change) (kept : List N) (all : List (Mark N A)) → AllByRecursion (IsMarked change all) all
+      → AllByRecursion (λ k. IsRightEntry w kept k.entry) all → (n : ℕ) (k : Mark N A) → IsOneOf all k → length (tree w k.entry.node) < n → IsTold w change k
   mark-told change kept all marked right zero k m lt = absurd (omega arith)
   mark-told change kept all marked right (suc n) k m lt =
       let mark : IsMarked change all k = one_of-all (IsMarked change all) all marked k m in
       let is : IsRightEntry w kept k.entry = one_of-all (λ (x : Mark N A). IsRightEntry w kept x.entry) all right k m in
       let Q : Outcome N A → Type 0 = λ out. IsAnswered out in
       let answered : IsAnswered (tells w [] k.entry.node).outcome = subst Q (sym is.outcome) tt in
-      let whole : tree w k.entry.node ≡ flat_map (tree w) k.entry.asked ++ k.entry.node ∷ [] = kept-tree w law k.entry.node answered ∙ ap (λ ns. flat_map (tree w) ns ++ k.entry.node ∷ []) is.asked in
+      let whole : tree w k.entry.node ≡ flat_map (tree w) k.entry.asked ++ k.entry.node ∷ [] =
+      kept-tree w law k.entry.node answered ∙ ap (λ ns. flat_map (tree w) ns ++ k.entry.node ∷ []) is.asked in
       let count = ap length whole in
       let more = length-append (flat_map (tree w) k.entry.asked) (k.entry.node ∷ []) in
-      let few : AllByRecursion (λ x. length (tree w x) < n) k.entry.asked = All-map (λ x le. (let short : length (tree w x) < n = omega arith in short)) k.entry.asked (small k.entry.asked) in
+      let few : AllByRecursion (λ x. length (tree w x) < n) k.entry.asked =
+      All-map (λ x le. (let short : length (tree w x) < n = omega arith in short)) k.entry.asked (small k.entry.asked) in
       mark.goes
-      ∙ ap (λ b. list_any (is_use_touched change) k.entry.uses || b) (said change all n (mark-told change kept all marked right n) k.entry.asked few mark.asked mark.say)
+      ∙ ap (λ b. list_any (is_use_touched change) k.entry.uses || b)
+      (said change all n (mark-told change kept all marked right n) k.entry.asked few mark.asked mark.say)
       ∙ sym (touched-kept change kept k.entry is)
 
-  marks-told : (change : Change) (kept : List N) (ks : List (Mark N A)) → AllByRecursion (IsMarked change ks) ks → AllByRecursion (IsRightEntry w kept) (entries_in ks) → AllByRecursion (IsTold w change) ks
+  marks-told : (change : Change) (kept : List N) (ks : List (Mark N A)) → AllByRecursion (IsMarked change ks) ks
+      → AllByRecursion (IsRightEntry w kept) (entries_in ks) → AllByRecursion (IsTold w change) ks
   marks-told change kept ks marked right = each ks (λ k m. m)
     where
       each : (xs : List (Mark N A)) → ((k : Mark N A) → IsOneOf xs k → IsOneOf ks k) → AllByRecursion (IsTold w change) xs
       each [] inside = tt
-      each (k ∷ xs) inside = (mark-told change kept ks marked (entry_right kept ks right) (suc (length (tree w k.entry.node))) k (inside k (inl refl)) (omega arith), each xs (λ x m. inside x (inr m)))
+      each (k ∷ xs) inside = (
+        mark-told change kept ks marked (entry_right kept ks right) (suc (length (tree w k.entry.node))) k (inside k (inl refl)) (omega arith),
+        each xs
+            (λ x m. inside x (inr m)),
+      )
 
   -- ---- what the pass leaves
   -- an entry that stays is left
   stays_in : (ks : List (Mark N A)) (k : Mark N A) → IsOneOf ks k → k.goes ≡ false → is_among w.number (nodes_of (entries_left ks)) k.entry.node ≡ true
   stays_in [] k h e = absurd h
-  stays_in (x ∷ ks) k (inl same) e = subst (λ (y : Mark N A). is_among w.number (nodes_of (entries_left (x ∷ ks))) y.entry.node ≡ true) same (by x.goes (ap (λ (y : Mark N A). y.goes) same ∙ e))
+  stays_in (x ∷ ks) k (inl same) e = subst (λ (y : Mark N A). is_among w.number (nodes_of (entries_left (x ∷ ks))) y.entry.node ≡ true) same
+      (by x.goes (ap (λ (y : Mark N A). y.goes) same ∙ e))
     where
-      by : (b : Bool) → b ≡ false → is_among w.number (nodes_of (entries_in (cond (not b) (x ∷ filter (λ k. not k.goes) ks) (filter (λ k. not k.goes) ks)))) x.entry.node ≡ true
+      by : (b : Bool) → b ≡ false → is_among w.number (nodes_of (entries_in (cond (not b) (x ∷ filter (λ k. not k.goes) ks) (filter (λ k. not k.goes) ks))))
+          x.entry.node ≡ true
       by true f = absurd (cc)
       by false f = ap (λ c. c || is_among w.number (nodes_of (entries_left ks)) x.entry.node) (eq-eqb (w.number x.entry.node) (w.number x.entry.node) refl)
   stays_in (x ∷ ks) k (inr h) e = by x.goes (stays_in ks k h e)
     where
-      by : (b : Bool) → is_among w.number (nodes_of (entries_left ks)) k.entry.node ≡ true → is_among w.number (nodes_of (entries_in (cond (not b) (x ∷ filter (λ k. not k.goes) ks) (filter (λ k. not k.goes) ks)))) k.entry.node ≡ true
+      by : (b : Bool) → is_among w.number (nodes_of (entries_left ks)) k.entry.node ≡ true
+          → is_among w.number (nodes_of (entries_in (cond (not b) (x ∷ filter (λ k. not k.goes) ks) (filter (λ k. not k.goes) ks)))) k.entry.node ≡ true
       by true ih = ih
       by false ih = or_right (nat_eq (w.number k.entry.node) (w.number x.entry.node)) (is_among w.number (nodes_of (entries_left ks)) k.entry.node) ih
 
-  none_said : (all before : List (Mark N A)) → ((k : Mark N A) → IsOneOf before k → IsOneOf all k) → (ms : List N) (bs : List Bool) → AllSay before ms bs → list_any (λ b. b) bs ≡ false → AllByRecursion (λ m. is_among w.number (nodes_of (entries_left all)) m ≡ true) ms
+  none_said : (all before : List (Mark N A)) → ((k : Mark N A) → IsOneOf before k → IsOneOf all k) → (ms : List N) (bs : List Bool) → AllSay before ms bs
+      → list_any (λ b. b) bs ≡ false → AllByRecursion (λ m. is_among w.number (nodes_of (entries_left all)) m ≡ true) ms
   none_said all before inside [] [] h none = tt
   none_said all before inside [] (b ∷ bs) h none = absurd h
   none_said all before inside (m ∷ ms) [] h none = absurd h
   none_said all before inside (m ∷ ms) (b ∷ bs) h none =
-      let parts = or_parts b (list_any (λ b. b) bs) none in
-      (subst (λ n. is_among w.number (nodes_of (entries_left all)) n ≡ true) h.0.node (stays_in all h.0.mark (inside h.0.mark h.0.there) (h.0.goes ∙ parts.0)), none_said all before inside ms bs h.1 parts.1)
+      let parts = or_parts b (list_any (λ b. b) bs) none in (
+        subst (λ n. is_among w.number (nodes_of (entries_left all)) n ≡ true) h.0.node (stays_in all h.0.mark (inside h.0.mark h.0.there) (h.0.goes ∙ parts.0)),
+        none_said all before inside ms bs h.1 parts.1,
+      )
 
   -- what an entry that stays asked is left
-  closed_left : (change : Change) (all ks : List (Mark N A)) → AllByRecursion (IsMarked change all) ks → AllByRecursion (λ (e : Entry N A). AllByRecursion (λ m. is_among w.number (nodes_of (entries_left all)) m ≡ true) e.asked) (entries_left ks)
+  closed_left : (change : Change) (all ks : List (Mark N A)) → AllByRecursion (IsMarked change all) ks
+      → AllByRecursion (λ (e : Entry N A). AllByRecursion (λ m. is_among w.number (nodes_of (entries_left all)) m ≡ true) e.asked) (entries_left ks)
   closed_left change all [] marked = tt
   closed_left change all (k ∷ ks) marked = by k.goes refl (closed_left change all ks marked.1)
     where
-      by : (b : Bool) → k.goes ≡ b → AllByRecursion (λ (e : Entry N A). AllByRecursion (λ m. is_among w.number (nodes_of (entries_left all)) m ≡ true) e.asked) (entries_left ks)
-          → AllByRecursion (λ (e : Entry N A). AllByRecursion (λ m. is_among w.number (nodes_of (entries_left all)) m ≡ true) e.asked) (entries_in (cond (not b) (k ∷ filter (λ k. not k.goes) ks) (filter (λ k. not k.goes) ks)))
+      by : (b : Bool) → k.goes ≡ b → AllByRecursion (λ (e : Entry N A). AllByRecursion (λ m. is_among w.number (nodes_of (entries_left all)) m ≡ true) e.asked)
+          (entries_left ks)
+          → AllByRecursion (λ (e : Entry N A). AllByRecursion (λ m. is_among w.number (nodes_of (entries_left all)) m ≡ true) e.asked)
+          (entries_in (cond (not b) (k ∷ filter (λ k. not k.goes) ks) (filter (λ k. not k.goes) ks)))
       by true e rest = rest
-      by false e rest = (none_said all all (λ x m. m) k.entry.asked marked.0.asked marked.0.say (or_parts (list_any (is_use_touched change) k.entry.uses) (list_any (λ b. b) marked.0.asked) (sym marked.0.goes ∙ e)).1, rest)
+      by false e rest = (
+        none_said all all (λ x m. m) k.entry.asked marked.0.asked marked.0.say
+            (or_parts (list_any (is_use_touched change) k.entry.uses) (list_any (λ b. b) marked.0.asked) (sym marked.0.goes ∙ e)).1,
+        rest,
+      )
 
   -- what stays is right on the same bytes
-  right-entries_left : (change : Change) (ks : List (Mark N A)) → IsRight w (entries_in ks) → AllByRecursion (IsMarked change ks) ks → IsRight w (entries_left ks)
+  right-entries_left : (change : Change) (ks : List (Mark N A)) → IsRight w (entries_in ks) → AllByRecursion (IsMarked change ks) ks
+      → IsRight w (entries_left ks)
   right-entries_left change ks right marked =
       let kept : List N = nodes_of (entries_left ks) in
       record {
-        each = All-both (IsRightEntry w (nodes_of (entries_in ks))) (λ (e : Entry N A). AllByRecursion (λ m. is_among w.number kept m ≡ true) e.asked) (IsRightEntry w kept)
+        each = All-both (IsRightEntry w (nodes_of (entries_in ks))) (λ (e : Entry N A). AllByRecursion (λ m. is_among w.number kept m ≡ true) e.asked)
+            (IsRightEntry w kept)
             (λ e is asked. record { outcome = is.outcome; asked = is.asked; uses = is.uses; closed = asked })
             (entries_left ks) (All-entries_left (IsRightEntry w (nodes_of (entries_in ks))) ks right.each) (closed_left change ks ks marked);
         once = distinct-entries_left w ks right.once;
@@ -369,7 +448,8 @@ module _ {N A : Type 0} (w : Standing N A) (law : IsSettled w) where
     forgets =
         let R : List (Entry N A) → Type 0 = λ xs. IsRight w xs in
         let stays : IsRight w all = subst R (sym sweeps.stays) (right-entries_left change sweeps.marks right_marks sweeps.marked) in
-        let same : nodes_of all ≡ left_after w change (nodes_of es) = ap nodes_of sweeps.stays ∙ left_nodes w change sweeps.marks told ∙ ap (λ xs. left_after w change (nodes_of xs)) sweeps.entries in
+        let same : nodes_of all ≡ left_after w change (nodes_of es) = ap nodes_of sweeps.stays ∙ left_nodes w change sweeps.marks told
+        ∙ ap (λ xs. left_after w change (nodes_of xs)) sweeps.entries in
         (stays, record { once = stays.once; same = λ x. ap (λ ns. is_among w.number ns x) same })
 
     -- and the looks are near
@@ -382,7 +462,9 @@ module _ {N A : Type 0} (w : Standing N A) (law : IsSettled w) where
         let most = sweeps.most over in
         record {
           least = subst (λ xs. length xs ≤ looked) gone sweeps.least;
-          most = subst (λ xs. looked ≤ 8 * (pages_met change + sum_by (λ e. met_by change e.uses) es + length xs + sum_by (λ e. length e.asked) xs + sum_by (λ e. length (pages_in e.uses)) xs)) gone (omega arith);
+          most = subst (λ xs. looked
+              ≤ 8 * (pages_met change + sum_by (λ e. met_by change e.uses) es + length xs + sum_by (λ e. length e.asked) xs
+              + sum_by (λ e. length (pages_in e.uses)) xs)) gone (omega arith);
         }
 
     -- and those of another edit are behind its place
@@ -396,18 +478,24 @@ module _ {N A : Type 0} (w : Standing N A) (law : IsSettled w) where
         let most = sweeps.behind moves in
         record {
           least = subst (λ xs. length xs ≤ looked) gone sweeps.least;
-          most = subst (λ xs. looked ≤ 8 * (1 + pages_behind change (pages_to reach) + sum_by (λ e. behind_by change e.uses) es + sum_by (λ e. ended_by change e.uses) es + length xs + sum_by (λ e. length e.asked) xs + sum_by (λ e. length (pages_in e.uses)) xs)) gone (omega arith);
+          most = subst (λ xs. looked
+              ≤ 8 * (1 + pages_behind change (pages_to reach) + sum_by (λ e. behind_by change e.uses) es + sum_by (λ e. ended_by change e.uses) es + length xs
+              + sum_by (λ e. length e.asked) xs + sum_by (λ e. length (pages_in e.uses)) xs)) gone (omega arith);
         }
 
 -- and it is right for the bytes after the edit
-pub forgets-right : {N A : Type 0} (meaning : Meaning N A) → IsLawful meaning → (change : Change) (before after : List ℕ) → Makes change before after → (pages : ℕ) (es all : List (Entry N A)) (looked : ℕ) → Sweeps change pages es all looked → IsRight (on meaning before) es → IsRight (on meaning after) all
+pub forgets-right : {N A : Type 0} (meaning : Meaning N A) → IsLawful meaning → (change : Change) (before after : List ℕ) → Makes change before after
+    → (pages : ℕ) (es all : List (Entry N A)) (looked : ℕ) → Sweeps change pages es all looked → IsRight (on meaning before) es
+    → IsRight (on meaning after) all
 forgets-right {N} {A} meaning law change before after made pages es all looked sweeps right =
     let P : List (Entry N A) → Type 0 = λ xs. AllByRecursion (λ (e : Entry N A). AllByRecursion (λ used. Touches change used → ⊥) e.uses) xs in
     untouched-stays meaning law change before after made all (forgets (on meaning before) (law_on meaning law before) change pages es all looked right sweeps).0
     (subst P (sym sweeps.stays) (free-entries_left change sweeps.marks sweeps.marks sweeps.marked))
 
 -- it was kept before
-pub forgets-kept : {N A : Type 0} (change : Change) (pages : ℕ) (es all : List (Entry N A)) (looked : ℕ) → Sweeps change pages es all looked → AllByRecursion (Contains es) all
+pub forgets-kept : {N A : Type 0} (change : Change) (pages : ℕ) (es all : List (Entry N A)) (looked : ℕ) → Sweeps change pages es all looked
+    → AllByRecursion (Contains es) all
 forgets-kept {N} {A} change pages es all looked sweeps =
     let P : List (Entry N A) → Type 0 = λ xs. AllByRecursion (Contains es) xs in
-    subst P (sym sweeps.stays) (All-entries_left (Contains es) sweeps.marks (subst P (sym sweeps.entries) (recursion_from_All (Contains es) es (All-contains_itself es))))
+    subst P (sym sweeps.stays)
+    (All-entries_left (Contains es) sweeps.marks (subst P (sym sweeps.entries) (recursion_from_All (Contains es) es (All-contains_itself es))))

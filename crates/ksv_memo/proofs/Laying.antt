@@ -1,5 +1,6 @@
 -- What the slots, links and frames stand for, when one slot changes.
-use Rattle.std.proofs.Common.{◌≡◌, ◌≢◌, ℕ, zero, suc, ◌+◌, ◌<◌, ◌≤◌, Bool, true, false, List, [], ◌∷◌, ◌++◌, take, drop, Option, Some, None, is_some, refl, sym, ◌∙◌, ap, subst, Result, slice_get, ◌⊎◌, inl, inr, nat_eq, eq-eqb, arith}
+use Rattle.std.proofs.Common.{◌≡◌, ◌≢◌, ℕ, zero, suc, ◌+◌, ◌<◌, ◌≤◌, Bool, true, false, List, [], ◌∷◌, ◌++◌, take, drop, Option, Some, None, is_some, refl, sym}
+use Rattle.std.proofs.Common.{◌∙◌, ap, subst, Result, slice_get, ◌⊎◌, inl, inr, nat_eq, eq-eqb, arith}
 use Rattle.std.specs.Option.{option_map}
 use Rattle.std.specs.List.{AllByRecursion}
 use Rattle.std.proofs.lemmas.Option.{slice_get-map}
@@ -77,7 +78,8 @@ same_or j i = by (nat_eq j i) refl
 
 pub answers_at-append : {V F : Type 0} (ss : List (Slot V F)) (is js : List ℕ) → answers_at ss (is ++ js) ≡ answers_at ss is ++ answers_at ss js
 answers_at-append {V} {F} ss [] js = refl
-answers_at-append {V} {F} ss (i ∷ is) js = ap (with_first (answer_at ss i)) (answers_at-append ss is js) ∙ first-append (answer_at ss i) (answers_at ss is) (answers_at ss js)
+answers_at-append {V} {F} ss (i ∷ is) js = ap (with_first (answer_at ss i)) (answers_at-append ss is js)
+    ∙ first-append (answer_at ss i) (answers_at ss is) (answers_at ss js)
   where
     first-append : (o : Option (Result V F)) (xs ys : List (Result V F)) → with_first o (xs ++ ys) ≡ with_first o xs ++ ys
     first-append None xs ys = refl
@@ -131,22 +133,29 @@ module _ {N V F : Type 0} where
 
     pub same_answers : (is : List ℕ) → AllByRecursion (IsKept ps) is → answers_at (slots_of qs) is ≡ answers_at (slots_of ps) is
     same_answers [] h = refl
-    same_answers (i ∷ is) h = ap (λ o. with_first o (answers_at (slots_of qs) is)) (same_answer i h.0) ∙ ap (with_first (answer_at (slots_of ps) i)) (same_answers is h.1)
+    same_answers (i ∷ is) h = ap (λ o. with_first o (answers_at (slots_of qs) is)) (same_answer i h.0)
+        ∙ ap (with_first (answer_at (slots_of ps) i)) (same_answers is h.1)
 
     -- so the entry of a kept node is the same
-    pub same_entry : (l m : Linked) (i : ℕ) → IsKept ps i → AllByRecursion (IsKept ps) (row l.asked i) → row m.asked i ≡ row l.asked i → row m.uses i ≡ row l.uses i → entry_at qs m i ≡ entry_at ps l i
+    pub same_entry : (l m : Linked) (i : ℕ) → IsKept ps i → AllByRecursion (IsKept ps) (row l.asked i) → row m.asked i ≡ row l.asked i
+        → row m.uses i ≡ row l.uses i → entry_at qs m i ≡ entry_at ps l i
     same_entry l m i kept all asked uses =
         (λ j. entry_with (same_node i (inl kept) j) (same_answer i kept j) (nodes_at qs (asked j)) (uses j))
         ∙ ap (λ ns. entry_with (node_at ps i) (answer_at (slots_of ps) i) ns (row l.uses i)) (same_nodes (row l.asked i) all)
 
     -- and the open ones
-    pub same_opens : (fs : List (Frame N)) (asked : List ℕ) (uses : List Use) → AllByRecursion (λ f. IsOpen ps f.slot) fs → AllByRecursion (IsKept ps) asked → opens_in qs fs asked uses ≡ opens_in ps fs asked uses
+    pub same_opens : (fs : List (Frame N)) (asked : List ℕ) (uses : List Use) → AllByRecursion (λ f. IsOpen ps f.slot) fs → AllByRecursion (IsKept ps) asked
+        → opens_in qs fs asked uses ≡ opens_in ps fs asked uses
     same_opens [] asked uses h k = refl
     same_opens (f ∷ fs) asked uses h k =
-        ap (λ o. open_before o (answers_at (slots_of qs) (drop f.asked asked)) (nodes_at qs (drop f.asked asked)) (drop f.uses uses) (opens_in qs fs (take f.asked asked) (take f.uses uses))) (same_node f.slot (inr h.0))
-        ∙ ap (λ rs. open_before (node_at ps f.slot) rs (nodes_at qs (drop f.asked asked)) (drop f.uses uses) (opens_in qs fs (take f.asked asked) (take f.uses uses))) (same_answers (drop f.asked asked) (All-drop (IsKept ps) f.asked asked k))
-        ∙ ap (λ ns. open_before (node_at ps f.slot) (answers_at (slots_of ps) (drop f.asked asked)) ns (drop f.uses uses) (opens_in qs fs (take f.asked asked) (take f.uses uses))) (same_nodes (drop f.asked asked) (All-drop (IsKept ps) f.asked asked k))
-        ∙ ap (open_before (node_at ps f.slot) (answers_at (slots_of ps) (drop f.asked asked)) (nodes_at ps (drop f.asked asked)) (drop f.uses uses)) (same_opens fs (take f.asked asked) (take f.uses uses) h.1 (All-take (IsKept ps) f.asked asked k))
+        ap (λ o. open_before o (answers_at (slots_of qs) (drop f.asked asked)) (nodes_at qs (drop f.asked asked)) (drop f.uses uses)
+        (opens_in qs fs (take f.asked asked) (take f.uses uses))) (same_node f.slot (inr h.0))
+        ∙ ap (λ rs. open_before (node_at ps f.slot) rs (nodes_at qs (drop f.asked asked)) (drop f.uses uses)
+        (opens_in qs fs (take f.asked asked) (take f.uses uses))) (same_answers (drop f.asked asked) (All-drop (IsKept ps) f.asked asked k))
+        ∙ ap (λ ns. open_before (node_at ps f.slot) (answers_at (slots_of ps) (drop f.asked asked)) ns (drop f.uses uses)
+        (opens_in qs fs (take f.asked asked) (take f.uses uses))) (same_nodes (drop f.asked asked) (All-drop (IsKept ps) f.asked asked k))
+        ∙ ap (open_before (node_at ps f.slot) (answers_at (slots_of ps) (drop f.asked asked)) (nodes_at ps (drop f.asked asked)) (drop f.uses uses))
+        (same_opens fs (take f.asked asked) (take f.uses uses) h.1 (All-take (IsKept ps) f.asked asked k))
 
   -- ---- lists of slots end to end
   pub nodes_at-append : (ps : List (N × Slot V F)) (is js : List ℕ) → nodes_at ps (is ++ js) ≡ nodes_at ps is ++ nodes_at ps js
@@ -169,13 +178,15 @@ module _ {N V F : Type 0} where
 
   pub entries_at-append : (ps : List (N × Slot V F)) (l : Linked) (is js : List ℕ) → entries_at ps l (is ++ js) ≡ entries_at ps l is ++ entries_at ps l js
   entries_at-append ps l [] js = refl
-  entries_at-append ps l (i ∷ is) js = ap (with_first (entry_at ps l i)) (entries_at-append ps l is js) ∙ first-append (entry_at ps l i) (entries_at ps l is) (entries_at ps l js)
+  entries_at-append ps l (i ∷ is) js = ap (with_first (entry_at ps l i)) (entries_at-append ps l is js)
+      ∙ first-append (entry_at ps l i) (entries_at ps l is) (entries_at ps l js)
     where
       first-append : (o : Option (Entry N (Result V F))) (xs ys : List (Entry N (Result V F))) → with_first o (xs ++ ys) ≡ with_first o xs ++ ys
       first-append None xs ys = refl
       first-append (Some x) xs ys = refl
 
-  pub entries_at-same : (ps qs : List (N × Slot V F)) (l m : Linked) (is : List ℕ) → AllByRecursion (λ i. entry_at qs m i ≡ entry_at ps l i) is → entries_at qs m is ≡ entries_at ps l is
+  pub entries_at-same : (ps qs : List (N × Slot V F)) (l m : Linked) (is : List ℕ) → AllByRecursion (λ i. entry_at qs m i ≡ entry_at ps l i) is
+      → entries_at qs m is ≡ entries_at ps l is
   entries_at-same ps qs l m [] h = refl
   entries_at-same ps qs l m (i ∷ is) h = ap (λ o. with_first o (entries_at qs m is)) h.0 ∙ ap (with_first (entry_at ps l i)) (entries_at-same ps qs l m is h.1)
 

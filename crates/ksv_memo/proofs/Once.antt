@@ -1,5 +1,6 @@
 -- A list's members, each once.
-use Rattle.std.proofs.Common.{◌≡◌, ◌≢◌, ◌⊎◌, inl, inr, ℕ, ◌+◌, ◌<◌, Bool, true, false, ◌&&◌, nat_eq, List, [], ◌∷◌, ◌++◌, take, length, get_or, refl, sym, ◌∙◌, ap, subst, Contains, true≢false, add-one}
+use Rattle.std.proofs.Common.{◌≡◌, ◌≢◌, ◌⊎◌, inl, inr, ℕ, ◌+◌, ◌<◌, Bool, true, false, ◌&&◌, nat_eq, List, [], ◌∷◌, ◌++◌, take, length, get_or, refl, sym, ◌∙◌}
+use Rattle.std.proofs.Common.{ap, subst, Contains, true≢false, add-one}
 use Rattle.std.proofs.Math.Seq.{take-suc}
 use Rattle.std.specs.Bool.{Decides}
 use Rattle.std.proofs.lemmas.Bool.Decides.{Decides-eqb, Decides-and, Decides-like}
@@ -13,7 +14,8 @@ use Rattle.ksv_memo_rules.specs.Right.{HasEachOnce}
 
 -- `==` on uses says whether they are the same
 pub use_decides : (a b : Use) → Decides (ghosts.eq a b) (a ≡ b)
-use_decides (Bytes f t) (Bytes g u) = Decides-like (nat_eq f g && nat_eq t u) (λ p i. Bytes (p.0 i) (p.1 i)) (λ e. let p : f ≡ g = cc in let q : t ≡ u = cc in (p, q)) (Decides-and (nat_eq f g) (nat_eq t u) (Decides-eqb f g) (Decides-eqb t u))
+use_decides (Bytes f t) (Bytes g u) = Decides-like (nat_eq f g && nat_eq t u) (λ p i. Bytes (p.0 i) (p.1 i))
+    (λ e. let p : f ≡ g = cc in let q : t ≡ u = cc in (p, q)) (Decides-and (nat_eq f g) (nat_eq t u) (Decides-eqb f g) (Decides-eqb t u))
 use_decides (Bytes f t) (Reach u) = (λ e. cc, λ e. cc)
 use_decides (Bytes f t) Size = (λ e. cc, λ e. cc)
 use_decides (Reach t) (Bytes g u) = (λ e. cc, λ e. cc)
@@ -56,14 +58,17 @@ member_test seen once x r same is =
     subst P same (Decides-contains seen x r (contains_decides ghosts.eq use_decides seen x r is))
 
 -- one more member of a list is looked at
-pub once-keeps : (once now uses : List Use) (i : ℕ) (d : Use) (r : Bool) → i < length uses → HasEachOnce once (take i uses) → Decides r (Contains once (get_or uses i d)) → r ≡ true → now ≡ once → HasEachOnce now (take (i + 1) uses)
+pub once-keeps : (once now uses : List Use) (i : ℕ) (d : Use) (r : Bool) → i < length uses → HasEachOnce once (take i uses)
+    → Decides r (Contains once (get_or uses i d)) → r ≡ true → now ≡ once → HasEachOnce now (take (i + 1) uses)
 once-keeps once now uses i d r lt h says is same =
     let more : take (i + 1) uses ≡ take i uses ++ get_or uses i d ∷ [] = rw add-one (take-suc uses i d lt) in
     let P : List Use → List Use → Type 0 = λ xs ys. HasEachOnce xs ys in
     subst (λ xs. P xs (take (i + 1) uses)) (sym same) (subst (P once) (sym more) (once-seen once (take i uses) (get_or uses i d) h (says.0 is)))
 
-pub once-takes : (once now uses : List Use) (i : ℕ) (d : Use) (r : Bool) → i < length uses → HasEachOnce once (take i uses) → Decides r (Contains once (get_or uses i d)) → r ≡ false → now ≡ once ++ get_or uses i d ∷ [] → HasEachOnce now (take (i + 1) uses)
+pub once-takes : (once now uses : List Use) (i : ℕ) (d : Use) (r : Bool) → i < length uses → HasEachOnce once (take i uses)
+    → Decides r (Contains once (get_or uses i d)) → r ≡ false → now ≡ once ++ get_or uses i d ∷ [] → HasEachOnce now (take (i + 1) uses)
 once-takes once now uses i d r lt h says is same =
     let more : take (i + 1) uses ≡ take i uses ++ get_or uses i d ∷ [] = rw add-one (take-suc uses i d lt) in
     let P : List Use → List Use → Type 0 = λ xs ys. HasEachOnce xs ys in
-    subst (λ xs. P xs (take (i + 1) uses)) (sym same) (subst (P (once ++ get_or uses i d ∷ [])) (sym more) (once-new once (take i uses) (get_or uses i d) h (λ k. true≢false (sym (says.1 k) ∙ is))))
+    subst (λ xs. P xs (take (i + 1) uses)) (sym same)
+    (subst (P (once ++ get_or uses i d ∷ [])) (sym more) (once-new once (take i uses) (get_or uses i d) h (λ k. true≢false (sym (says.1 k) ∙ is))))

@@ -1,5 +1,6 @@
 -- An entry among others is as one after them.
-use Rattle.std.proofs.Common.{◌≡◌, ℕ, ◌+◌, ◌-◌, ◌*◌, ◌<◌, Bool, true, false, cond, List, [], ◌∷◌, ◌++◌, length, map, refl, sym, ◌∙◌, ap, subst, nat_eq, ◌||◌, arith, length-append, append_assoc, IsPermutation}
+use Rattle.std.proofs.Common.{◌≡◌, ℕ, ◌+◌, ◌-◌, ◌*◌, ◌<◌, Bool, true, false, cond, List, [], ◌∷◌, ◌++◌, length, map, refl, sym, ◌∙◌, ap, subst, nat_eq, ◌||◌}
+use Rattle.std.proofs.Common.{arith, length-append, append_assoc, IsPermutation}
 use Rattle.std.specs.List.{AllByRecursion, IsDistinct}
 use Rattle.std.proofs.lemmas.Cmp.{nat_eq_equiv}
 use Rattle.std.proofs.lemmas.List.{map-append}
@@ -11,7 +12,8 @@ use Rattle.ksv_memo_rules.specs.Evaluation.{is_among}
 use Rattle.ksv_memo_rules.specs.Entry.{Entry}
 use Rattle.ksv_memo.specs.Open.{Open, nodes_in}
 use Rattle.ksv_memo_rules.specs.Right.{nodes_of, AreDistinct, IsRightEntry, IsRight, fresh, costs, Agrees}
-use Rattle.ksv_memo.specs.Running.{HasCome, IsWaiting, Chain, IsStack, calls_left, calls_of, to_keep, debt, Account, GoesOn, HasFinished, IsLeft, AreSame, rest_of}
+use Rattle.ksv_memo.specs.Running.{HasCome, IsWaiting, Chain, IsStack, calls_left, calls_of, to_keep, debt, Account, GoesOn, HasFinished, IsLeft, AreSame}
+use Rattle.ksv_memo.specs.Running.{rest_of}
 use Rattle.ksv_memo_rules.proofs.Lists.{All-map, All-++, All-left, All-right}
 use Rattle.ksv_memo_rules.proofs.Keeping.{is_among-append, nodes_of-append}
 
@@ -23,12 +25,16 @@ or-turned false false true = refl
 or-turned false false false = refl
 
 -- what is fresh depends on what is kept as a set alone
-pub fresh-same : {N : Type 0} (number : N → ℕ) (ns ms rest : List N) → ((x : N) → is_among number ns x ≡ is_among number ms x) → fresh number ns rest ≡ fresh number ms rest
+pub fresh-same : {N : Type 0} (number : N → ℕ) (ns ms rest : List N) → ((x : N) → is_among number ns x ≡ is_among number ms x)
+    → fresh number ns rest ≡ fresh number ms rest
 unfolding fresh
 fresh-same number ns ms [] h = refl
-fresh-same {N} number ns ms (m ∷ rest) h = by (is_among number ns m) (is_among number ms m) (h m) (fresh-same number ns ms rest h) (fresh-same number (ns ++ m ∷ []) (ms ++ m ∷ []) rest (λ x. is_among-append number ns (m ∷ []) x ∙ ap (λ b. b || is_among number (m ∷ []) x) (h x) ∙ sym (is_among-append number ms (m ∷ []) x)))
+fresh-same {N} number ns ms (m ∷ rest) h = by (is_among number ns m) (is_among number ms m) (h m) (fresh-same number ns ms rest h)
+    (fresh-same number (ns ++ m ∷ []) (ms ++ m ∷ []) rest
+    (λ x. is_among-append number ns (m ∷ []) x ∙ ap (λ b. b || is_among number (m ∷ []) x) (h x) ∙ sym (is_among-append number ms (m ∷ []) x)))
   where
-    by : (a b : Bool) → a ≡ b → fresh number ns rest ≡ fresh number ms rest → fresh number (ns ++ m ∷ []) rest ≡ fresh number (ms ++ m ∷ []) rest → cond a (fresh number ns rest) (m ∷ fresh number (ns ++ m ∷ []) rest) ≡ cond b (fresh number ms rest) (m ∷ fresh number (ms ++ m ∷ []) rest)
+    by : (a b : Bool) → a ≡ b → fresh number ns rest ≡ fresh number ms rest → fresh number (ns ++ m ∷ []) rest ≡ fresh number (ms ++ m ∷ []) rest
+        → cond a (fresh number ns rest) (m ∷ fresh number (ns ++ m ∷ []) rest) ≡ cond b (fresh number ms rest) (m ∷ fresh number (ms ++ m ∷ []) rest)
     by true true e p q = p
     by false false e p q = ap (λ xs. m ∷ xs) q
     by true false e p q = absurd (cc)
@@ -71,26 +77,34 @@ module _ {N A : Type 0} (w : Standing N A) (front back : List (Entry N A)) (e : 
   turned : (xs ys : List ℕ) (n : ℕ) → IsPermutation ((xs ++ ys) ++ n ∷ []) (xs ++ n ∷ ys)
   turned xs ys n =
       let first = IsPermutation-to_front (xs ++ ys) n in
-      let then : IsPermutation ((n ∷ xs) ++ ys) ((xs ++ n ∷ []) ++ ys) = IsPermutation-append_left ys (n ∷ xs) (xs ++ n ∷ []) (IsPermutation-sym (xs ++ n ∷ []) (n ∷ xs) (IsPermutation-to_front xs n)) in
+      let then : IsPermutation ((n ∷ xs) ++ ys) ((xs ++ n ∷ []) ++ ys) =
+      IsPermutation-append_left ys (n ∷ xs) (xs ++ n ∷ []) (IsPermutation-sym (xs ++ n ∷ []) (n ∷ xs) (IsPermutation-to_front xs n)) in
       IsPermutation-trans ((xs ++ ys) ++ n ∷ []) (n ∷ xs ++ ys) (xs ++ n ∷ ys) first (subst (IsPermutation (n ∷ xs ++ ys)) (append_assoc xs (n ∷ []) ys) then)
 
   distinct-moved : AreDistinct w (nodes_of last) → AreDistinct w (nodes_of among)
   distinct-moved h =
       let numbers : List (Entry N A) → List ℕ = λ es. map w.number (nodes_of es) in
-      let cut : (xs ys : List (Entry N A)) → numbers (xs ++ ys) ≡ numbers xs ++ numbers ys = λ xs ys. ap (map w.number) (nodes_of-append xs ys) ∙ map-append w.number (nodes_of xs) (nodes_of ys) in
-      let was : numbers last ≡ (numbers front ++ numbers back) ++ w.number e.node ∷ [] = cut (front ++ back) (e ∷ []) ∙ ap (λ ns. ns ++ w.number e.node ∷ []) (cut front back) in
+      let cut : (xs ys : List (Entry N A)) → numbers (xs ++ ys) ≡ numbers xs ++ numbers ys = λ xs ys. ap (map w.number) (nodes_of-append xs ys)
+      ∙ map-append w.number (nodes_of xs) (nodes_of ys) in
+      let was : numbers last ≡ (numbers front ++ numbers back) ++ w.number e.node ∷ [] =
+      cut (front ++ back) (e ∷ []) ∙ ap (λ ns. ns ++ w.number e.node ∷ []) (cut front back) in
       let now : numbers among ≡ numbers front ++ w.number e.node ∷ numbers back = cut front (e ∷ back) in
-      subst (IsDistinct nat_eq) (sym now) (IsDistinct-IsPermutation nat_eq nat_eq_equiv.symm ((numbers front ++ numbers back) ++ w.number e.node ∷ []) (numbers front ++ w.number e.node ∷ numbers back) (turned (numbers front) (numbers back) (w.number e.node)) (subst (IsDistinct nat_eq) was h))
+      subst (IsDistinct nat_eq) (sym now)
+      (IsDistinct-IsPermutation nat_eq nat_eq_equiv.symm ((numbers front ++ numbers back) ++ w.number e.node ∷ [])
+      (numbers front ++ w.number e.node ∷ numbers back) (turned (numbers front) (numbers back) (w.number e.node)) (subst (IsDistinct nat_eq) was h))
 
-  among-in : (ms : List N) → AllByRecursion (λ m. is_among w.number (nodes_of last) m ≡ true) ms → AllByRecursion (λ m. is_among w.number (nodes_of among) m ≡ true) ms
+  among-in : (ms : List N) → AllByRecursion (λ m. is_among w.number (nodes_of last) m ≡ true) ms
+      → AllByRecursion (λ m. is_among w.number (nodes_of among) m ≡ true) ms
   among-in ms h = All-map (λ m k. sym (among-moved m) ∙ k) ms h
 
-  among-out : (ms : List N) → AllByRecursion (λ m. is_among w.number (nodes_of last) m ≡ false) ms → AllByRecursion (λ m. is_among w.number (nodes_of among) m ≡ false) ms
+  among-out : (ms : List N) → AllByRecursion (λ m. is_among w.number (nodes_of last) m ≡ false) ms
+      → AllByRecursion (λ m. is_among w.number (nodes_of among) m ≡ false) ms
   among-out ms h = All-map (λ m k. sym (among-moved m) ∙ k) ms h
 
   right-moved : IsRight w last → IsRight w among
   right-moved h = record {
-    each = All-map (λ x k. record { outcome = k.outcome; asked = k.asked; uses = k.uses; closed = among-in x.asked k.closed }) among (All-moved (IsRightEntry w (nodes_of last)) h.each);
+    each = All-map (λ x k. record { outcome = k.outcome; asked = k.asked; uses = k.uses; closed = among-in x.asked k.closed }) among
+        (All-moved (IsRightEntry w (nodes_of last)) h.each);
     once = distinct-moved h.once;
   }
 
@@ -108,7 +122,8 @@ module _ {N A : Type 0} (w : Standing N A) (front back : List (Entry N A)) (e : 
   chain-moved m (o ∷ st) h = (waiting-moved o m h.0, chain-moved o.node st h.1)
 
   stack-moved : (n : N) (st : List (Open N A)) → IsStack w last n st → IsStack w among n st
-  stack-moved n st h = record { right = right-moved h.right; chain = chain-moved n st h.chain; distinct = h.distinct; apart = among-out (n ∷ nodes_in st) h.apart }
+  stack-moved n st h =
+      record { right = right-moved h.right; chain = chain-moved n st h.chain; distinct = h.distinct; apart = among-out (n ∷ nodes_in st) h.apart }
 
   debt-moved : (rest : List N) → debt w last rest ≡ debt w among rest
   debt-moved rest = ap (costs w) (fresh-same w.number (nodes_of last) (nodes_of among) rest among-moved)
@@ -122,7 +137,8 @@ module _ {N A : Type 0} (w : Standing N A) (front back : List (Entry N A)) (e : 
   left-calls : (o : Open N A) (st : List (Open N A)) → calls_left w last o st ≡ calls_left w among o st
   left-calls o st = ap (λ k. (w.nodes - (k + length (o ∷ st))) * (w.replies + 2) + calls_of w (o ∷ st)) length-moved
 
-  pub goes-moved : (account : Account N A) (before : List (Entry N A)) (o : Open N A) (st : List (Open N A)) → GoesOn w account before last o st → GoesOn w account before among o st
+  pub goes-moved : (account : Account N A) (before : List (Entry N A)) (o : Open N A) (st : List (Open N A)) → GoesOn w account before last o st
+      → GoesOn w account before among o st
   goes-moved account before o st h = record {
     stack = stack-moved o.node st h.stack;
     came = come-moved o h.came;
@@ -137,4 +153,5 @@ module _ {N A : Type 0} (w : Standing N A) (front back : List (Entry N A)) (e : 
   finished-moved account out h = record { value = h.value; right = right-moved h.right; all = λ x. sym (among-moved x) ∙ h.all x; calls = h.calls }
 
   pub left-moved : (all : List N) (before : List (Entry N A)) → IsLeft w all before last → IsLeft w all before among
-  left-moved all before h = record { right = right-moved h.right; grown = λ x k. sym (among-moved x) ∙ h.grown x k; within = λ x k. h.within x (among-moved x ∙ k) }
+  left-moved all before h =
+      record { right = right-moved h.right; grown = λ x k. sym (among-moved x) ∙ h.grown x k; within = λ x k. h.within x (among-moved x ∙ k) }

@@ -16,10 +16,12 @@ or-again true b c h = refl
 or-again false true c h = let no : false ≡ true = h refl in cc
 or-again false false c h = refl
 
-among-again : {N : Type 0} (number : N → ℕ) (kept ms : List N) (m x : N) → is_among number kept m ≡ true → is_among number (kept ++ m ∷ ms) x ≡ is_among number (kept ++ ms) x
+among-again : {N : Type 0} (number : N → ℕ) (kept ms : List N) (m x : N) → is_among number kept m ≡ true
+    → is_among number (kept ++ m ∷ ms) x ≡ is_among number (kept ++ ms) x
 among-again number kept ms m x h =
     is_among-append number kept (m ∷ ms) x
-    ∙ or-again (is_among number kept x) (nat_eq (number x) (number m)) (is_among number ms x) (λ e. ap (λ n. list_any (nat_eq n) (map number kept)) (eqb_true (number x) (number m) e) ∙ h)
+    ∙ or-again (is_among number kept x) (nat_eq (number x) (number m)) (is_among number ms x)
+    (λ e. ap (λ n. list_any (nat_eq n) (map number kept)) (eqb_true (number x) (number m) e) ∙ h)
     ∙ sym (is_among-append number kept ms x)
 
 -- what is kept and what is fresh are all members
@@ -27,7 +29,9 @@ pub among-fresh : {N : Type 0} (number : N → ℕ) (kept ms : List N) (x : N) �
 among-fresh number kept [] x = ap (λ ns. is_among number (kept ++ ns) x) (fresh-nil number kept)
 among-fresh number kept (m ∷ ms) x = by (is_among number kept m) refl (among-fresh number kept ms x) (among-fresh number (kept ++ m ∷ []) ms x)
   where
-    by : (b : Bool) → is_among number kept m ≡ b → is_among number (kept ++ fresh number kept ms) x ≡ is_among number (kept ++ ms) x → is_among number ((kept ++ m ∷ []) ++ fresh number (kept ++ m ∷ []) ms) x ≡ is_among number ((kept ++ m ∷ []) ++ ms) x → is_among number (kept ++ fresh number kept (m ∷ ms)) x ≡ is_among number (kept ++ m ∷ ms) x
+    by : (b : Bool) → is_among number kept m ≡ b → is_among number (kept ++ fresh number kept ms) x ≡ is_among number (kept ++ ms) x
+        → is_among number ((kept ++ m ∷ []) ++ fresh number (kept ++ m ∷ []) ms) x ≡ is_among number ((kept ++ m ∷ []) ++ ms) x
+        → is_among number (kept ++ fresh number kept (m ∷ ms)) x ≡ is_among number (kept ++ m ∷ ms) x
     by true e ih _ = ap (λ ns. is_among number (kept ++ ns) x) (fresh-in number kept m ms e) ∙ ih ∙ sym (among-again number kept ms m x e)
     by false e _ ih =
         ap (λ ns. is_among number (kept ++ ns) x) (fresh-out number kept m ms e)
@@ -36,7 +40,8 @@ among-fresh number kept (m ∷ ms) x = by (is_among number kept m) refl (among-f
 
 module _ {N A : Type 0} (w : Standing N A) where
   -- the nodes after a question are the kept ones and the completed ones
-  pub exactly : (es all : List (Entry N A)) (ms : List N) → IsRight w all → AreSame w (nodes_of all) (to_keep w es ms) → AreExactly w (nodes_of all) (nodes_of es ++ ms)
+  pub exactly : (es all : List (Entry N A)) (ms : List N) → IsRight w all → AreSame w (nodes_of all) (to_keep w es ms)
+      → AreExactly w (nodes_of all) (nodes_of es ++ ms)
   exactly es all ms right is = record {
     once = right.once;
     same = λ x. is x ∙ among-fresh w.number (nodes_of es) ms x;

@@ -11,7 +11,8 @@ use Rattle.ksv_memo.specs.Layout.{IsOneOf, AllDiffer, slots_of, node_at, IsKept,
 use Rattle.ksv_memo.proofs.Knowing.{some-frames}
 use Rattle.ksv_memo.proofs.Changing.{frames_nodes}
 
-module _ {N V F : Type 0} (ps qs : List (N × Slot V F)) (opens : (i : ℕ) → IsOpen qs i → IsOpen ps i) (frames none : Frames N) (h : AreFrames ps frames) (empty : opens_of ps frames ≡ []) (same : none.frames ≡ frames.frames) where
+module _ {N V F : Type 0} (ps qs : List (N × Slot V F)) (opens : (i : ℕ) → IsOpen qs i → IsOpen ps i) (frames none : Frames N) (h : AreFrames ps frames)
+    (empty : opens_of ps frames ≡ []) (same : none.frames ≡ frames.frames) where
   nothing : reverse frames.frames.items ≡ []
   nothing = some-frames ps (reverse frames.frames.items) frames.asked.items frames.uses.items (frames_nodes ps frames h) empty
 
@@ -54,5 +55,6 @@ module _ {N V F : Type 0} where
         nested = subst (λ fs. AreNested fs (length frames.asked.items) (length frames.uses.items)) (sym now) tt;
       }
 
-  pub none-laid : (ps : List (N × Slot V F)) (l : Linked) (frames : Frames N) → ps ≡ [] → l.kept ≡ [] → l.waits ≡ [] → frames.frames.items ≡ [] → frames.asked.items ≡ [] → IsLaidOut ps l frames
+  pub none-laid : (ps : List (N × Slot V F)) (l : Linked) (frames : Frames N) → ps ≡ [] → l.kept ≡ [] → l.waits ≡ [] → frames.frames.items ≡ []
+      → frames.asked.items ≡ [] → IsLaidOut ps l frames
   none-laid ps l frames empty kept waits none cleared = record { kept = none_linked ps l empty kept waits; waits = none_framed ps frames empty none cleared }

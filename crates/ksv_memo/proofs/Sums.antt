@@ -1,5 +1,6 @@
 -- Sums over slots that differ.
-use Rattle.std.proofs.Common.{◌≡◌, ◌≢◌, inl, inr, Bool, true, false, cond, ℕ, zero, suc, ◌+◌, ◌<◌, ◌≤◌, List, [], ◌∷◌, length, get_or, filter, Contains, refl, sym, ◌∙◌, ap, arith, sum_by}
+use Rattle.std.proofs.Common.{◌≡◌, ◌≢◌, inl, inr, Bool, true, false, cond, ℕ, zero, suc, ◌+◌, ◌<◌, ◌≤◌, List, [], ◌∷◌, length, get_or, filter, Contains, refl}
+use Rattle.std.proofs.Common.{sym, ◌∙◌, ap, arith, sum_by}
 use Rattle.std.specs.List.{AllByRecursion, AllPairs}
 use Rattle.std.proofs.lemmas.List.Sums.{sum_by-cons}
 use Rattle.ksv_memo_links.specs.Touching.{numbers_from}
@@ -17,7 +18,11 @@ each-from P (x ∷ xs) h = (h 0 (omega arith), each-from P xs (λ k lt. h (suc k
 
 pub differ : (xs : List ℕ) → AllPairs (λ (a b : ℕ). a ≢ b) xs → AllDiffer xs
 differ [] h = tt
-differ (x ∷ xs) h = (each-from (λ j. x ≢ j) xs (λ k lt. h 0 (suc k) 0 (omega arith) (omega arith)), differ xs (λ i j d lt l. h (suc i) (suc j) d (omega arith) (omega arith)))
+differ (x ∷ xs) h = (
+  each-from (λ j. x ≢ j) xs (λ k lt. h 0 (suc k) 0 (omega arith) (omega arith)),
+  differ xs
+      (λ i j d lt l. h (suc i) (suc j) d (omega arith) (omega arith)),
+)
 
 pub numbers-differ : (a n : ℕ) → AllDiffer (numbers_from a n)
 numbers-differ a zero = tt
@@ -49,7 +54,8 @@ filter-passes p (y ∷ xs) x h = by (p y) refl h (filter-passes p xs x)
     by false e k later = later k
 
 -- a member's part, and the sum of the others
-cut : (f : ℕ → ℕ) (vs : List ℕ) (w : ℕ) → IsOneOf vs w → (rest : List ℕ) × (sum_by f vs ≡ f w + sum_by f rest) × ((x : ℕ) → x ≢ w → IsOneOf vs x → IsOneOf rest x)
+cut : (f : ℕ → ℕ) (vs : List ℕ) (w : ℕ) → IsOneOf vs w
+    → (rest : List ℕ) × (sum_by f vs ≡ f w + sum_by f rest) × ((x : ℕ) → x ≢ w → IsOneOf vs x → IsOneOf rest x)
 cut f [] w h = absurd h
 cut f (v ∷ vs) w (inl e) = (vs, sum_by-cons f v vs ∙ ap (λ k. f k + sum_by f vs) e, λ x ne m. later x ne m)
   where

@@ -1,5 +1,6 @@
 -- The slots that were emptied are those of the entries that a change takes.
-use Rattle.std.proofs.Common.{◌≡◌, ◌⊎◌, inl, inr, Bool, true, false, not, cond, ◌||◌, ◌&&◌, ℕ, zero, suc, ◌+◌, ◌-◌, ◌*◌, ◌<◌, ◌≤◌, max, List, [], ◌∷◌, length, map, filter, get_or, Option, Some, None, is_some, All, Contains, refl, sym, ◌∙◌, ap, subst, arith, Result, sum_by, count_by}
+use Rattle.std.proofs.Common.{◌≡◌, ◌⊎◌, inl, inr, Bool, true, false, not, cond, ◌||◌, ◌&&◌, ℕ, zero, suc, ◌+◌, ◌-◌, ◌*◌, ◌<◌, ◌≤◌, max, List, [], ◌∷◌, length}
+use Rattle.std.proofs.Common.{map, filter, get_or, Option, Some, None, is_some, All, Contains, refl, sym, ◌∙◌, ap, subst, arith, Result, sum_by, count_by}
 use Rattle.std.specs.Option.{option_map}
 use Rattle.std.specs.List.{AllByRecursion, list_any}
 use Rattle.std.proofs.lemmas.Bool.{and_parts, cases_Bool, not-true}
@@ -14,7 +15,8 @@ use Rattle.ksv_memo_links.specs.Shelved.{row}
 use Rattle.ksv_bytes.specs.Uses.{is_use_touched}
 use Rattle.ksv_memo_links.specs.Touching.{pages_in, numbers_from, AreWithin}
 use Rattle.ksv_memo_links.specs.Marking.{is_kept}
-use Rattle.ksv_memo_links.specs.Links.{Linked, Forgets, Reaches, here, through, IsHit, is_hit, IsMove, IsOverwrite, pages_met, met_by, pages_behind, behind_by, ended_by, asks_of}
+use Rattle.ksv_memo_links.specs.Links.{Linked, Forgets, Reaches, here, through, IsHit, is_hit, IsMove, IsOverwrite, pages_met, met_by, pages_behind, behind_by}
+use Rattle.ksv_memo_links.specs.Links.{ended_by, asks_of}
 use Rattle.ksv_memo_rules.specs.declared.replies.Slot.{Slot}
 use Rattle.ksv_memo_rules.specs.Slots.{answer_at, with_first}
 use Rattle.ksv_memo_rules.specs.Entry.{Entry}
@@ -57,7 +59,8 @@ ended_none (Delete at n) = refl
 ended_none Append = refl
 
 -- a sum over rows is no more than one over the numbers of the rows that count
-rows-numbers : (f : List Use → ℕ) (g : ℕ → ℕ) (rows : List (List Use)) (n : ℕ) → f [] ≡ 0 → ((i : ℕ) → f (row rows i) ≤ g i) → ((i : ℕ) → n ≤ i → f (row rows i) ≡ 0) → sum_by f rows ≤ sum_by g (numbers_from 0 n)
+rows-numbers : (f : List Use → ℕ) (g : ℕ → ℕ) (rows : List (List Use)) (n : ℕ) → f [] ≡ 0 → ((i : ℕ) → f (row rows i) ≤ g i)
+    → ((i : ℕ) → n ≤ i → f (row rows i) ≡ 0) → sum_by f rows ≤ sum_by g (numbers_from 0 n)
 rows-numbers f g [] n z h k = omega arith
 rows-numbers f g (x ∷ rows) zero z h k =
     let c = sum_by-cons f x rows in
@@ -79,12 +82,18 @@ module _ {N V F : Type 0} where
   none_after (p ∷ ps) (suc i) le = none_after ps i (omega arith)
 
   -- what an entry is
-  pub entry_parts : (o : Option N) (b : Option (Result V F)) (asked : List N) (uses : List Use) (e : Entry N (Result V F)) → entry_with o b asked uses ≡ Some e → (is_some b ≡ true) × (e.asked ≡ asked) × (e.uses ≡ uses) × (o ≡ Some e.node)
+  pub entry_parts : (o : Option N) (b : Option (Result V F)) (asked : List N) (uses : List Use) (e : Entry N (Result V F)) → entry_with o b asked uses ≡ Some e
+      → (is_some b ≡ true) × (e.asked ≡ asked) × (e.uses ≡ uses) × (o ≡ Some e.node)
   entry_parts None b asked uses e is = absurd (cc)
   entry_parts (Some n) None asked uses e is = absurd (cc)
   entry_parts (Some n) (Some a) asked uses e is =
-      let same : record { node = n; answer = a; asked = asked; uses = uses } ≡ e = cc in
-      (refl, ap (λ (x : Entry N (Result V F)). x.asked) (sym same), ap (λ (x : Entry N (Result V F)). x.uses) (sym same), ap (λ (x : Entry N (Result V F)). Some x.node) same)
+      let same : record { node = n; answer = a; asked = asked; uses = uses } ≡ e = cc in (
+        refl,
+        ap (λ (x : Entry N (Result V F)). x.asked) (sym same),
+        ap (λ (x : Entry N (Result V F)). x.uses) (sym same),
+        ap
+            (λ (x : Entry N (Result V F)). Some x.node) same,
+      )
 
   nodes-alike : (ps qs : List (N × Slot V F)) → ((i : ℕ) → node_at qs i ≡ node_at ps i) → (is : List ℕ) → nodes_at qs is ≡ nodes_at ps is
   nodes-alike ps qs h [] = refl
@@ -96,7 +105,8 @@ module _ {N V F : Type 0} where
   past (p ∷ ps) (suc i) h = let lt = past ps i h in omega arith
 
   -- what holds of the uses of all entries holds of those of each kept slot
-  pub kept-within : (pages : ℕ) (ps : List (N × Slot V F)) (l : Linked) → AreLinked ps l → AllByRecursion (λ e. AreWithin pages e.uses) (entries_of ps l) → (s : ℕ) → is_kept l.kept s ≡ true → AreWithin pages (row l.uses s)
+  pub kept-within : (pages : ℕ) (ps : List (N × Slot V F)) (l : Linked) → AreLinked ps l → AllByRecursion (λ e. AreWithin pages e.uses) (entries_of ps l)
+      → (s : ℕ) → is_kept l.kept s ≡ true → AreWithin pages (row l.uses s)
   kept-within pages ps l h all s k =
       let kept : IsKept ps s = sym (h.kept s) ∙ k in
       let node = some-of (node_at ps s) (kept_node ps s kept) in
@@ -104,13 +114,16 @@ module _ {N V F : Type 0} where
       let x : Entry N (Result V F) = record { node = node.0; answer = answer.0; asked = nodes_at ps (row l.asked s); uses = row l.uses s } in
       let at : entry_at ps l s ≡ Some x = λ j. entry_with (node.1 j) (answer.1 j) (nodes_at ps (row l.asked s)) (row l.uses s) in
       let lt = past ps s kept in
-      one_of-all (λ (e : Entry N (Result V F)). AreWithin pages e.uses) (entries_of ps l) all x (find_entry ps l (numbers_from 0 (length ps)) s x (number_in 0 (length ps) s (omega arith) (omega arith)) at)
+      one_of-all (λ (e : Entry N (Result V F)). AreWithin pages e.uses) (entries_of ps l) all x
+      (find_entry ps l (numbers_from 0 (length ps)) s x (number_in 0 (length ps) s (omega arith) (omega arith)) at)
 
   -- the slots that go are there
   pub waits-in : (change : Change) (ps : List (N × Slot V F)) (l m : Linked) → AreLinked ps l → Forgets l m change → All (λ s. s < length ps) m.waits
-  waits-in change ps l m h f k d lt = past ps (get_or m.waits k d) (sym (h.kept (get_or m.waits k d)) ∙ ((f.exact (get_or m.waits k d)).0 (Contains-get_or m.waits k d lt)).was_kept)
+  waits-in change ps l m h f k d lt = past ps (get_or m.waits k d)
+      (sym (h.kept (get_or m.waits k d)) ∙ ((f.exact (get_or m.waits k d)).0 (Contains-get_or m.waits k d lt)).was_kept)
 
-  module _ (change : Change) (ps qs : List (N × Slot V F)) (l m n : Linked) (from count : ℕ) (h : AreLinked ps l) (f : Forgets l m change) (g : IsEmptied ps qs m n from count) where
+  module _ (change : Change) (ps qs : List (N × Slot V F)) (l m n : Linked) (from count : ℕ) (h : AreLinked ps l) (f : Forgets l m change)
+      (g : IsEmptied ps qs m n from count) where
     abbrev goes : ℕ → Bool
     goes i = not (is_kept m.kept i)
 
@@ -131,7 +144,8 @@ module _ {N V F : Type 0} where
     entries [] = refl
     entries (i ∷ is) = by (entry_at ps l i) ∙ ap (with_first (entry_at ps l i)) (entries is)
       where
-        by : (o : Option (Entry N (Result V F))) → entries_with (with_first (option_map (mark_of i) o) (marks_at is)) ≡ with_first o (entries_with (marks_at is))
+        by : (o : Option (Entry N (Result V F))) → entries_with (with_first (option_map (mark_of i) o) (marks_at is))
+            ≡ with_first o (entries_with (marks_at is))
         by None = refl
         by (Some e) = refl
 
@@ -159,25 +173,33 @@ module _ {N V F : Type 0} where
     still : (i : ℕ) → is_kept m.kept i ≡ true → entry_at qs n i ≡ entry_at ps l i
     still i e =
         let not_taken = stay i e in
-        (λ j. entry_with (g.taken.nodes i j) (g.taken.same i not_taken j) (nodes-alike ps qs g.taken.nodes ((g.taken.asked i not_taken ∙ ap (λ rows. row rows i) f.asked) j) j) ((g.taken.uses i not_taken ∙ ap (λ rows. row rows i) f.uses) j))
+        (λ j. entry_with (g.taken.nodes i j) (g.taken.same i not_taken j)
+        (nodes-alike ps qs g.taken.nodes ((g.taken.asked i not_taken ∙ ap (λ rows. row rows i) f.asked) j) j)
+        ((g.taken.uses i not_taken ∙ ap (λ rows. row rows i) f.uses) j))
 
     left_one : (i : ℕ) (rest : List (Mark N (Result V F))) → with_first (entry_at qs n i) (entries_left rest) ≡ entries_left (with_first (mark_at i) rest)
     left_one i rest = by (entry_at ps l i) refl (answer_at (slots_of ps) i) refl (cases_Bool (is_kept m.kept i))
       where
-        stays : (o : Option (Entry N (Result V F))) (b : Bool) → b ≡ true → with_first o (entries_left rest) ≡ entries_left (with_first (option_map (λ (e : Entry N (Result V F)). record { entry = e; goes = not b }) o) rest)
+        stays : (o : Option (Entry N (Result V F))) (b : Bool) → b ≡ true
+            → with_first o (entries_left rest) ≡ entries_left
+            (with_first (option_map (λ (e : Entry N (Result V F)). record { entry = e; goes = not b }) o) rest)
         stays None b e = refl
         stays (Some x) true e = refl
         stays (Some x) false e = absurd (cc)
 
-        gone : (o : Option (Entry N (Result V F))) (b : Bool) → b ≡ false → entries_left rest ≡ entries_left (with_first (option_map (λ (e : Entry N (Result V F)). record { entry = e; goes = not b }) o) rest)
+        gone : (o : Option (Entry N (Result V F))) (b : Bool) → b ≡ false
+            → entries_left rest ≡ entries_left (with_first (option_map (λ (e : Entry N (Result V F)). record { entry = e; goes = not b }) o) rest)
         gone None b e = refl
         gone (Some x) false e = refl
         gone (Some x) true e = absurd (cc)
 
-        by : (o : Option (Entry N (Result V F))) → entry_at ps l i ≡ o → (a : Option (Result V F)) → answer_at (slots_of ps) i ≡ a → (is_kept m.kept i ≡ true) ⊎ (is_kept m.kept i ≡ false) → with_first (entry_at qs n i) (entries_left rest) ≡ entries_left (with_first (mark_at i) rest)
+        by : (o : Option (Entry N (Result V F))) → entry_at ps l i ≡ o → (a : Option (Result V F)) → answer_at (slots_of ps) i ≡ a
+            → (is_kept m.kept i ≡ true) ⊎ (is_kept m.kept i ≡ false)
+            → with_first (entry_at qs n i) (entries_left rest) ≡ entries_left (with_first (mark_at i) rest)
         by o is a at (inl e) = ap (λ x. with_first x (entries_left rest)) (still i e) ∙ stays (entry_at ps l i) (is_kept m.kept i) e
         by o is None at (inr e) = ap (λ x. with_first x (entries_left rest)) (no_entry_at qs n i (now_none i at)) ∙ gone (entry_at ps l i) (is_kept m.kept i) e
-        by o is (Some r) at (inr e) = ap (λ x. with_first x (entries_left rest)) (no_entry_at qs n i (g.taken.out i (taken i (ap is_some at) e))) ∙ gone (entry_at ps l i) (is_kept m.kept i) e
+        by o is (Some r) at (inr e) = ap (λ x. with_first x (entries_left rest)) (no_entry_at qs n i (g.taken.out i (taken i (ap is_some at) e)))
+            ∙ gone (entry_at ps l i) (is_kept m.kept i) e
 
     pub stays : (is : List ℕ) → entries_at qs n is ≡ entries_left (marks_at is)
     stays [] = refl
@@ -205,7 +227,13 @@ module _ {N V F : Type 0} where
         let e : Entry N (Result V F) = record { node = node.0; answer = one.0; asked = nodes_at ps (row l.asked i); uses = row l.uses i } in
         let at : entry_at ps l i ≡ Some e = λ j. entry_with (node.1 j) (one.1 j) (nodes_at ps (row l.asked i)) (row l.uses i) in
         let lt = past ps i all.0 in
-        let says : Says all_marks node.0 (goes i) = record { mark = mark_of i e; there = find_mark (numbers_from 0 (length ps)) i (mark_of i e) (number_in 0 (length ps) i (omega arith) (omega arith)) (ap (option_map (mark_of i)) at); node = refl; goes = refl } in
+        let says : Says all_marks node.0 (goes i) = record {
+          mark = mark_of i e;
+          there = find_mark (numbers_from 0 (length ps)) i (mark_of i e) (number_in 0 (length ps) i (omega arith) (omega arith))
+              (ap (option_map (mark_of i)) at);
+          node = refl;
+          goes = refl;
+        } in
         subst (λ o. AllSay all_marks (with_first o (nodes_at ps is)) (map goes (i ∷ is))) (sym node.1) (says, say-all is all.1)
 
     at_index : (is : List ℕ) (k : ℕ) (j : ℕ) → k < length is → get_or is k 0 ≡ j → goes j ≡ true → list_any goes is ≡ true
@@ -243,10 +271,13 @@ module _ {N V F : Type 0} where
             let kj : IsKept ps a.1 = subst (IsKept ps) j (kept_at (row l.asked i) a.0 all a.2) in
             let c = taken a.1 kj (not-true (is_kept m.kept a.1) a.4) in
             let r = ((f.exact a.1).0 c).reaches in
-            stay i e ((f.exact i).1 (record { was_kept = kept_now; reaches = through i a.0 a.2 (subst (Reaches l.asked (IsHit change l.kept l.uses)) (sym j) r) }))
+            stay i e ((f.exact i).1
+            (record { was_kept = kept_now; reaches = through i a.0 a.2 (subst (Reaches l.asked (IsHit change l.kept l.uses)) (sym j) r) }))
 
-        by : (is_kept m.kept i ≡ true) ⊎ (is_kept m.kept i ≡ false) → (x : Bool) → is_hit change l.uses i ≡ x → (y : Bool) → list_any goes (row l.asked i) ≡ y → goes i ≡ (x || y)
-        by (inl e) true x y z = absurd (stay i e ((f.exact i).1 (record { was_kept = kept_now; reaches = here i (record { was_kept = kept_now; touched = x }) })))
+        by : (is_kept m.kept i ≡ true) ⊎ (is_kept m.kept i ≡ false) → (x : Bool) → is_hit change l.uses i ≡ x → (y : Bool) → list_any goes (row l.asked i) ≡ y
+            → goes i ≡ (x || y)
+        by (inl e) true x y z =
+            absurd (stay i e ((f.exact i).1 (record { was_kept = kept_now; reaches = here i (record { was_kept = kept_now; touched = x }) })))
         by (inl e) false x true y = absurd (gone_by e y)
         by (inl e) false x false y = ap not e
         by (inr e) true x y z = ap not e
@@ -266,7 +297,8 @@ module _ {N V F : Type 0} where
     marked [] = tt
     marked (i ∷ is) = by (entry_at ps l i) refl (marked is)
       where
-        by : (o : Option (Entry N (Result V F))) → entry_at ps l i ≡ o → AllByRecursion (IsMarked change all_marks) (marks_at is) → AllByRecursion (IsMarked change all_marks) (with_first (option_map (mark_of i) o) (marks_at is))
+        by : (o : Option (Entry N (Result V F))) → entry_at ps l i ≡ o → AllByRecursion (IsMarked change all_marks) (marks_at is)
+            → AllByRecursion (IsMarked change all_marks) (with_first (option_map (mark_of i) o) (marks_at is))
         by None e rest = rest
         by (Some x) e rest = (mark-right i x e, rest)
 
@@ -274,7 +306,8 @@ module _ {N V F : Type 0} where
     kept_was : (i : ℕ) → IsKept qs i → (is_kept m.kept i ≡ true) × IsKept ps i
     kept_was i k = by (answer_at (slots_of ps) i) refl (cases_Bool (is_kept m.kept i))
       where
-        by : (a : Option (Result V F)) → answer_at (slots_of ps) i ≡ a → (is_kept m.kept i ≡ true) ⊎ (is_kept m.kept i ≡ false) → (is_kept m.kept i ≡ true) × IsKept ps i
+        by : (a : Option (Result V F)) → answer_at (slots_of ps) i ≡ a → (is_kept m.kept i ≡ true) ⊎ (is_kept m.kept i ≡ false)
+            → (is_kept m.kept i ≡ true) × IsKept ps i
         by None e c = let no : is_some (answer_at (slots_of qs) i) ≡ false = ap is_some (now_none i e) in absurd (cc)
         by (Some r) e (inl c) = (c, ap is_some e)
         by (Some r) e (inr c) = let no : is_some (answer_at (slots_of qs) i) ≡ false = ap is_some (g.taken.out i (taken i (ap is_some e) c)) in absurd (cc)
@@ -285,13 +318,16 @@ module _ {N V F : Type 0} where
     each_kept : (i : ℕ) → is_kept m.kept i ≡ is_some (answer_at (slots_of qs) i)
     each_kept i = by (answer_at (slots_of ps) i) refl (cases_Bool (is_kept m.kept i))
       where
-        by : (a : Option (Result V F)) → answer_at (slots_of ps) i ≡ a → (is_kept m.kept i ≡ true) ⊎ (is_kept m.kept i ≡ false) → is_kept m.kept i ≡ is_some (answer_at (slots_of qs) i)
+        by : (a : Option (Result V F)) → answer_at (slots_of ps) i ≡ a → (is_kept m.kept i ≡ true) ⊎ (is_kept m.kept i ≡ false)
+            → is_kept m.kept i ≡ is_some (answer_at (slots_of qs) i)
         by (Some r) e (inl c) = c ∙ sym (still_kept i c (ap is_some e))
         by (Some r) e (inr c) = c ∙ sym (ap is_some (g.taken.out i (taken i (ap is_some e) c)))
         by None e (inr c) = c ∙ sym (ap is_some (now_none i e))
         by None e (inl c) = let yes = sym (h.kept i) ∙ ((f.kept i).0 c).0 in let no : is_some (answer_at (slots_of ps) i) ≡ false = ap is_some e in absurd (cc)
 
-    asks_stay : (i : ℕ) → is_kept m.kept i ≡ true → IsKept ps i → (js : List ℕ) → ((k : ℕ) → k < length js → (a : ℕ) × (a < length (row l.asked i)) × (get_or (row l.asked i) a 0 ≡ get_or js k 0)) → AllByRecursion (IsKept ps) js → AllByRecursion (IsKept qs) js
+    asks_stay : (i : ℕ) → is_kept m.kept i ≡ true → IsKept ps i → (js : List ℕ)
+        → ((k : ℕ) → k < length js → (a : ℕ) × (a < length (row l.asked i)) × (get_or (row l.asked i) a 0 ≡ get_or js k 0)) → AllByRecursion (IsKept ps) js
+        → AllByRecursion (IsKept qs) js
     asks_stay i e k [] from all = tt
     asks_stay i e k (j ∷ js) from all = (one (cases_Bool (is_kept m.kept j)), asks_stay i e k js (λ x lt. from (suc x) (omega arith)) all.1)
       where
@@ -300,7 +336,8 @@ module _ {N V F : Type 0} where
         one (inr c) =
             let at = from 0 (omega arith) in
             let r = ((f.exact j).0 (taken j all.0 c)).reaches in
-            absurd (stay i e ((f.exact i).1 (record { was_kept = h.kept i ∙ k; reaches = through i at.0 at.1 (subst (Reaches l.asked (IsHit change l.kept l.uses)) (sym at.2) r) })))
+            absurd (stay i e ((f.exact i).1
+            (record { was_kept = h.kept i ∙ k; reaches = through i at.0 at.1 (subst (Reaches l.asked (IsHit change l.kept l.uses)) (sym at.2) r) })))
 
     pub swept-links : AreLinked qs n
     swept-links = record {
@@ -316,42 +353,52 @@ module _ {N V F : Type 0} where
     abbrev is_gone : ℕ → Bool
     is_gone i = is_kept l.kept i && goes i
 
-    gone-sum : (p : Entry N (Result V F) → ℕ) (q : ℕ → ℕ) → ((i : ℕ) (e : Entry N (Result V F)) → entry_at ps l i ≡ Some e → p e ≡ q i) → (is : List ℕ) → sum_by p (entries_gone (marks_at is)) ≡ sum_by (λ i. cond (is_gone i) (q i) 0) is
+    gone-sum : (p : Entry N (Result V F) → ℕ) (q : ℕ → ℕ) → ((i : ℕ) (e : Entry N (Result V F)) → entry_at ps l i ≡ Some e → p e ≡ q i) → (is : List ℕ)
+        → sum_by p (entries_gone (marks_at is)) ≡ sum_by (λ i. cond (is_gone i) (q i) 0) is
     gone-sum p q same [] = refl
     gone-sum p q same (i ∷ is) = by (gone-sum p q same is) (answer_at (slots_of ps) i) refl ∙ sym (sum_by-cons (λ i. cond (is_gone i) (q i) 0) i is)
       where
         rest : List (Mark N (Result V F))
         rest = marks_at is
 
-        with_mark : (e : Entry N (Result V F)) (b : Bool) → p e ≡ q i → sum_by p (entries_gone (record { entry = e; goes = b } ∷ rest)) ≡ cond b (q i) 0 + sum_by p (entries_gone rest)
+        with_mark : (e : Entry N (Result V F)) (b : Bool) → p e ≡ q i
+            → sum_by p (entries_gone (record { entry = e; goes = b } ∷ rest)) ≡ cond b (q i) 0 + sum_by p (entries_gone rest)
         with_mark e true same = sum_by-cons p e (entries_gone rest) ∙ ap (λ x. x + sum_by p (entries_gone rest)) same
         with_mark e false same = omega arith
 
-        by : sum_by p (entries_gone rest) ≡ sum_by (λ i. cond (is_gone i) (q i) 0) is → (a : Option (Result V F)) → answer_at (slots_of ps) i ≡ a → sum_by p (entries_gone (with_first (mark_at i) rest)) ≡ cond (is_gone i) (q i) 0 + sum_by (λ i. cond (is_gone i) (q i) 0) is
+        by : sum_by p (entries_gone rest) ≡ sum_by (λ i. cond (is_gone i) (q i) 0) is → (a : Option (Result V F)) → answer_at (slots_of ps) i ≡ a
+            → sum_by p (entries_gone (with_first (mark_at i) rest)) ≡ cond (is_gone i) (q i) 0 + sum_by (λ i. cond (is_gone i) (q i) 0) is
         by ih None e =
             let none : is_kept l.kept i ≡ false = h.kept i ∙ ap is_some e in
-            ap (λ o. sum_by p (entries_gone (with_first (option_map (mark_of i) o) rest))) (no_entry_at ps l i e) ∙ ih ∙ (let z : cond (is_gone i) (q i) 0 ≡ 0 = ap (λ b. cond (b && goes i) (q i) 0) none in omega arith)
+            ap (λ o. sum_by p (entries_gone (with_first (option_map (mark_of i) o) rest))) (no_entry_at ps l i e) ∙ ih
+            ∙ (let z : cond (is_gone i) (q i) 0 ≡ 0 = ap (λ b. cond (b && goes i) (q i) 0) none in omega arith)
         by ih (Some a) e =
             let yes : is_kept l.kept i ≡ true = h.kept i ∙ ap is_some e in
             let node = some-of (node_at ps i) (kept_node ps i (ap is_some e)) in
             let x : Entry N (Result V F) = record { node = node.0; answer = a; asked = nodes_at ps (row l.asked i); uses = row l.uses i } in
             let at : entry_at ps l i ≡ Some x = λ j. entry_with (node.1 j) (e j) (nodes_at ps (row l.asked i)) (row l.uses i) in
-            ap (λ o. sum_by p (entries_gone (with_first (option_map (mark_of i) o) rest))) at ∙ with_mark x (goes i) (same i x at) ∙ (λ j. cond (sym yes j && goes i) (q i) 0 + ih j)
+            ap (λ o. sum_by p (entries_gone (with_first (option_map (mark_of i) o) rest))) at ∙ with_mark x (goes i) (same i x at)
+            ∙ (λ j. cond (sym yes j && goes i) (q i) 0 + ih j)
 
-    entry-sum : (p : Entry N (Result V F) → ℕ) (q : ℕ → ℕ) → ((i : ℕ) (e : Entry N (Result V F)) → entry_at ps l i ≡ Some e → p e ≡ q i) → (is : List ℕ) → sum_by p (entries_at ps l is) ≡ sum_by (λ i. cond (is_kept l.kept i) (q i) 0) is
+    entry-sum : (p : Entry N (Result V F) → ℕ) (q : ℕ → ℕ) → ((i : ℕ) (e : Entry N (Result V F)) → entry_at ps l i ≡ Some e → p e ≡ q i) → (is : List ℕ)
+        → sum_by p (entries_at ps l is) ≡ sum_by (λ i. cond (is_kept l.kept i) (q i) 0) is
     entry-sum p q same [] = refl
     entry-sum p q same (i ∷ is) = by (entry-sum p q same is) (answer_at (slots_of ps) i) refl ∙ sym (sum_by-cons (λ i. cond (is_kept l.kept i) (q i) 0) i is)
       where
-        by : sum_by p (entries_at ps l is) ≡ sum_by (λ i. cond (is_kept l.kept i) (q i) 0) is → (a : Option (Result V F)) → answer_at (slots_of ps) i ≡ a → sum_by p (with_first (entry_at ps l i) (entries_at ps l is)) ≡ cond (is_kept l.kept i) (q i) 0 + sum_by (λ i. cond (is_kept l.kept i) (q i) 0) is
+        by : sum_by p (entries_at ps l is) ≡ sum_by (λ i. cond (is_kept l.kept i) (q i) 0) is → (a : Option (Result V F)) → answer_at (slots_of ps) i ≡ a
+            → sum_by p (with_first (entry_at ps l i) (entries_at ps l is)) ≡ cond (is_kept l.kept i) (q i) 0
+            + sum_by (λ i. cond (is_kept l.kept i) (q i) 0) is
         by ih None e =
             let none : is_kept l.kept i ≡ false = h.kept i ∙ ap is_some e in
-            ap (λ o. sum_by p (with_first o (entries_at ps l is))) (no_entry_at ps l i e) ∙ ih ∙ (let z : cond (is_kept l.kept i) (q i) 0 ≡ 0 = ap (λ b. cond b (q i) 0) none in omega arith)
+            ap (λ o. sum_by p (with_first o (entries_at ps l is))) (no_entry_at ps l i e) ∙ ih
+            ∙ (let z : cond (is_kept l.kept i) (q i) 0 ≡ 0 = ap (λ b. cond b (q i) 0) none in omega arith)
         by ih (Some a) e =
             let yes : is_kept l.kept i ≡ true = h.kept i ∙ ap is_some e in
             let node = some-of (node_at ps i) (kept_node ps i (ap is_some e)) in
             let x : Entry N (Result V F) = record { node = node.0; answer = a; asked = nodes_at ps (row l.asked i); uses = row l.uses i } in
             let at : entry_at ps l i ≡ Some x = λ j. entry_with (node.1 j) (e j) (nodes_at ps (row l.asked i)) (row l.uses i) in
-            ap (λ o. sum_by p (with_first o (entries_at ps l is))) at ∙ sum_by-cons p x (entries_at ps l is) ∙ (λ j. same i x at j + ih j) ∙ (λ j. cond (sym yes j) (q i) 0 + sum_by (λ i. cond (is_kept l.kept i) (q i) 0) is)
+            ap (λ o. sum_by p (with_first o (entries_at ps l is))) at ∙ sum_by-cons p x (entries_at ps l is) ∙ (λ j. same i x at j + ih j)
+            ∙ (λ j. cond (sym yes j) (q i) 0 + sum_by (λ i. cond (is_kept l.kept i) (q i) 0) is)
 
     abbrev nums : List ℕ
     nums = numbers_from 0 (length ps)
@@ -366,9 +413,12 @@ module _ {N V F : Type 0} where
     wait_in i c = let lt = past ps i (sym (h.kept i) ∙ was i (waiting i c)) in number_in 0 (length ps) i (omega arith) (omega arith)
 
     -- what the slots that go have is what their entries have
-    waits-sum : (p : Entry N (Result V F) → ℕ) (q : ℕ → ℕ) → ((i : ℕ) (e : Entry N (Result V F)) → entry_at ps l i ≡ Some e → p e ≡ q i) → sum_by q m.waits ≤ sum_by p (entries_gone all_marks)
+    waits-sum : (p : Entry N (Result V F) → ℕ) (q : ℕ → ℕ) → ((i : ℕ) (e : Entry N (Result V F)) → entry_at ps l i ≡ Some e → p e ≡ q i)
+        → sum_by q m.waits ≤ sum_by p (entries_gone all_marks)
     waits-sum p q same =
-        let a : sum_by q m.waits ≡ sum_by (λ i. cond (is_gone i) (q i) 0) m.waits = sum-alike q (λ i. cond (is_gone i) (q i) 0) m.waits (each-of (λ i. q i ≡ cond (is_gone i) (q i) 0) m.waits (λ i c. (λ j. cond (sym (wait_gone i c) j) (q i) 0))) in
+        let a : sum_by q m.waits ≡ sum_by (λ i. cond (is_gone i) (q i) 0) m.waits =
+        sum-alike q (λ i. cond (is_gone i) (q i) 0) m.waits
+        (each-of (λ i. q i ≡ cond (is_gone i) (q i) 0) m.waits (λ i c. (λ j. cond (sym (wait_gone i c) j) (q i) 0))) in
         let b = sum-within (λ i. cond (is_gone i) (q i) 0) m.waits nums (differ m.waits f.apart) wait_in in
         let c = gone-sum p q same nums in
         omega arith
@@ -401,10 +451,12 @@ module _ {N V F : Type 0} where
 
     nodes_count : (is : List ℕ) → AllByRecursion (IsKept ps) is → length (nodes_at ps is) ≡ length is
     nodes_count [] all = refl
-    nodes_count (i ∷ is) all = let node = some-of (node_at ps i) (kept_node ps i all.0) in ap (λ o. length (with_first o (nodes_at ps is))) node.1 ∙ ap suc (nodes_count is all.1)
+    nodes_count (i ∷ is) all = let node = some-of (node_at ps i) (kept_node ps i all.0) in ap (λ o. length (with_first o (nodes_at ps is))) node.1
+        ∙ ap suc (nodes_count is all.1)
 
     asked_count : (i : ℕ) (e : Entry N (Result V F)) → entry_at ps l i ≡ Some e → length e.asked ≡ length (row l.asked i)
-    asked_count i e at = let p = entry_parts (node_at ps i) (answer_at (slots_of ps) i) (nodes_at ps (row l.asked i)) (row l.uses i) e at in ap length p.1 ∙ nodes_count (row l.asked i) (h.asked i p.0)
+    asked_count i e at = let p = entry_parts (node_at ps i) (answer_at (slots_of ps) i) (nodes_at ps (row l.asked i)) (row l.uses i) e at in ap length p.1
+        ∙ nodes_count (row l.asked i) (h.asked i p.0)
 
     uses_same : (i : ℕ) (e : Entry N (Result V F)) → entry_at ps l i ≡ Some e → e.uses ≡ row l.uses i
     uses_same i e at = (entry_parts (node_at ps i) (answer_at (slots_of ps) i) (nodes_at ps (row l.asked i)) (row l.uses i) e at).2
@@ -418,9 +470,11 @@ module _ {N V F : Type 0} where
     same_parts = λ j. sum_by (λ s. 4 * length (row (f.asked j) s) + 4 * length (pages_in (row (f.uses j) s))) m.waits
 
     -- the uses of all slots are those of the kept ones
-    uses-all : (of : List Use → ℕ) → of [] ≡ 0 → ((s : ℕ) → is_kept l.kept s ≡ false → row l.uses s ≡ []) → sum_by of l.uses ≤ sum_by (λ e. of e.uses) (entries_of ps l)
+    uses-all : (of : List Use → ℕ) → of [] ≡ 0 → ((s : ℕ) → is_kept l.kept s ≡ false → row l.uses s ≡ [])
+        → sum_by of l.uses ≤ sum_by (λ e. of e.uses) (entries_of ps l)
     uses-all of none vacant =
-        let a = rows-numbers of (λ i. cond (is_kept l.kept i) (of (row l.uses i)) 0) l.uses (length ps) none (λ i. by i (cases_Bool (is_kept l.kept i))) (λ i le. ap of (vacant i (h.kept i ∙ ap is_some (none_after ps i le))) ∙ none) in
+        let a = rows-numbers of (λ i. cond (is_kept l.kept i) (of (row l.uses i)) 0) l.uses (length ps) none (λ i. by i (cases_Bool (is_kept l.kept i)))
+        (λ i le. ap of (vacant i (h.kept i ∙ ap is_some (none_after ps i le))) ∙ none) in
         let b = entry-sum (λ e. of e.uses) (λ i. of (row l.uses i)) (λ i e at. ap of (uses_same i e at)) nums in
         omega arith
       where
@@ -428,28 +482,38 @@ module _ {N V F : Type 0} where
         by i (inl e) = let k = ap (λ b. cond b (of (row l.uses i)) 0) e in omega arith
         by i (inr e) = let k = ap of (vacant i e) ∙ none in omega arith
 
-    pub looks-most : ((s : ℕ) → is_kept l.kept s ≡ false → row l.uses s ≡ []) → (IsOverwrite change → m.looks ≤ l.looks + pages_met change + 3 * sum_by (met_by change) l.uses + 1 + 4 * length m.waits + 2 * asks_of l.asked m.waits) → (looked : ℕ) → looked ≤ max (n.looks + count - (l.looks + from)) (length m.waits) → IsOverwrite change
-        → looked ≤ pages_met change + 3 * sum_by (λ e. met_by change e.uses) (entries_of ps l) + 9 * length (entries_gone all_marks) + 6 * sum_by (λ e. length e.asked) (entries_gone all_marks) + 4 * sum_by (λ e. length (pages_in e.uses)) (entries_gone all_marks) + 2
+    pub looks-most : ((s : ℕ) → is_kept l.kept s ≡ false → row l.uses s ≡ [])
+        → (IsOverwrite change → m.looks ≤ l.looks + pages_met change + 3 * sum_by (met_by change) l.uses + 1 + 4 * length m.waits
+        + 2 * asks_of l.asked m.waits) → (looked : ℕ) → looked ≤ max (n.looks + count - (l.looks + from)) (length m.waits) → IsOverwrite change
+        → looked ≤ pages_met change + 3 * sum_by (λ e. met_by change e.uses) (entries_of ps l) + 9 * length (entries_gone all_marks)
+        + 6 * sum_by (λ e. length e.asked) (entries_gone all_marks) + 4 * sum_by (λ e. length (pages_in e.uses)) (entries_gone all_marks) + 2
     looks-most vacant most looked le over =
         let a = most over in
         let b = g.taken.most in
         let c = uses-all (met_by change) (met_none change) vacant in
         let d = waits-sum (λ e. length e.asked) (λ i. length (row l.asked i)) asked_count in
-        let e = waits-sum (λ e. length (pages_in e.uses)) (λ i. length (pages_in (row l.uses i))) (λ i e at. ap (λ us. length (pages_in us)) (uses_same i e at)) in
+        let e = waits-sum (λ e. length (pages_in e.uses)) (λ i. length (pages_in (row l.uses i)))
+        (λ i e at. ap (λ us. length (pages_in us)) (uses_same i e at)) in
         let p = same_parts in
         let q = two_sums (λ s. length (row l.asked s)) (λ s. length (pages_in (row l.uses s))) m.waits in
         let r = gone-most in
         omega arith
 
-    pub looks-behind : (pages : ℕ) → ((s : ℕ) → is_kept l.kept s ≡ false → row l.uses s ≡ []) → (IsMove change → m.looks ≤ l.looks + 2 * pages_behind change pages + 3 * sum_by (behind_by change) l.uses + 3 * sum_by (ended_by change) l.uses + 2 + 4 * length m.waits + 2 * asks_of l.asked m.waits) → (looked : ℕ) → looked ≤ max (n.looks + count - (l.looks + from)) (length m.waits) → IsMove change
-        → looked ≤ 2 * pages_behind change pages + 3 * sum_by (λ e. behind_by change e.uses) (entries_of ps l) + 3 * sum_by (λ e. ended_by change e.uses) (entries_of ps l) + 9 * length (entries_gone all_marks) + 6 * sum_by (λ e. length e.asked) (entries_gone all_marks) + 4 * sum_by (λ e. length (pages_in e.uses)) (entries_gone all_marks) + 3
+    pub looks-behind : (pages : ℕ) → ((s : ℕ) → is_kept l.kept s ≡ false → row l.uses s ≡ [])
+        → (IsMove change → m.looks ≤ l.looks + 2 * pages_behind change pages + 3 * sum_by (behind_by change) l.uses + 3 * sum_by (ended_by change) l.uses + 2
+        + 4 * length m.waits + 2 * asks_of l.asked m.waits) → (looked : ℕ) → looked ≤ max (n.looks + count - (l.looks + from)) (length m.waits)
+        → IsMove change
+        → looked ≤ 2 * pages_behind change pages + 3 * sum_by (λ e. behind_by change e.uses) (entries_of ps l)
+        + 3 * sum_by (λ e. ended_by change e.uses) (entries_of ps l) + 9 * length (entries_gone all_marks)
+        + 6 * sum_by (λ e. length e.asked) (entries_gone all_marks) + 4 * sum_by (λ e. length (pages_in e.uses)) (entries_gone all_marks) + 3
     looks-behind pages vacant most looked le moves =
         let a = most moves in
         let b = g.taken.most in
         let c = uses-all (behind_by change) (behind_none change) vacant in
         let c2 = uses-all (ended_by change) (ended_none change) vacant in
         let d = waits-sum (λ e. length e.asked) (λ i. length (row l.asked i)) asked_count in
-        let e = waits-sum (λ e. length (pages_in e.uses)) (λ i. length (pages_in (row l.uses i))) (λ i e at. ap (λ us. length (pages_in us)) (uses_same i e at)) in
+        let e = waits-sum (λ e. length (pages_in e.uses)) (λ i. length (pages_in (row l.uses i)))
+        (λ i e at. ap (λ us. length (pages_in us)) (uses_same i e at)) in
         let p = same_parts in
         let q = two_sums (λ s. length (row l.asked s)) (λ s. length (pages_in (row l.uses s))) m.waits in
         let r = gone-most in

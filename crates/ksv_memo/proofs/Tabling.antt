@@ -1,5 +1,6 @@
 -- What a look-up says of the kept and the open nodes.
-use Rattle.std.proofs.Common.{◌≡◌, ◌≢◌, ℕ, ◌+◌, ◌≤◌, arith, Bool, true, false, List, reverse, length, Some, None, is_some, refl, sym, ◌∙◌, ap, subst, Result, slice_get}
+use Rattle.std.proofs.Common.{◌≡◌, ◌≢◌, ℕ, ◌+◌, ◌≤◌, arith, Bool, true, false, List, reverse, length, Some, None, is_some, refl, sym, ◌∙◌, ap, subst, Result}
+use Rattle.std.proofs.Common.{slice_get}
 use Rattle.std.specs.Option.{option_map}
 use Rattle.std.proofs.lemmas.Option.{slice_get-map, slice_get_within}
 use Rattle.std.specs.Cmp.{IsEquivalence}
@@ -25,10 +26,12 @@ use Rattle.ksv_memo.proofs.Knowing.{entry_of, no_entry, no_open, some_open, none
 pub looked-laid : {N V F : Type 0} (ps qs : List (N × Slot V F)) (l : Linked) (frames : Frames N) → qs ≡ ps → IsLaidOut ps l frames → IsLaidOut qs l frames
 looked-laid ps qs l frames same laid = subst (λ es. IsLaidOut es l frames) (sym same) laid
 
-pub looked-view : {N V F : Type 0} (ps qs : List (N × Slot V F)) (l : Linked) (frames : Frames N) (v : Nodes N (Result V F)) → qs ≡ ps → record { kept = entries_of ps l; opened = opens_of ps frames } ≡ v → record { kept = entries_of qs l; opened = opens_of qs frames } ≡ v
+pub looked-view : {N V F : Type 0} (ps qs : List (N × Slot V F)) (l : Linked) (frames : Frames N) (v : Nodes N (Result V F)) → qs ≡ ps
+    → record { kept = entries_of ps l; opened = opens_of ps frames } ≡ v → record { kept = entries_of qs l; opened = opens_of qs frames } ≡ v
 looked-view ps qs l frames v same is = (λ i. record { kept = entries_of (same i) l; opened = opens_of (same i) frames }) ∙ is
 
-module _ {N V F : Type 0} (eq : N → N → Bool) (ps : List (N × Slot V F)) (l : Linked) (frames : Frames N) (kept : AreLinked ps l) (waits : AreFrames ps frames) (n : N) where
+module _ {N V F : Type 0} (eq : N → N → Bool) (ps : List (N × Slot V F)) (l : Linked) (frames : Frames N) (kept : AreLinked ps l) (waits : AreFrames ps frames)
+    (n : N) where
   -- what is known of a kept node
   pub record IsFound (i : ℕ) : Type 0 where
     pub entry : Entry N (Result V F)
@@ -50,10 +53,12 @@ module _ {N V F : Type 0} (eq : N → N → Bool) (ps : List (N × Slot V F)) (l
 
   -- a slot that keeps nothing isn't that of a kept node
   apart_kept : (i : ℕ) (m : N) (s : Slot V F) → slice_get ps i ≡ Some (m, s) → answer_in s ≡ None → (j : ℕ) → IsKept ps j → j ≢ i
-  apart_kept i m s there none j k same = let now : answer_at (slots_of ps) j ≡ None = ap (answer_at (slots_of ps)) same ∙ answer_there ps i m s there ∙ none in let no : is_some (answer_at (slots_of ps) j) ≡ false = ap is_some now in cc
+  apart_kept i m s there none j k same = let now : answer_at (slots_of ps) j ≡ None = ap (answer_at (slots_of ps)) same ∙ answer_there ps i m s there
+      ∙ none in let no : is_some (answer_at (slots_of ps) j) ≡ false = ap is_some now in cc
 
   apart_open : (i : ℕ) (m : N) → slice_get ps i ≡ Some (m, emptied) → (j : ℕ) → IsOpen ps j → j ≢ i
-  apart_open i m there j o same = let now : Some emptied ≡ Some opened = sym (slot_there ps i m emptied there) ∙ ap (slice_get (slots_of ps)) (sym same) ∙ o in cc
+  apart_open i m there j o same = let now : Some emptied ≡ Some opened = sym (slot_there ps i m emptied there) ∙ ap (slice_get (slots_of ps)) (sym same)
+      ∙ o in cc
 
   -- a node without a slot is neither kept nor open
   pub new_out : Knows eq ps n New → HasNoEntry eq (entries_of ps l) n
@@ -64,18 +69,22 @@ module _ {N V F : Type 0} (eq : N → N → Bool) (ps : List (N × Slot V F)) (l
 
   module _ (laws : IsEquivalence eq) (unique : IsDistinct eq (keys_of ps)) where
     slot_out : (i : ℕ) (s : Slot V F) → IsTheSlot ps n i s → answer_in s ≡ None → HasNoEntry eq (entries_of ps l) n
-    slot_out i s at none = no_entry ps l (eq n) (λ j m k e. not_other eq laws ps unique n i n (node_there ps i n s at) (laws.refl n) j m (apart_kept i n s at none j k) e)
+    slot_out i s at none =
+        no_entry ps l (eq n) (λ j m k e. not_other eq laws ps unique n i n (node_there ps i n s at) (laws.refl n) j m (apart_kept i n s at none j k) e)
 
     -- nor is one with an empty slot
     pub empty_out : (i : ℕ) → Knows eq ps n (Empty i) → HasNoEntry eq (entries_of ps l) n
     empty_out i at = slot_out i emptied at refl
 
     pub empty_free : (i : ℕ) → Knows eq ps n (Empty i) → list_any (λ o. eq n o.node) (opens_of ps frames) ≡ false
-    empty_free i at = no_open ps (eq n) (λ j m o e. not_other eq laws ps unique n i n (node_there ps i n emptied at) (laws.refl n) j m (apart_open i n at j o) e) (reverse frames.frames.items) frames.asked.items frames.uses.items waits.waits
+    empty_free i at = no_open ps (eq n)
+        (λ j m o e. not_other eq laws ps unique n i n (node_there ps i n emptied at) (laws.refl n) j m (apart_open i n at j o) e)
+        (reverse frames.frames.items) frames.asked.items frames.uses.items waits.waits
 
   -- an open node waits
   pub open_waits : eq n n ≡ true → Knows eq ps n Open → list_any (λ o. eq n o.node) (opens_of ps frames) ≡ true
-  open_waits itself (i, at) = some_open ps (eq n) (reverse frames.frames.items) frames.asked.items frames.uses.items i n (waits.all i (slot_there ps i n opened at)) (node_there ps i n opened at) itself
+  open_waits itself (i, at) = some_open ps (eq n) (reverse frames.frames.items) frames.asked.items frames.uses.items i n
+      (waits.all i (slot_there ps i n opened at)) (node_there ps i n opened at) itself
 
 -- ---- the moves of the table
 module _ {N V F : Type 0} (eq : N → N → Bool) (ps : List (N × Slot V F)) (l : Linked) (frames : Frames N) (laid : IsLaidOut ps l frames) (n : N) where
@@ -83,17 +92,31 @@ module _ {N V F : Type 0} (eq : N → N → Bool) (ps : List (N × Slot V F)) (l
   pub hears : (i : ℕ) → Knows eq ps n (Kept i) → (new : Frames N) → Heard i frames new → IsLaidOut ps l new
   hears i knows new h = record { kept = laid.kept; waits = frames-hear ps i knows.1 frames new laid.waits h }
 
-  pub replies : eq n n ≡ true → (i : ℕ) → Knows eq ps n (Kept i) → (new : Frames N) → Heard i frames new → Replies eq n (record { kept = entries_of ps l; opened = opens_of ps frames }) (record { kept = entries_of ps l; opened = opens_of ps new })
+  pub replies : eq n n ≡ true → (i : ℕ) → Knows eq ps n (Kept i) → (new : Frames N) → Heard i frames new
+      → Replies eq n (record { kept = entries_of ps l; opened = opens_of ps frames }) (record { kept = entries_of ps l; opened = opens_of ps new })
   replies itself i knows new h =
       let one = found eq ps l frames laid.kept laid.waits n itself i knows in
-      record { entry = one.entry; is = one.is; kept = refl; opened = opens-hear ps i one.entry.node one.entry.answer one.node one.answer frames new laid.waits h }
+      record {
+        entry = one.entry;
+        is = one.is;
+        kept = refl;
+        opened = opens-hear ps i one.entry.node one.entry.answer one.node one.answer frames new laid.waits
+            h;
+      }
 
   -- a node is opened in a slot of its own
-  module _ (qs : List (N × Slot V F)) (i : ℕ) (m : N) (changes : ChangesAt ps qs i m opened) (none : answer_at (slots_of ps) i ≡ None) (free : IsOpen ps i → ⊥) (new : Frames N) (framed : Framed i m frames new) where
+  module _ (qs : List (N × Slot V F)) (i : ℕ) (m : N) (changes : ChangesAt ps qs i m opened) (none : answer_at (slots_of ps) i ≡ None) (free : IsOpen ps i → ⊥)
+      (new : Frames N) (framed : Framed i m frames new) where
     pub opens-laid : length qs ≤ length l.kept → IsLaidOut qs l new
-    opens-laid le = record { kept = links-stay ps qs i m opened changes none refl l laid.kept le; waits = frames-push ps qs i m opened changes none refl free frames new laid.waits framed }
+    opens-laid le = record {
+      kept = links-stay ps qs i m opened changes none refl l laid.kept le;
+      waits = frames-push ps qs i m opened changes none refl free frames new
+          laid.waits framed;
+    }
 
-    pub opens-more : (more : ℕ) → length qs ≡ length ps + more → AllByRecursion (λ j. entry_at qs l j ≡ None) (numbers_from (length ps) more) → eq n m ≡ true → HasNoEntry eq (entries_of ps l) n → list_any (λ o. eq n o.node) (opens_of ps frames) ≡ false → Opens eq n (record { kept = entries_of ps l; opened = opens_of ps frames }) (record { kept = entries_of qs l; opened = opens_of qs new })
+    pub opens-more : (more : ℕ) → length qs ≡ length ps + more → AllByRecursion (λ j. entry_at qs l j ≡ None) (numbers_from (length ps) more) → eq n m ≡ true
+        → HasNoEntry eq (entries_of ps l) n → list_any (λ o. eq n o.node) (opens_of ps frames) ≡ false
+        → Opens eq n (record { kept = entries_of ps l; opened = opens_of ps frames }) (record { kept = entries_of qs l; opened = opens_of qs new })
     opens-more more count new_ones passes out apart = record {
       node = m;
       passes = passes;
@@ -135,4 +158,6 @@ module _ {N V F : Type 0} (ps : List (N × Slot V F)) (l m : Linked) (h : AreLin
   }
 
   pub grown-entries : entries_of ps m ≡ entries_of ps l
-  grown-entries = entries_at-same ps ps l m (numbers_from 0 (length ps)) (All-numbers (λ i. entry_at ps m i ≡ entry_at ps l i) 0 (length ps) (λ i le lt. (λ j. entry_with (node_at ps i) (answer_at (slots_of ps) i) (nodes_at ps (g.asked.each i j)) (g.uses.each i j))))
+  grown-entries = entries_at-same ps ps l m (numbers_from 0 (length ps))
+      (All-numbers (λ i. entry_at ps m i ≡ entry_at ps l i) 0 (length ps)
+      (λ i le lt. (λ j. entry_with (node_at ps i) (answer_at (slots_of ps) i) (nodes_at ps (g.asked.each i j)) (g.uses.each i j))))

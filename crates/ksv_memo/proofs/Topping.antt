@@ -1,5 +1,6 @@
 -- The last open node: how it is run, kept and taken out.
-use Rattle.std.proofs.Common.{◌≡◌, ℕ, suc, ◌+◌, ◌-◌, ◌≤◌, ◌<◌, true, false, All, List, [], ◌∷◌, ◌++◌, length, map, take, drop, reverse, Option, Some, None, IfOk, OnOk, OnErr, Ok, Err, length-append, is_some, refl, sym, ◌∙◌, ap, subst, Result, slice_get, inr, arith, ◌==◌}
+use Rattle.std.proofs.Common.{◌≡◌, ℕ, suc, ◌+◌, ◌-◌, ◌≤◌, ◌<◌, true, false, All, List, [], ◌∷◌, ◌++◌, length, map, take, drop, reverse, Option, Some, None}
+use Rattle.std.proofs.Common.{IfOk, OnOk, OnErr, Ok, Err, length-append, is_some, refl, sym, ◌∙◌, ap, subst, Result, slice_get, inr, arith, ◌==◌}
 use Rattle.std.specs.Option.{option_map}
 use Rattle.std.specs.List.{AllByRecursion}
 use Rattle.std.proofs.lemmas.List.{reverse-append, take_rest}
@@ -19,7 +20,8 @@ use Rattle.ksv_memo.specs.Calls.{Runs, replies_of}
 use Rattle.ksv_memo_rules.specs.Meaning.{Standing, IsAddedTo}
 use Rattle.ksv_memo_rules.specs.declared.rules.Next.{Next}
 use Rattle.ksv_memo_rules.specs.Right.{HasEachOnce}
-use Rattle.ksv_memo.specs.Layout.{IsOneOf, AllDiffer, slots_of, node_at, nodes_at, IsOpen, IsKept, entries_of, open_before, opens_in, opens_of, AreNested, AreLinked, AreFrames, IsLaidOut}
+use Rattle.ksv_memo.specs.Layout.{IsOneOf, AllDiffer, slots_of, node_at, nodes_at, IsOpen, IsKept, entries_of, open_before, opens_in, opens_of, AreNested}
+use Rattle.ksv_memo.specs.Layout.{AreLinked, AreFrames, IsLaidOut}
 use Rattle.ksv_memo.specs.Moves.{EndsWith, SameFrames, IsPart, IsNewFrame, Framed, Popped, Heard}
 use Rattle.ksv_memo.specs.Nodes.{Keeps, Closes, MayKeep, TakesFirst}
 use Rattle.std.proofs.lemmas.List.Elements.{All-from_recursion}
@@ -30,8 +32,17 @@ use Rattle.ksv_memo.proofs.Laying.{All-drop}
 use Rattle.ksv_memo.proofs.Changing.{ChangesAt, grown, links-stay, links-keep, entries-stay, entries-keep, frames-pop, frames-hear, opens-pop, opens-hear}
 
 -- the frame of a part is that of a node that is opened now
-pub parted : {N : Type 0} (i j : ℕ) (n : N) (old new : Frames N) (p : Part) (f : Frame N) → IsPart j old p → f.node ≡ n → f.slot ≡ p.slot → f.asked ≡ p.asked → f.uses ≡ p.uses → j ≡ i → new.frames.items ≡ old.frames.items ++ f ∷ [] → new.asked.items ≡ old.asked.items → new.uses.items ≡ old.uses.items → Framed i n old new
-parted i j n old new p f is node slot asks used same pushed asked uses = record { frame = f; is_new = record { node = node; slot = slot ∙ is.slot ∙ same; asked = asks ∙ is.asked; uses = used ∙ is.uses }; frames = pushed; asked = asked; uses = uses }
+pub parted : {N : Type 0} (i j : ℕ) (n : N) (old new : Frames N) (p : Part) (f : Frame N) → IsPart j old p → f.node ≡ n → f.slot ≡ p.slot → f.asked ≡ p.asked
+    → f.uses ≡ p.uses → j ≡ i → new.frames.items ≡ old.frames.items ++ f ∷ [] → new.asked.items ≡ old.asked.items → new.uses.items ≡ old.uses.items
+    → Framed i n old new
+parted i j n old new p f is node slot asks used same pushed asked uses =
+    record {
+      frame = f;
+      is_new = record { node = node; slot = slot ∙ is.slot ∙ same; asked = asks ∙ is.asked; uses = used ∙ is.uses };
+      frames = pushed;
+      asked = asked;
+      uses = uses;
+    }
 
 -- the last of a list that isn't empty
 pub last-front : {X : Type 0} (xs : List X) (x : X) → slice_get xs (length xs - 1) ≡ Some x → EndsWith x xs
@@ -51,8 +62,11 @@ no-items (f ∷ fs) e = let none : length (f ∷ fs) ≡ 0 = eqb_true (length (f
 pub keep_part : (k : ℕ) (uses held once : List Use) → held ≡ uses → HasEachOnce once (take (length held - k) (drop k held)) → HasEachOnce once (drop k uses)
 keep_part k uses held once e h = subst (λ us. HasEachOnce once (drop k us)) e (subst (HasEachOnce once) (take_rest held k) h)
 
-pub kept_part : (l m : Linked) (slot k : ℕ) (asked held : List ℕ) (given once : List Use) → held ≡ asked → given ≡ once → LinksKeep l m slot (take (length held - k) (drop k held)) given → LinksKeep l m slot (drop k asked) once
-kept_part l m slot k asked held given once e f h = subst (λ us. LinksKeep l m slot (drop k asked) us) f (subst (λ xs. LinksKeep l m slot (drop k xs) given) e (subst (λ xs. LinksKeep l m slot xs given) (take_rest held k) h))
+pub kept_part : (l m : Linked) (slot k : ℕ) (asked held : List ℕ) (given once : List Use) → held ≡ asked → given ≡ once
+    → LinksKeep l m slot (take (length held - k) (drop k held)) given → LinksKeep l m slot (drop k asked) once
+kept_part l m slot k asked held given once e f h =
+    subst (λ us. LinksKeep l m slot (drop k asked) us) f
+    (subst (λ xs. LinksKeep l m slot (drop k xs) given) e (subst (λ xs. LinksKeep l m slot xs given) (take_rest held k) h))
 
 module _ {N V F : Type 0} (ps : List (N × Slot V F)) where
   open_pair : (n : N) (o : Option (N × Slot V F)) → option_map (λ p. p.0) o ≡ Some n → option_map (λ p. p.1) o ≡ Some opened → o ≡ Some (n, opened)
@@ -68,7 +82,13 @@ module _ {N V F : Type 0} (ps : List (N × Slot V F)) where
     pub count : f.uses ≤ length frames.uses.items
 
   abbrev pub top_of : (frames : Frames N) (f : Frame N) → N → Open N (Result V F)
-  top_of frames f n = record { node = n; replies = answers_at (slots_of ps) (drop f.asked frames.asked.items); asked = nodes_at ps (drop f.asked frames.asked.items); uses = drop f.uses frames.uses.items }
+  top_of frames f n = record {
+    node = n;
+    replies = answers_at (slots_of ps) (drop f.asked frames.asked.items);
+    asked = nodes_at ps (drop f.asked frames.asked.items);
+    uses = drop
+        f.uses frames.uses.items;
+  }
 
   abbrev pub below : (frames : Frames N) (f : Frame N) → List (Frame N) → List (Open N (Result V F))
   below frames f front = opens_in ps (reverse front) (take f.asked frames.asked.items) (take f.uses frames.uses.items)
@@ -77,15 +97,18 @@ module _ {N V F : Type 0} (ps : List (N × Slot V F)) where
   top frames f h ends =
       let turned : reverse frames.frames.items ≡ f ∷ reverse ends.0 = ap reverse ends.1 ∙ reverse-append ends.0 (f ∷ []) in
       let waits : AllByRecursion (λ f. IsOpen ps f.slot) (f ∷ reverse ends.0) = subst (AllByRecursion (λ f. IsOpen ps f.slot)) turned h.waits in
-      let nested : AreNested (f ∷ reverse ends.0) (length frames.asked.items) (length frames.uses.items) = subst (λ fs. AreNested fs (length frames.asked.items) (length frames.uses.items)) turned h.nested in
-      let nodes : AllByRecursion (λ f. node_at ps f.slot ≡ Some f.node) (f ∷ reverse ends.0) = subst (AllByRecursion (λ f. node_at ps f.slot ≡ Some f.node)) turned h.nodes in
+      let nested : AreNested (f ∷ reverse ends.0) (length frames.asked.items) (length frames.uses.items) =
+      subst (λ fs. AreNested fs (length frames.asked.items) (length frames.uses.items)) turned h.nested in
+      let nodes : AllByRecursion (λ f. node_at ps f.slot ≡ Some f.node) (f ∷ reverse ends.0) =
+      subst (AllByRecursion (λ f. node_at ps f.slot ≡ Some f.node)) turned h.nodes in
       let pair = open_pair f.node (slice_get ps f.slot) nodes.0 (sym (slice_get-map (λ p. p.1) ps f.slot) ∙ waits.0) in
       record { front = ends.0; turned = turned; there = pair; asks = nested.0; count = nested.1 }
 
   pub top-opens : (frames : Frames N) (f : Frame N) (t : IsTop frames f) → opens_of ps frames ≡ top_of frames f f.node ∷ below frames f t.front
   top-opens frames f t =
       ap (λ fs. opens_in ps fs frames.asked.items frames.uses.items) t.turned
-      ∙ ap (λ o. open_before o (answers_at (slots_of ps) (drop f.asked frames.asked.items)) (nodes_at ps (drop f.asked frames.asked.items)) (drop f.uses frames.uses.items) (below frames f t.front)) (node_there ps f.slot f.node opened t.there)
+      ∙ ap (λ o. open_before o (answers_at (slots_of ps) (drop f.asked frames.asked.items)) (nodes_at ps (drop f.asked frames.asked.items))
+      (drop f.uses frames.uses.items) (below frames f t.front)) (node_there ps f.slot f.node opened t.there)
 
   -- memory was refused before it was kept
   pub unchanged-laid : (l m : Linked) (frames : Frames N) → IsUnchanged l m → IsLaidOut ps l frames → IsLaidOut ps m frames
@@ -100,11 +123,16 @@ module _ {N V F : Type 0} (ps : List (N × Slot V F)) where
   }
 
   -- after a call the frames are the same, and there are more uses
-  more_uses : (w : Standing N (Result V F)) (old new : Frames N) {E : Type 0} (r : Result (Next N (Result V F)) E) → IfOk r (λ s. Runs w ps old new s) → OnErr r (IsAddedTo old.uses.items new.uses.items) → length old.uses.items ≤ length new.uses.items
-  more_uses w old new (Ok s) runs refused = let e : length new.uses.items ≡ length old.uses.items + _ = ap length runs.uses ∙ length-append old.uses.items _ in omega arith
-  more_uses w old new (Err e) runs refused = let e : length new.uses.items ≡ length old.uses.items + _ = ap length refused.1 ∙ length-append old.uses.items _ in omega arith
+  more_uses : (w : Standing N (Result V F)) (old new : Frames N) {E : Type 0} (r : Result (Next N (Result V F)) E) → IfOk r (λ s. Runs w ps old new s)
+      → OnErr r (IsAddedTo old.uses.items new.uses.items) → length old.uses.items ≤ length new.uses.items
+  more_uses w old new (Ok s) runs refused = let e : length new.uses.items ≡ length old.uses.items + _ =
+      ap length runs.uses ∙ length-append old.uses.items _ in omega arith
+  more_uses w old new (Err e) runs refused = let e : length new.uses.items ≡ length old.uses.items + _ =
+      ap length refused.1 ∙ length-append old.uses.items _ in omega arith
 
-  pub called-laid : (w : Standing N (Result V F)) (l : Linked) (old new : Frames N) {E : Type 0} (r : Result (Next N (Result V F)) E) → IfOk r (λ s. Runs w ps old new s) → OnErr r (IsAddedTo old.uses.items new.uses.items) → new.frames ≡ old.frames → new.asked ≡ old.asked → IsLaidOut ps l old → IsLaidOut ps l new
+  pub called-laid : (w : Standing N (Result V F)) (l : Linked) (old new : Frames N) {E : Type 0} (r : Result (Next N (Result V F)) E)
+      → IfOk r (λ s. Runs w ps old new s) → OnErr r (IsAddedTo old.uses.items new.uses.items) → new.frames ≡ old.frames → new.asked ≡ old.asked
+      → IsLaidOut ps l old → IsLaidOut ps l new
   called-laid w l old new r runs refused same asked h =
       let now : reverse new.frames.items ≡ reverse old.frames.items = ap (λ v. reverse v.items) same in
       let held : new.asked.items ≡ old.asked.items = ap (λ v. v.items) asked in
@@ -117,12 +145,16 @@ module _ {N V F : Type 0} (ps : List (N × Slot V F)) where
           all = λ k o. subst (λ fs. IsOneOf (map (λ (f : Frame N). f.slot) fs) k) (sym now) (h.waits.all k o);
           once = subst (λ fs. AllDiffer (map (λ (f : Frame N). f.slot) fs)) (sym now) h.waits.once;
           asked = subst (AllByRecursion (IsKept ps)) (sym held) h.waits.asked;
-          nested = subst (λ fs. AreNested fs (length new.asked.items) (length new.uses.items)) (sym now) (grown (reverse old.frames.items) _ _ _ _ count (more_uses w old new r runs refused) h.waits.nested);
+          nested = subst (λ fs. AreNested fs (length new.asked.items) (length new.uses.items)) (sym now)
+              (grown (reverse old.frames.items) _ _ _ _ count (more_uses w old new r runs refused) h.waits.nested);
         };
       }
 
   -- the last open node was run
-  pub runs : (w : Standing N (Result V F)) (old new : Frames N) (f : Frame N) → EndsWith f old.frames.items → (slots : List (Slot V F)) (held : List ℕ) (rs : List (Result V F)) → slots ≡ slots_of ps → held ≡ old.asked.items → rs ≡ answers_at slots (take (length held - f.asked) (drop f.asked held)) → {E : Type 0} (r : Result (Next N (Result V F)) E) → IfOk r (λ s. s ≡ w.follow f.node rs) → OnOk r (new.uses.items ≡ old.uses.items ++ w.added f.node rs) → IfOk r (λ s. Runs w ps old new s)
+  pub runs : (w : Standing N (Result V F)) (old new : Frames N) (f : Frame N) → EndsWith f old.frames.items
+      → (slots : List (Slot V F)) (held : List ℕ) (rs : List (Result V F)) → slots ≡ slots_of ps → held ≡ old.asked.items
+      → rs ≡ answers_at slots (take (length held - f.asked) (drop f.asked held)) → {E : Type 0} (r : Result (Next N (Result V F)) E)
+      → IfOk r (λ s. s ≡ w.follow f.node rs) → OnOk r (new.uses.items ≡ old.uses.items ++ w.added f.node rs) → IfOk r (λ s. Runs w ps old new s)
   runs w old new f ends slots held rs same is lent (Err e) step uses = tt
   runs w old new f ends slots held rs same is lent (Ok s) step uses =
       let part : rs ≡ replies_of ps f old = lent ∙ ap (answers_at slots) (take_rest held f.asked) ∙ (λ i. answers_at (same i) (drop f.asked (is i))) in
@@ -138,11 +170,13 @@ module _ {N V F : Type 0} (ps : List (N × Slot V F)) where
         all = λ k o. subst (λ fs. IsOneOf (map (λ (f : Frame N). f.slot) fs) k) (sym now) (h.all k o);
         once = subst (λ fs. AllDiffer (map (λ (f : Frame N). f.slot) fs)) (sym now) h.once;
         asked = subst (AllByRecursion (IsKept ps)) (sym same.asked) h.asked;
-        nested = subst (λ fs. AreNested fs (length new.asked.items) (length new.uses.items)) (sym now) (subst (λ us. P new.asked.items us) (sym same.uses) (subst (λ xs. P xs old.uses.items) (sym same.asked) h.nested));
+        nested = subst (λ fs. AreNested fs (length new.asked.items) (length new.uses.items)) (sym now)
+            (subst (λ us. P new.asked.items us) (sym same.uses) (subst (λ xs. P xs old.uses.items) (sym same.asked) h.nested));
       }
 
   -- ---- the last open node is taken out
-  module _ (l : Linked) (frames new : Frames N) (f : Frame N) (laid : IsLaidOut ps l frames) (popped : Popped f frames new) (t : IsTop frames f) (qs : List (N × Slot V F)) where
+  module _ (l : Linked) (frames new : Frames N) (f : Frame N) (laid : IsLaidOut ps l frames) (popped : Popped f frames new) (t : IsTop frames f)
+      (qs : List (N × Slot V F)) where
     top_none : answer_at (slots_of ps) f.slot ≡ None
     top_none = answer_there ps f.slot f.node opened t.there
 
@@ -153,7 +187,8 @@ module _ {N V F : Type 0} (ps : List (N × Slot V F)) where
         tail-same xs ys e = let same : xs ≡ ys = cc in same
 
     pub pops-opens : (s : Slot V F) → ChangesAt ps qs f.slot f.node s → opens_of qs new ≡ below frames f t.front
-    pops-opens s changes = opens-pop ps qs f.slot f.node s changes top_none f frames new laid.waits popped ∙ ap (λ fs. opens_in ps fs (take f.asked frames.asked.items) (take f.uses frames.uses.items)) same_front
+    pops-opens s changes = opens-pop ps qs f.slot f.node s changes top_none f frames new laid.waits popped
+        ∙ ap (λ fs. opens_in ps fs (take f.asked frames.asked.items) (take f.uses frames.uses.items)) same_front
 
     pub abandons-laid : ChangesAt ps qs f.slot f.node emptied → length qs ≡ length ps → IsLaidOut qs l new
     abandons-laid changes count = record {
@@ -162,13 +197,16 @@ module _ {N V F : Type 0} (ps : List (N × Slot V F)) where
     }
 
     pub abandons-kept : ChangesAt ps qs f.slot f.node emptied → length qs ≡ length ps → entries_of qs l ≡ entries_of ps l
-    abandons-kept changes count = entries-stay ps qs f.slot f.node emptied changes top_none refl l laid.kept 0 (let e : length ps ≡ length ps + 0 = omega arith in count ∙ e) tt
+    abandons-kept changes count = entries-stay ps qs f.slot f.node emptied changes top_none refl l laid.kept 0
+        (let e : length ps ≡ length ps + 0 = omega arith in count ∙ e) tt
 
     pub abandons-rest : ChangesAt ps qs f.slot f.node emptied → TakesFirst true (opens_of ps frames) (opens_of qs new)
     abandons-rest changes = (top_of frames f f.node, top-opens frames f t ∙ ap (λ st. top_of frames f f.node ∷ st) (sym (pops-opens emptied changes)))
 
     -- ---- it is kept
-    module _ (s : Slot V F) (a : Result V F) (is : answer_in s ≡ Some a) (changes : ChangesAt ps qs f.slot f.node s) (count : length qs ≡ length ps) (all : Linked) (once : List Use) (each : HasEachOnce once (drop f.uses frames.uses.items)) (in_asked : f.slot < length l.asked) (in_uses : f.slot < length l.uses) (kept : LinksKeep l all f.slot (drop f.asked frames.asked.items) once) where
+    module _ (s : Slot V F) (a : Result V F) (is : answer_in s ≡ Some a) (changes : ChangesAt ps qs f.slot f.node s) (count : length qs ≡ length ps)
+        (all : Linked) (once : List Use) (each : HasEachOnce once (drop f.uses frames.uses.items)) (in_asked : f.slot < length l.asked)
+        (in_uses : f.slot < length l.uses) (kept : LinksKeep l all f.slot (drop f.asked frames.asked.items) once) where
       not_open : s ≡ opened → ⊥
       not_open e = let none : answer_in s ≡ None = ap answer_in e in cc
 
@@ -180,20 +218,24 @@ module _ {N V F : Type 0} (ps : List (N × Slot V F)) where
 
       pub closes-laid : IsLaidOut qs all new
       closes-laid = record {
-        kept = links-keep ps qs f.slot f.node s changes top_none a is l all (drop f.asked frames.asked.items) once laid.kept part_kept (let h = laid.kept.slots in let k = slot_in in omega arith) in_asked (let h = laid.kept.slots in omega arith) kept;
+        kept = links-keep ps qs f.slot f.node s changes top_none a is l all (drop f.asked frames.asked.items) once laid.kept part_kept
+            (let h = laid.kept.slots in let k = slot_in in omega arith) in_asked (let h = laid.kept.slots in omega arith) kept;
         waits = frames-pop ps qs f.slot f.node s changes top_none not_open f refl frames new laid.waits popped;
       }
 
       pub closes-kept : Keeps (top_of frames f f.node) a (entries_of ps l) (entries_of qs all)
       closes-kept =
-          let p = entries-keep ps qs f.slot f.node s changes top_none a is l all (drop f.asked frames.asked.items) once laid.kept part_kept in_asked in_uses slot_in count kept in
+          let p = entries-keep ps qs f.slot f.node s changes top_none a is l all (drop f.asked frames.asked.items) once laid.kept part_kept in_asked in_uses
+          slot_in count kept in
           record { once = once; each = each; front = p.front; back = p.back; was = p.was; kept = p.now }
 
       -- no node is below it
-      pub closes-last : new.frames.items ≡ [] → Closes a (opens_of ps frames) (record { kept = entries_of ps l; opened = opens_of ps frames }) (record { kept = entries_of qs all; opened = opens_of qs new })
+      pub closes-last : new.frames.items ≡ [] → Closes a (opens_of ps frames) (record { kept = entries_of ps l; opened = opens_of ps frames })
+          (record { kept = entries_of qs all; opened = opens_of qs new })
       closes-last none =
           let empty : below frames f t.front ≡ [] = sym (pops-opens s changes) ∙ ap (λ fs. opens_in qs (reverse fs) new.asked.items new.uses.items) none in
-          let C : List (Open N (Result V F)) → Type 0 = λ st. Closes a st (record { kept = entries_of ps l; opened = opens_of ps frames }) (record { kept = entries_of qs all; opened = opens_of qs new }) in
+          let C : List (Open N (Result V F)) → Type 0 = λ st. Closes a st (record { kept = entries_of ps l; opened = opens_of ps frames })
+          (record { kept = entries_of qs all; opened = opens_of qs new }) in
           subst C (sym (top-opens frames f t ∙ ap (λ st. top_of frames f f.node ∷ st) empty)) (closes-kept, pops-opens s changes ∙ empty)
 
       -- the one below gets its answer
@@ -203,10 +245,15 @@ module _ {N V F : Type 0} (ps : List (N × Slot V F)) where
       pub hears-laid : (last : Frames N) → Heard f.slot new last → IsLaidOut qs all last
       hears-laid last h = record { kept = closes-laid.kept; waits = frames-hear qs f.slot kept_now new last closes-laid.waits h }
 
-      pub closes-more : (last : Frames N) → Heard f.slot new last → Closes a (opens_of ps frames) (record { kept = entries_of ps l; opened = opens_of ps frames }) (record { kept = entries_of qs all; opened = opens_of qs last })
+      pub closes-more : (last : Frames N) → Heard f.slot new last
+          → Closes a (opens_of ps frames) (record { kept = entries_of ps l; opened = opens_of ps frames })
+          (record { kept = entries_of qs all; opened = opens_of qs last })
       closes-more last h =
-          let opens : opens_of qs last ≡ heard f.node a (below frames f t.front) = opens-hear qs f.slot f.node a (node_there qs f.slot f.node s changes.here) (answer_there qs f.slot f.node s changes.here ∙ is) new last closes-laid.waits h ∙ ap (heard f.node a) (pops-opens s changes) in
-          let C : List (Open N (Result V F)) → Type 0 = λ st. Closes a st (record { kept = entries_of ps l; opened = opens_of ps frames }) (record { kept = entries_of qs all; opened = opens_of qs last }) in
+          let opens : opens_of qs last ≡ heard f.node a (below frames f t.front) =
+          opens-hear qs f.slot f.node a (node_there qs f.slot f.node s changes.here) (answer_there qs f.slot f.node s changes.here ∙ is) new last
+          closes-laid.waits h ∙ ap (heard f.node a) (pops-opens s changes) in
+          let C : List (Open N (Result V F)) → Type 0 = λ st. Closes a st (record { kept = entries_of ps l; opened = opens_of ps frames })
+          (record { kept = entries_of qs all; opened = opens_of qs last }) in
           subst C (sym (top-opens frames f t)) (closes-kept, opens)
 
       pub may-keep : MayKeep a (opens_of ps frames) (entries_of ps l) (entries_of qs all)
@@ -219,8 +266,10 @@ module _ {N V F : Type 0} (ps : List (N × Slot V F)) where
   pub keep-out : (l : Linked) (frames : Frames N) (f : Frame N) → AreLinked ps l → IsTop frames f → is_kept l.kept f.slot ≡ false
   keep-out l frames f h t = h.kept f.slot ∙ ap is_some (answer_there ps f.slot f.node opened t.there)
 
-  pub keep-asks : (l : Linked) (frames : Frames N) (f : Frame N) → IsLaidOut ps l frames → (held : List ℕ) → held ≡ frames.asked.items → All (λ s. is_kept l.kept s ≡ true) (take (length held - f.asked) (drop f.asked held))
+  pub keep-asks : (l : Linked) (frames : Frames N) (f : Frame N) → IsLaidOut ps l frames → (held : List ℕ) → held ≡ frames.asked.items
+      → All (λ s. is_kept l.kept s ≡ true) (take (length held - f.asked) (drop f.asked held))
   keep-asks l frames f h held e =
       let K : ℕ → Type 0 = λ s. is_kept l.kept s ≡ true in
-      let all : AllByRecursion K (drop f.asked frames.asked.items) = All-map (λ s k. h.kept.kept s ∙ k) (drop f.asked frames.asked.items) (All-drop (IsKept ps) f.asked frames.asked.items h.waits.asked) in
+      let all : AllByRecursion K (drop f.asked frames.asked.items) =
+      All-map (λ s k. h.kept.kept s ∙ k) (drop f.asked frames.asked.items) (All-drop (IsKept ps) f.asked frames.asked.items h.waits.asked) in
       subst (All K) (sym (take_rest held f.asked ∙ ap (drop f.asked) e)) (All-from_recursion K (drop f.asked frames.asked.items) all)

@@ -1,5 +1,6 @@
 -- What the code's tests and moves say of kept and open nodes.
-use Rattle.std.proofs.Common.{◌≡◌, ℕ, suc, ◌+◌, ◌-◌, ◌*◌, ◌<◌, ◌≤◌, Bool, true, false, List, [], ◌∷◌, ◌++◌, length, refl, sym, ◌∙◌, ap, subst, nat_eq, arith, ◌||◌, length-append, eq-eqb, Option, Result, Ok, Err, OnErr}
+use Rattle.std.proofs.Common.{◌≡◌, ℕ, suc, ◌+◌, ◌-◌, ◌*◌, ◌<◌, ◌≤◌, Bool, true, false, List, [], ◌∷◌, ◌++◌, length, refl, sym, ◌∙◌, ap, subst, nat_eq, arith}
+use Rattle.std.proofs.Common.{◌||◌, length-append, eq-eqb, Option, Result, Ok, Err, OnErr}
 use Rattle.std.specs.Cmp.{IsEquivalence}
 use Rattle.std.specs.List.{AllByRecursion, list_any}
 use Rattle.ksv_bytes.specs.declared.uses.Use.{Use}
@@ -13,12 +14,15 @@ use Rattle.ksv_memo_rules.specs.Entry.{Entry}
 use Rattle.ksv_memo.specs.Open.{Open, nodes_in, newly, with_uses, with_answer}
 use Rattle.ksv_memo.specs.Nodes.{kept_of}
 use Rattle.ksv_memo_rules.specs.Right.{nodes_of, HasEachOnce, IsRight, fresh, costs, counted, Agrees}
-use Rattle.ksv_memo.specs.Running.{HasCome, IsWaiting, HasEnded, HasStepped, IsStack, climbed, value_of, calls_of, calls_left, climbed_rest, rest_of, rest_at, to_keep, debt, made, Counts, account_of, account_at, HasFinished, GoesOn, IsLeft}
+use Rattle.ksv_memo.specs.Running.{HasCome, IsWaiting, HasEnded, HasStepped, IsStack, climbed, value_of, calls_of, calls_left, climbed_rest, rest_of, rest_at}
+use Rattle.ksv_memo.specs.Running.{to_keep, debt, made, Counts, account_of, account_at, HasFinished, GoesOn, IsLeft}
 use Rattle.ksv_memo_rules.proofs.Lists.{All-right}
 use Rattle.ksv_memo_rules.proofs.Evals.{IsOut, eqb_true, AreDistinct-cons, tells-free}
 use Rattle.ksv_memo_rules.proofs.Keeping.{IsIn, IsIn-append, AreDistinct-none, done-kept, agrees, self_in, nodes_of-append}
 use Rattle.ksv_memo.proofs.Places.{goes-moved, finished-moved, left-moved}
-use Rattle.ksv_memo.proofs.Moves.{++-nil, stepped, value-stepped, rest-stepped, rest-replied, rest-starts, rest-circle, covers-keep, covers-drop, to_keep-nil, fresh-nil, debt-keep, debt-drop, replied, value-replied, value-circle, starts, value-starts, room, opens, keeps, closes, IsWaiting-keep}
+use Rattle.ksv_memo.proofs.Moves.{++-nil, stepped, value-stepped, rest-stepped, rest-replied, rest-starts, rest-circle, covers-keep, covers-drop, to_keep-nil}
+use Rattle.ksv_memo.proofs.Moves.{fresh-nil, debt-keep, debt-drop, replied, value-replied, value-circle, starts, value-starts, room, opens, keeps, closes}
+use Rattle.ksv_memo.proofs.Moves.{IsWaiting-keep}
 
 -- ---- `==` on nodes is that of their numbers
 module _ {N A : Type 0} (w : Standing N A) (law : IsSettled w) (eq : N → N → Bool) (laws : IsEquivalence eq) (exact : (a b : N) → eq a b ≡ true → a ≡ b) where
@@ -28,17 +32,21 @@ module _ {N A : Type 0} (w : Standing N A) (law : IsSettled w) (eq : N → N →
       by : (x : Bool) → eq a b ≡ x → (y : Bool) → nat_eq (w.number a) (w.number b) ≡ y → x ≡ y
       by true e true f = refl
       by false e false f = refl
-      by true e false f = let same : w.number a ≡ w.number b = ap (λ z. w.number z) (exact a b e) in let yes : nat_eq (w.number a) (w.number b) ≡ true = eq-eqb (w.number a) (w.number b) same in cc
-      by false e true f = let same : a ≡ b = law.own_number a b (eqb_true (w.number a) (w.number b) f) in let yes : eq a a ≡ true = laws.refl a in let moved : eq a b ≡ eq a a = ap (eq a) (sym same) in cc
+      by true e false f = let same : w.number a ≡ w.number b = ap (λ z. w.number z) (exact a b e) in let yes : nat_eq (w.number a) (w.number b) ≡ true =
+          eq-eqb (w.number a) (w.number b) same in cc
+      by false e true f = let same : a ≡ b = law.own_number a b (eqb_true (w.number a) (w.number b) f) in let yes : eq a a ≡ true =
+          laws.refl a in let moved : eq a b ≡ eq a a = ap (eq a) (sym same) in cc
 
   any_waits : (st : List (Open N A)) (n : N) → list_any (λ o. eq n o.node) st ≡ is_among w.number (nodes_in st) n
   any_waits [] n = refl
-  any_waits (o ∷ st) n = ap (λ b. b || list_any (λ o. eq n o.node) st) (eq_number n o.node) ∙ ap (λ b. nat_eq (w.number n) (w.number o.node) || b) (any_waits st n)
+  any_waits (o ∷ st) n = ap (λ b. b || list_any (λ o. eq n o.node) st) (eq_number n o.node)
+      ∙ ap (λ b. nat_eq (w.number n) (w.number o.node) || b) (any_waits st n)
 
   -- a node that is kept has an entry
   pub any_entry : (es : List (Entry N A)) (n : N) → list_any (λ e. eq n e.node) es ≡ is_among w.number (nodes_of es) n
   any_entry [] n = refl
-  any_entry (e ∷ es) n = ap (λ b. b || list_any (λ e. eq n e.node) es) (eq_number n e.node) ∙ ap (λ b. nat_eq (w.number n) (w.number e.node) || b) (any_entry es n)
+  any_entry (e ∷ es) n = ap (λ b. b || list_any (λ e. eq n e.node) es) (eq_number n e.node)
+      ∙ ap (λ b. nat_eq (w.number n) (w.number e.node) || b) (any_entry es n)
 
   -- the test of the table says whether a node is open
   pub waits_among : (st : List (Open N A)) (n : N) → list_any (λ o. eq n o.node) st ≡ is_among w.number (nodes_in st) n
@@ -51,17 +59,21 @@ same_product p q x y e h = omega arith
 fewer : (k b x y : ℕ) → x < y + (b + 2) → k * (b + 2) + x < suc k * (b + 2) + y
 fewer k b x y h = grind arith
 
-calls-replied : {N A : Type 0} (w : Standing N A) (es : List (Entry N A)) (o : Open N A) (m : N) (a : A) (st : List (Open N A)) → length o.replies < w.replies → calls_left w es (with_answer o m a) st < calls_left w es o st
+calls-replied : {N A : Type 0} (w : Standing N A) (es : List (Entry N A)) (o : Open N A) (m : N) (a : A) (st : List (Open N A)) → length o.replies < w.replies
+    → calls_left w es (with_answer o m a) st < calls_left w es o st
 calls-replied w es o m a st few = same_product _ _ (calls_of w (with_answer o m a ∷ st)) (calls_of w (o ∷ st)) refl (simp length-append (omega arith))
 
-calls-kept : {N A : Type 0} (w : Standing N A) (es : List (Entry N A)) (e : Entry N A) (o p : Open N A) (m : N) (a : A) (st : List (Open N A)) → length o.replies ≤ w.replies → length p.replies < w.replies → calls_left w (es ++ e ∷ []) (with_answer p m a) st < calls_left w es o (p ∷ st)
+calls-kept : {N A : Type 0} (w : Standing N A) (es : List (Entry N A)) (e : Entry N A) (o p : Open N A) (m : N) (a : A) (st : List (Open N A))
+    → length o.replies ≤ w.replies → length p.replies < w.replies → calls_left w (es ++ e ∷ []) (with_answer p m a) st < calls_left w es o (p ∷ st)
 calls-kept w es e o p m a st le few =
-    same_product ((w.nodes - (length (es ++ e ∷ []) + length (with_answer p m a ∷ st))) * (w.replies + 2)) ((w.nodes - (length es + length (o ∷ p ∷ st))) * (w.replies + 2))
+    same_product ((w.nodes - (length (es ++ e ∷ []) + length (with_answer p m a ∷ st))) * (w.replies + 2))
+    ((w.nodes - (length es + length (o ∷ p ∷ st))) * (w.replies + 2))
     (calls_of w (with_answer p m a ∷ st)) (calls_of w (o ∷ p ∷ st))
     (ap (λ k. (w.nodes - k) * (w.replies + 2)) (simp length-append (omega arith)))
     (simp length-append (omega arith))
 
-calls-opened : {N A : Type 0} (w : Standing N A) (es : List (Entry N A)) (o : Open N A) (m : N) (st : List (Open N A)) → length es + suc (suc (length st)) ≤ w.nodes → calls_left w es (newly m) (o ∷ st) < calls_left w es o st
+calls-opened : {N A : Type 0} (w : Standing N A) (es : List (Entry N A)) (o : Open N A) (m : N) (st : List (Open N A))
+    → length es + suc (suc (length st)) ≤ w.nodes → calls_left w es (newly m) (o ∷ st) < calls_left w es o st
 calls-opened w es o m st le =
     let k : ℕ = w.nodes - (length es + length (newly m ∷ o ∷ st)) in
     let eq : w.nodes - (length es + length (o ∷ st)) ≡ suc k = omega arith in
@@ -99,31 +111,40 @@ module _ {N A : Type 0} (w : Standing N A) (law : IsSettled w) where
       let e : Entry N A = kept_of o a once in
       let right : IsRight w (es ++ e ∷ []) = keeps w law es o (p ∷ st) a once h ended each in
       let waits : IsWaiting w (es ++ e ∷ []) p o.node = IsWaiting-keep w es e p o.node h.chain.0 in
-      let says : (g : N → Outcome N A) → Agrees (es ++ e ∷ []) g → g o.node ≡ Answered a = λ g agree. (All-right (λ (x : Entry N A). g x.node ≡ Answered x.answer) es (e ∷ []) agree).0 in
-      let left_over : debt w (es ++ e ∷ []) (rest_of w (with_answer p o.node a) st) ≡ debt w (es ++ e ∷ []) (climbed_rest w (p ∷ st) (Answered a)) = ap (debt w (es ++ e ∷ [])) (rest-replied w p o.node a st) in
-      let paid : debt w es (rest_at w o (p ∷ st) (Done a)) ≡ length o.asked + 1 + debt w (es ++ e ∷ []) (climbed_rest w (p ∷ st) (Answered a)) = debt-keep w law es e o (p ∷ st) a (climbed_rest w (p ∷ st) (Answered a)) h ended refl in
+      let says : (g : N → Outcome N A) → Agrees (es ++ e ∷ []) g
+      → g o.node ≡ Answered a = λ g agree. (All-right (λ (x : Entry N A). g x.node ≡ Answered x.answer) es (e ∷ []) agree).0 in
+      let left_over : debt w (es ++ e ∷ []) (rest_of w (with_answer p o.node a) st) ≡ debt w (es ++ e ∷ []) (climbed_rest w (p ∷ st) (Answered a)) =
+      ap (debt w (es ++ e ∷ [])) (rest-replied w p o.node a st) in
+      let paid : debt w es (rest_at w o (p ∷ st) (Done a)) ≡ length o.asked + 1 + debt w (es ++ e ∷ []) (climbed_rest w (p ∷ st) (Answered a)) =
+      debt-keep w law es e o (p ∷ st) a (climbed_rest w (p ∷ st) (Answered a)) h ended refl in
       record {
         stack = closes w es o p st e h refl right;
         came = replied w (es ++ e ∷ []) p o.node a waits (kept_last w es e) says;
         grown = λ x k. ap (λ ns. is_among w.number ns x) (nodes_of-append es (e ∷ [])) ∙ IsIn-append w (nodes_of es) (e.node ∷ []) x k;
         value = value-replied w p o.node a st;
         fewer = calls-kept w es e o p o.node a st ended.few h.chain.0.few;
-        all = λ x. ap (λ ns. is_among w.number ns x) (ap (to_keep w (es ++ e ∷ [])) (rest-replied w p o.node a st) ∙ covers-keep w es e o.node (climbed_rest w (p ∷ st) (Answered a)) refl h.apart.0);
-        calls = calls-paid _ _ (debt w (es ++ e ∷ []) (climbed_rest w (p ∷ st) (Answered a))) (length o.asked) (length p.asked) (made st) _ left_over paid (length-append p.asked (o.node ∷ []));
+        all = λ x. ap (λ ns. is_among w.number ns x)
+            (ap (to_keep w (es ++ e ∷ [])) (rest-replied w p o.node a st) ∙ covers-keep w es e o.node (climbed_rest w (p ∷ st) (Answered a)) refl h.apart.0);
+        calls = calls-paid _ _ (debt w (es ++ e ∷ []) (climbed_rest w (p ∷ st) (Answered a))) (length o.asked) (length p.asked) (made st) _ left_over paid
+            (length-append p.asked (o.node ∷ []));
       }
 
   pub finish-goes : (es all front back : List (Entry N A)) (o p q : Open N A) (st rest : List (Open N A)) (a : A) (once : List Use)
-      → IsStack w es o.node st → HasEnded w es o a → HasEachOnce once o.uses → es ≡ front ++ back → all ≡ front ++ kept_of o a once ∷ back → st ≡ p ∷ rest → q ≡ with_answer p o.node a
+      → IsStack w es o.node st → HasEnded w es o a → HasEachOnce once o.uses → es ≡ front ++ back → all ≡ front ++ kept_of o a once ∷ back → st ≡ p ∷ rest
+      → q ≡ with_answer p o.node a
       → GoesOn w (account_at w es o st (Done a)) es all q rest
   finish-goes es all front back o p q st rest a once h ended each was more popped is =
       let stack : IsStack w es o.node (p ∷ rest) = subst (λ below. IsStack w es o.node below) popped h in
       let P : List (Open N A) → List (Entry N A) → Open N A → Type 0 = λ below xs r. GoesOn w (account_at w es o below (Done a)) es xs r rest in
       let goes = subst (λ xs. P (p ∷ rest) (xs ++ kept_of o a once ∷ []) (with_answer p o.node a)) was (goes-kept es o p rest a once stack ended each) in
-      let moved : P (p ∷ rest) (front ++ kept_of o a once ∷ back) (with_answer p o.node a) = goes-moved w front back (kept_of o a once) (account_at w es o (p ∷ rest) (Done a)) es (with_answer p o.node a) rest goes in
-      subst (λ below. P below all q) (sym popped) (subst (λ xs. P (p ∷ rest) xs q) (sym more) (subst (P (p ∷ rest) (front ++ kept_of o a once ∷ back)) (sym is) moved))
+      let moved : P (p ∷ rest) (front ++ kept_of o a once ∷ back) (with_answer p o.node a) =
+      goes-moved w front back (kept_of o a once) (account_at w es o (p ∷ rest) (Done a)) es (with_answer p o.node a) rest goes in
+      subst (λ below. P below all q) (sym popped)
+      (subst (λ xs. P (p ∷ rest) xs q) (sym more) (subst (P (p ∷ rest) (front ++ kept_of o a once ∷ back)) (sym is) moved))
 
   -- the lowest node is kept
-  ends-kept : (es : List (Entry N A)) (o : Open N A) (a : A) (once : List Use) → IsStack w es o.node [] → HasEnded w es o a → HasEachOnce once o.uses → HasFinished w (account_at w es o [] (Done a)) (es ++ kept_of o a once ∷ []) (Answered a)
+  ends-kept : (es : List (Entry N A)) (o : Open N A) (a : A) (once : List Use) → IsStack w es o.node [] → HasEnded w es o a → HasEachOnce once o.uses
+      → HasFinished w (account_at w es o [] (Done a)) (es ++ kept_of o a once ∷ []) (Answered a)
   ends-kept es o a once h ended each =
       let e : Entry N A = kept_of o a once in
       let paid : debt w es (o.node ∷ []) ≡ length o.asked + 1 + debt w (es ++ e ∷ []) [] = debt-keep w law es e o [] a [] h ended refl in
@@ -143,7 +164,8 @@ module _ {N A : Type 0} (w : Standing N A) (law : IsSettled w) where
       let stack : IsStack w es o.node [] = subst (λ below. IsStack w es o.node below) none h in
       let P : List (Open N A) → List (Entry N A) → A → Type 0 = λ below xs x. HasFinished w (account_at w es o below (Done a)) xs (Answered x) in
       let ends = subst (λ xs. P [] (xs ++ kept_of o a once ∷ []) a) was (ends-kept es o a once stack ended each) in
-      let moved : P [] (front ++ kept_of o a once ∷ back) a = finished-moved w front back (kept_of o a once) (account_at w es o [] (Done a)) (Answered a) ends in
+      let moved : P [] (front ++ kept_of o a once ∷ back) a =
+      finished-moved w front back (kept_of o a once) (account_at w es o [] (Done a)) (Answered a) ends in
       subst (λ below. P below all b) (sym none) (subst (λ xs. P [] xs b) (sym more) (subst (P [] (front ++ kept_of o a once ∷ back)) (sym copy) moved))
 
   -- memory is refused once a node is kept, or before
@@ -157,7 +179,8 @@ module _ {N A : Type 0} (w : Standing N A) (law : IsSettled w) where
       let here : P (es ++ e ∷ []) = record {
         right = keeps w law es o st a once h ended each;
         grown = λ x k. ap (λ ns. is_among w.number ns x) (nodes_of-append es (e ∷ [])) ∙ IsIn-append w (nodes_of es) (e.node ∷ []) x k;
-        within = λ x k. ap (λ ns. is_among w.number ns x) (sym (covers-keep w es e o.node rest refl h.apart.0)) ∙ IsIn-append w (nodes_of (es ++ e ∷ [])) (fresh w.number (nodes_of (es ++ e ∷ [])) rest) x k;
+        within = λ x k. ap (λ ns. is_among w.number ns x) (sym (covers-keep w es e o.node rest refl h.apart.0))
+            ∙ IsIn-append w (nodes_of (es ++ e ∷ [])) (fresh w.number (nodes_of (es ++ e ∷ [])) rest) x k;
       } in
       subst P (sym more) (left-moved w front back e (to_keep w es (o.node ∷ rest)) es (subst (λ xs. P (xs ++ e ∷ [])) was here))
 
@@ -172,16 +195,22 @@ module _ {N A : Type 0} (w : Standing N A) (law : IsSettled w) where
       → GoesOn w (account_at w es o st (Need m)) es es q st
   need-replies es o q st m a h waits is_in says is =
       let P : Open N A → Type 0 = λ r. GoesOn w (account_at w es o st (Need m)) es es r st in
-      let told_so : Answered a ≡ answering w (o.node ∷ nodes_in st) m = sym (says (answering w (o.node ∷ nodes_in st)) (agrees w law es h.right (o.node ∷ nodes_in st) h.apart)) in
-      let inside : AllByRecursion (IsIn w (nodes_of es)) (done w (o.node ∷ nodes_in st) m) = done-kept w law es h.right (o.node ∷ nodes_in st) h.apart m is_in in
-      let same_debt : debt w es (rest_of w (with_answer o m a) st) ≡ debt w es (rest_at w o st (Need m)) = ap (debt w es) (rest-replied w o m a st ∙ ap (climbed_rest w (o ∷ st)) told_so) ∙ debt-drop w es (done w (o.node ∷ nodes_in st) m) (climbed_rest w (o ∷ st) (answering w (o.node ∷ nodes_in st) m)) inside in
+      let told_so : Answered a ≡ answering w (o.node ∷ nodes_in st) m =
+      sym (says (answering w (o.node ∷ nodes_in st)) (agrees w law es h.right (o.node ∷ nodes_in st) h.apart)) in
+      let inside : AllByRecursion (IsIn w (nodes_of es)) (done w (o.node ∷ nodes_in st) m) =
+      done-kept w law es h.right (o.node ∷ nodes_in st) h.apart m is_in in
+      let same_debt : debt w es (rest_of w (with_answer o m a) st) ≡ debt w es (rest_at w o st (Need m)) =
+      ap (debt w es) (rest-replied w o m a st ∙ ap (climbed_rest w (o ∷ st)) told_so)
+      ∙ debt-drop w es (done w (o.node ∷ nodes_in st) m) (climbed_rest w (o ∷ st) (answering w (o.node ∷ nodes_in st) m)) inside in
       subst P (sym is) (record {
         stack = h;
         came = replied w es o m a waits is_in says;
         grown = λ x k. k;
         value = value-replied w o m a st ∙ ap (climbed w (o ∷ st)) told_so;
         fewer = calls-replied w es o m a st waits.few;
-        all = λ x. ap (λ ns. is_among w.number ns x) (ap (to_keep w es) (rest-replied w o m a st ∙ ap (climbed_rest w (o ∷ st)) told_so) ∙ covers-drop w es (done w (o.node ∷ nodes_in st) m) (climbed_rest w (o ∷ st) (answering w (o.node ∷ nodes_in st) m)) inside);
+        all = λ x. ap (λ ns. is_among w.number ns x)
+            (ap (to_keep w es) (rest-replied w o m a st ∙ ap (climbed_rest w (o ∷ st)) told_so)
+            ∙ covers-drop w es (done w (o.node ∷ nodes_in st) m) (climbed_rest w (o ∷ st) (answering w (o.node ∷ nodes_in st) m)) inside);
         calls = calls-more _ _ (length o.asked) (made st) _ same_debt (length-append o.asked (m ∷ []));
       })
 
@@ -192,7 +221,8 @@ module _ {N A : Type 0} (w : Standing N A) (law : IsSettled w) where
   need-opens es o q st above m h waits out free is over =
       let stack : IsStack w es m (o ∷ st) = opens w es o st m h waits out free in
       let P : List (Open N A) → Open N A → Type 0 = λ up r. GoesOn w (account_at w es o st (Need m)) es es r up in
-      let same_debt : debt w es (rest_of w (newly m) (o ∷ st)) ≡ debt w es (rest_at w o st (Need m)) = ap (debt w es) (rest-starts w law (o ∷ st) m h.distinct free) in
+      let same_debt : debt w es (rest_of w (newly m) (o ∷ st)) ≡ debt w es (rest_at w o st (Need m)) =
+      ap (debt w es) (rest-starts w law (o ∷ st) m h.distinct free) in
       subst (λ up. P up q) (sym over) (subst (P (o ∷ st)) (sym is) (record {
         stack = stack;
         came = starts w es m;
@@ -204,7 +234,8 @@ module _ {N A : Type 0} (w : Standing N A) (law : IsSettled w) where
       }))
 
   -- an open node is asked
-  pub need-ends : (es : List (Entry N A)) (o : Open N A) (st : List (Open N A)) (m : N) → IsStack w es o.node st → is_among w.number (o.node ∷ nodes_in st) m ≡ true → HasFinished w (account_at w es o st (Need m)) es (Circle m)
+  pub need-ends : (es : List (Entry N A)) (o : Open N A) (st : List (Open N A)) (m : N) → IsStack w es o.node st
+      → is_among w.number (o.node ∷ nodes_in st) m ≡ true → HasFinished w (account_at w es o st (Need m)) es (Circle m)
   need-ends es o st m h is_open = record {
     value = sym (value-circle w o st m is_open);
     right = h.right;
@@ -213,7 +244,8 @@ module _ {N A : Type 0} (w : Standing N A) (law : IsSettled w) where
   }
 
   -- ---- the call of a turn
-  pub turn-account : (es : List (Entry N A)) (o : Open N A) (st : List (Open N A)) (s : Next N A) → s ≡ w.follow o.node o.replies → HasCome w es o → account_at w es (with_uses o (w.added o.node o.replies)) st s ≡ account_of w es o st
+  pub turn-account : (es : List (Entry N A)) (o : Open N A) (st : List (Open N A)) (s : Next N A) → s ≡ w.follow o.node o.replies → HasCome w es o
+      → account_at w es (with_uses o (w.added o.node o.replies)) st s ≡ account_of w es o st
   turn-account es o st s is h = λ i. record {
     value = value-stepped w es o st s is h i;
     left = calls_left w es o st;
@@ -222,12 +254,18 @@ module _ {N A : Type 0} (w : Standing N A) (law : IsSettled w) where
     made = length o.asked + made st;
   }
 
-  pub turn-steps : (es now : List (Entry N A)) (o p : Open N A) (s : Next N A) → now ≡ es → p ≡ with_uses o (w.added o.node o.replies) → s ≡ w.follow o.node o.replies → HasCome w es o → HasStepped w now p s
-  turn-steps es now o p s same view is h = let P : List (Entry N A) → Open N A → Type 0 = λ xs q. HasStepped w xs q s in subst (λ xs. P xs p) (sym same) (subst (P es) (sym view) (stepped w law es o s is h))
+  pub turn-steps : (es now : List (Entry N A)) (o p : Open N A) (s : Next N A) → now ≡ es → p ≡ with_uses o (w.added o.node o.replies)
+      → s ≡ w.follow o.node o.replies → HasCome w es o → HasStepped w now p s
+  turn-steps es now o p s same view is h = let P : List (Entry N A) → Open N A
+      → Type 0 = λ xs q. HasStepped w xs q s in subst (λ xs. P xs p) (sym same) (subst (P es) (sym view) (stepped w law es o s is h))
 
   -- ---- a question begins
-  pub begins : (es : List (Entry N A)) (n : N) (o : Open N A) (st : List (Open N A)) → o ≡ newly n → st ≡ [] → IsRight w es → IsOut w (nodes_of es) n → IsStack w es o.node st
-  begins es n o st e f right out = let P : N → List (Open N A) → Type 0 = λ m below. IsStack w es m below in subst (λ below. P o.node below) (sym f) (subst (λ (q : Open N A). P q.node []) (sym e) (record { right = right; chain = tt; distinct = AreDistinct-cons w n [] refl (AreDistinct-none w); apart = (out, tt) }))
+  pub begins : (es : List (Entry N A)) (n : N) (o : Open N A) (st : List (Open N A)) → o ≡ newly n → st ≡ [] → IsRight w es → IsOut w (nodes_of es) n
+      → IsStack w es o.node st
+  begins es n o st e f right out = let P : N → List (Open N A)
+      → Type 0 = λ m below. IsStack w es m below in subst (λ below. P o.node below) (sym f)
+      (subst (λ (q : Open N A). P q.node []) (sym e)
+      (record { right = right; chain = tt; distinct = AreDistinct-cons w n [] refl (AreDistinct-none w); apart = (out, tt) }))
 
   pub comes : (es : List (Entry N A)) (n : N) (o : Open N A) → o ≡ newly n → HasCome w es o
   comes es n o e = let P : Open N A → Type 0 = λ q. HasCome w es q in subst P (sym e) (starts w es n)
@@ -235,15 +273,19 @@ module _ {N A : Type 0} (w : Standing N A) (law : IsSettled w) where
   pub value-begins : (n : N) (o : Open N A) (st : List (Open N A)) → o ≡ newly n → st ≡ [] → value_of w o st ≡ (tells w [] n).outcome
   value-begins n o st e f =
       let eq : suc w.replies - 0 ≡ suc w.replies = omega arith in
-      ap (λ q. value_of w q st) e ∙ ap (λ below. value_of w (newly n) below) f ∙ ap (λ (u : Told N A). u.outcome) (ap (λ j. told w (answering w (n ∷ [])) n j []) eq ∙ sym (tells-free w law [] n (AreDistinct-none w) refl))
+      ap (λ q. value_of w q st) e ∙ ap (λ below. value_of w (newly n) below) f
+      ∙ ap (λ (u : Told N A). u.outcome) (ap (λ j. told w (answering w (n ∷ [])) n j []) eq ∙ sym (tells-free w law [] n (AreDistinct-none w) refl))
 
   rest-begins : (n : N) (o : Open N A) (st : List (Open N A)) → o ≡ newly n → st ≡ [] → rest_of w o st ≡ done w [] n
-  rest-begins n o st e f = ap (λ q. rest_of w q st) e ∙ ap (λ below. rest_of w (newly n) below) f ∙ rest-starts w law [] n (AreDistinct-none w) refl ∙ ++-nil (done w [] n)
+  rest-begins n o st e f = ap (λ q. rest_of w q st) e ∙ ap (λ below. rest_of w (newly n) below) f ∙ rest-starts w law [] n (AreDistinct-none w) refl
+      ∙ ++-nil (done w [] n)
 
-  pub covers-begins : (es : List (Entry N A)) (n : N) (o : Open N A) (st : List (Open N A)) → o ≡ newly n → st ≡ [] → to_keep w es (rest_of w o st) ≡ to_keep w es (done w [] n)
+  pub covers-begins : (es : List (Entry N A)) (n : N) (o : Open N A) (st : List (Open N A)) → o ≡ newly n → st ≡ []
+      → to_keep w es (rest_of w o st) ≡ to_keep w es (done w [] n)
   covers-begins es n o st e f = ap (to_keep w es) (rest-begins n o st e f)
 
-  pub turns-begin : (es : List (Entry N A)) (n : N) (o : Open N A) (st : List (Open N A)) → o ≡ newly n → st ≡ [] → 0 + debt w es (rest_of w o st) ≡ debt w es (done w [] n) + (length o.asked + made st)
+  pub turns-begin : (es : List (Entry N A)) (n : N) (o : Open N A) (st : List (Open N A)) → o ≡ newly n → st ≡ []
+      → 0 + debt w es (rest_of w o st) ≡ debt w es (done w [] n) + (length o.asked + made st)
   turns-begin es n o st e f =
       let owed : debt w es (rest_of w o st) ≡ debt w es (done w [] n) = ap (debt w es) (rest-begins n o st e f) in
       let none : length o.asked ≡ 0 = ap (λ (q : Open N A). length q.asked) e in
@@ -252,17 +294,22 @@ module _ {N A : Type 0} (w : Standing N A) (law : IsSettled w) where
 
   -- ---- a kept node is asked
   pub covers-kept : (es : List (Entry N A)) (n : N) → IsRight w es → IsIn w (nodes_of es) n → nodes_of es ≡ to_keep w es (done w [] n)
-  covers-kept es n right is_in = to_keep-nil w es ∙ covers-drop w es (done w [] n) [] (done-kept w law es right [] tt n is_in) ∙ ap (to_keep w es) (++-nil (done w [] n))
+  covers-kept es n right is_in = to_keep-nil w es ∙ covers-drop w es (done w [] n) [] (done-kept w law es right [] tt n is_in)
+      ∙ ap (to_keep w es) (++-nil (done w [] n))
 
   pub none-owed : (es : List (Entry N A)) (n : N) → IsRight w es → IsIn w (nodes_of es) n → (turns : Option ℕ) → turns ≡ counted (debt w es (done w [] n)) turns
   none-owed es n right is_in turns =
-      let none : 0 ≡ debt w es (done w [] n) = sym (ap (costs w) (fresh-nil w.number (nodes_of es))) ∙ debt-drop w es (done w [] n) [] (done-kept w law es right [] tt n is_in) ∙ ap (debt w es) (++-nil (done w [] n)) in
+      let none : 0 ≡ debt w es (done w [] n) = sym (ap (costs w) (fresh-nil w.number (nodes_of es)))
+      ∙ debt-drop w es (done w [] n) [] (done-kept w law es right [] tt n is_in) ∙ ap (debt w es) (++-nil (done w [] n)) in
       ap (λ k. counted k turns) none
 
-pub counts-end : (before now new : Option ℕ) (owed so_far total : ℕ) → Counts before now owed so_far total → so_far + 1 ≡ owed → new ≡ counted 1 now → new ≡ counted total before
-counts-end before now new owed so_far total h e f = let last : suc h.0 ≡ total = counts-last h.0 owed so_far total h.2 e in f ∙ ap (counted 1) h.1 ∙ ap (λ k. counted k before) last
+pub counts-end : (before now new : Option ℕ) (owed so_far total : ℕ) → Counts before now owed so_far total → so_far + 1 ≡ owed → new ≡ counted 1 now
+    → new ≡ counted total before
+counts-end before now new owed so_far total h e f = let last : suc h.0 ≡ total = counts-last h.0 owed so_far total h.2 e in f ∙ ap (counted 1) h.1
+    ∙ ap (λ k. counted k before) last
 
-pub counts-step : (before now new : Option ℕ) (owed owed' so_far so_far' total : ℕ) → Counts before now owed so_far total → owed' + so_far + 1 ≡ owed + so_far' → new ≡ counted 1 now → Counts before new owed' so_far' total
+pub counts-step : (before now new : Option ℕ) (owed owed' so_far so_far' total : ℕ) → Counts before now owed so_far total → owed' + so_far + 1 ≡ owed + so_far'
+    → new ≡ counted 1 now → Counts before new owed' so_far' total
 counts-step before now new owed owed' so_far so_far' total h e f = (suc h.0, f ∙ ap (counted 1) h.1, counts-next h.0 owed owed' so_far so_far' total h.2 e)
 
 pub on_err_always : {T E P : Type 0} (r : Result T E) → P → OnErr r P

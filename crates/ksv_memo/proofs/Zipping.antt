@@ -47,7 +47,8 @@ module _ {N X : Type 0} where
   write-zip (n ∷ ns) (t ∷ ss) (suc i) s = ap (λ (ps : List (N × X)). (n, t) ∷ ps) (write-zip ns ss i s)
 
   -- a node and its slot are written
-  pub set-zip : (ns : List N) (ss : List X) (i : ℕ) (n : N) (s : X) → length ss ≡ length ns → zip (slice_set ns i n) (slice_set ss i s) ≡ slice_set (zip ns ss) i (n, s)
+  pub set-zip : (ns : List N) (ss : List X) (i : ℕ) (n : N) (s : X) → length ss ≡ length ns
+      → zip (slice_set ns i n) (slice_set ss i s) ≡ slice_set (zip ns ss) i (n, s)
   set-zip [] [] i n s e = refl
   set-zip [] (t ∷ ss) i n s e = absurd (omega arith)
   set-zip (m ∷ ns) [] i n s e = absurd (omega arith)
@@ -55,7 +56,8 @@ module _ {N X : Type 0} where
   set-zip (m ∷ ns) (t ∷ ss) (suc i) n s e = ap (λ (ps : List (N × X)). (m, t) ∷ ps) (set-zip ns ss i n s (omega arith))
 
   -- each slot has a node
-  pub slot-zip : (ns : List N) (ss : List X) (i : ℕ) (s : X) → length ss ≡ length ns → slice_get ss i ≡ Some s → (n : N) × (slice_get (zip ns ss) i ≡ Some (n, s))
+  pub slot-zip : (ns : List N) (ss : List X) (i : ℕ) (s : X) → length ss ≡ length ns → slice_get ss i ≡ Some s
+      → (n : N) × (slice_get (zip ns ss) i ≡ Some (n, s))
   slot-zip [] [] i s e f = absurd (cc)
   slot-zip [] (t ∷ ss) i s e f = absurd (omega arith)
   slot-zip (m ∷ ns) [] i s e f = absurd (omega arith)
@@ -63,5 +65,7 @@ module _ {N X : Type 0} where
   slot-zip (m ∷ ns) (t ∷ ss) (suc i) s e f = slot-zip ns ss i s (omega arith) f
 
   -- the slot that is read at the place of a node
-  pub inside-zip : (ns : List N) (ss : List X) (i : ℕ) (n : N) (s t : X) → length ss ≡ length ns → slice_get ns i ≡ Some n → s ≡ get_or ss i s → s ≡ t → slice_get (zip ns ss) i ≡ Some (n, t)
-  inside-zip ns ss i n s t e at is same = there-zip ns ss i n t at (slice_get_read ss (length ss) i s refl (let lt = slice_get_within ns i n at in omega arith) is ∙ ap (λ (x : X). Some x) same)
+  pub inside-zip : (ns : List N) (ss : List X) (i : ℕ) (n : N) (s t : X) → length ss ≡ length ns → slice_get ns i ≡ Some n → s ≡ get_or ss i s → s ≡ t
+      → slice_get (zip ns ss) i ≡ Some (n, t)
+  inside-zip ns ss i n s t e at is same = there-zip ns ss i n t at
+      (slice_get_read ss (length ss) i s refl (let lt = slice_get_within ns i n at in omega arith) is ∙ ap (λ (x : X). Some x) same)

@@ -37,7 +37,8 @@ same-chain a b l p n h s = record {
   some = λ i lt. (let e = hops i (omega arith) in let k = h.some i lt in omega arith);
   inside = λ i lt. (let e = hops i (omega arith) in let k = h.inside i lt in let m = s.places in omega arith);
   of = λ i lt. ap (λ q. (entry_at b q).list) (hops i (omega arith)) ∙ s.named (hop a p i) (h.some i lt) (h.of i lt);
-  back = λ i lt. ap (λ q. (entry_at b q).before) (hops i (omega arith)) ∙ s.before (hop a p i) (h.some i lt) (h.of i lt) ∙ h.back i lt ∙ sym (prev i (omega arith));
+  back = λ i lt. ap (λ q. (entry_at b q).before) (hops i (omega arith)) ∙ s.before (hop a p i) (h.some i lt) (h.of i lt) ∙ h.back i lt
+      ∙ sym (prev i (omega arith));
   ends = hops n (omega arith) ∙ h.ends;
 }
   where
@@ -49,120 +50,130 @@ same-chain a b l p n h s = record {
     prev (suc i) le = hops i (omega arith)
 
 -- ---- one is taken out
-module _ (a b : List Entry) (f g : List ℕ) (l n k : ℕ) (h : IsChain a l (first_at f l) (suc n)) (kn : k ≤ n) (u : Unlinks a b f g (hop a (first_at f l) k)) where
-  at_k : ℕ
-  at_k = hop a (first_at f l) k
+module _ (a b : List Entry) (f g : List ℕ) (l n k : ℕ) (h : IsChain a l (first_at f l) (suc n)) (kn : k ≤ n) (u : Unlinks a b f g (hop a (first_at f l) k))
+  where
+    at_k : ℕ
+    at_k = hop a (first_at f l) k
 
-  of_k : (entry_at a (hop a (first_at f l) k)).list ≡ l
-  of_k = h.of k (omega arith)
+    of_k : (entry_at a (hop a (first_at f l) k)).list ≡ l
+    of_k = h.of k (omega arith)
 
-  back_k : (entry_at a (hop a (first_at f l) k)).before ≡ before_of a (first_at f l) k
-  back_k = h.back k (omega arith)
+    back_k : (entry_at a (hop a (first_at f l) k)).before ≡ before_of a (first_at f l) k
+    back_k = h.back k (omega arith)
 
-  -- a place of the chain that isn't before it leads where it led
-  next_else : (i : ℕ) → i < suc n → (before_of a (first_at f l) k ≢ hop a (first_at f l) i) → (entry_at b (hop a (first_at f l) i)).next ≡ hop a (first_at f l) (suc i)
-  next_else i lt ne = u.nexts (hop a (first_at f l) i) (h.some i lt) (λ e. ne (sym back_k ∙ sym e))
+    -- a place of the chain that isn't before it leads where it led
+    next_else : (i : ℕ) → i < suc n → (before_of a (first_at f l) k ≢ hop a (first_at f l) i)
+        → (entry_at b (hop a (first_at f l) i)).next ≡ hop a (first_at f l) (suc i)
+    next_else i lt ne = u.nexts (hop a (first_at f l) i) (h.some i lt) (λ e. ne (sym back_k ∙ sym e))
 
-  -- at the front
-  front : k ≡ 0 → (j : ℕ) → j ≤ n → hop b (first_at g l) j ≡ hop a (first_at f l) (suc j)
-  front z zero le =
-      let k0 : before_of a (first_at f l) k ≡ 0 = ap (λ i. before_of a (first_at f l) i) z in
-      ap (λ m. first_at g m) (sym of_k) ∙ u.begins (back_k ∙ k0) ∙ ap (λ i. hop a (first_at f l) (suc i)) z
-  front z (suc j) le =
-      let k0 : before_of a (first_at f l) k ≡ 0 = ap (λ i. before_of a (first_at f l) i) z in
-      ap (λ q. (entry_at b q).next) (front z j (omega arith)) ∙ next_else (suc j) (omega arith) (λ e. (let s = h.some (suc j) (omega arith) in absurd (omega arith)))
+    -- at the front
+    front : k ≡ 0 → (j : ℕ) → j ≤ n → hop b (first_at g l) j ≡ hop a (first_at f l) (suc j)
+    front z zero le =
+        let k0 : before_of a (first_at f l) k ≡ 0 = ap (λ i. before_of a (first_at f l) i) z in
+        ap (λ m. first_at g m) (sym of_k) ∙ u.begins (back_k ∙ k0) ∙ ap (λ i. hop a (first_at f l) (suc i)) z
+    front z (suc j) le =
+        let k0 : before_of a (first_at f l) k ≡ 0 = ap (λ i. before_of a (first_at f l) i) z in
+        ap (λ q. (entry_at b q).next) (front z j (omega arith))
+        ∙ next_else (suc j) (omega arith) (λ e. (let s = h.some (suc j) (omega arith) in absurd (omega arith)))
 
-  not_before : (d : ℕ) → k ≡ suc d → (entry_at a (hop a (first_at f l) k)).before ≢ 0
-  not_before d z e =
-      let k0 : before_of a (first_at f l) k ≡ hop a (first_at f l) d = ap (λ i. before_of a (first_at f l) i) z in
-      let s = h.some d (omega arith) in let y = back_k in absurd (omega arith)
+    not_before : (d : ℕ) → k ≡ suc d → (entry_at a (hop a (first_at f l) k)).before ≢ 0
+    not_before d z e =
+        let k0 : before_of a (first_at f l) k ≡ hop a (first_at f l) d = ap (λ i. before_of a (first_at f l) i) z in
+        let s = h.some d (omega arith) in let y = back_k in absurd (omega arith)
 
-  starts : (d : ℕ) → k ≡ suc d → first_at g l ≡ first_at f l
-  starts d z = ap (λ m. first_at g m) (sym of_k) ∙ u.stays (not_before d z) ∙ ap (λ m. first_at f m) of_k
+    starts : (d : ℕ) → k ≡ suc d → first_at g l ≡ first_at f l
+    starts d z = ap (λ m. first_at g m) (sym of_k) ∙ u.stays (not_before d z) ∙ ap (λ m. first_at f m) of_k
 
-  low : (d : ℕ) → k ≡ suc d → (j : ℕ) → j ≤ d → hop b (first_at g l) j ≡ hop a (first_at f l) j
-  low d z zero le = starts d z
-  low d z (suc j) le =
-      let k0 : before_of a (first_at f l) k ≡ hop a (first_at f l) d = ap (λ i. before_of a (first_at f l) i) z in
-      ap (λ q. (entry_at b q).next) (low d z j (omega arith)) ∙ next_else j (omega arith) (λ e. (let m = apart a l (first_at f l) (suc n) h d j (omega arith) (omega arith) (sym k0 ∙ e) in absurd (omega arith)))
+    low : (d : ℕ) → k ≡ suc d → (j : ℕ) → j ≤ d → hop b (first_at g l) j ≡ hop a (first_at f l) j
+    low d z zero le = starts d z
+    low d z (suc j) le =
+        let k0 : before_of a (first_at f l) k ≡ hop a (first_at f l) d = ap (λ i. before_of a (first_at f l) i) z in
+        ap (λ q. (entry_at b q).next) (low d z j (omega arith))
+        ∙ next_else j (omega arith) (λ e. (let m = apart a l (first_at f l) (suc n) h d j (omega arith) (omega arith) (sym k0 ∙ e) in absurd (omega arith)))
 
-  abbrev IsLater : ℕ → Type 0
-  IsLater j = hop b (first_at g l) j ≡ hop a (first_at f l) (suc j)
+    abbrev IsLater : ℕ → Type 0
+    IsLater j = hop b (first_at g l) j ≡ hop a (first_at f l) (suc j)
 
-  high_first : (d : ℕ) → k ≡ suc d → IsLater (suc d)
-  high_first d z =
-      let k0 : before_of a (first_at f l) k ≡ hop a (first_at f l) d = ap (λ i. before_of a (first_at f l) i) z in
-      ap (λ q. (entry_at b q).next) (low d z d (omega arith) ∙ sym k0 ∙ sym back_k) ∙ u.next (not_before d z) ∙ ap (λ i. hop a (first_at f l) (suc i)) z
+    high_first : (d : ℕ) → k ≡ suc d → IsLater (suc d)
+    high_first d z =
+        let k0 : before_of a (first_at f l) k ≡ hop a (first_at f l) d = ap (λ i. before_of a (first_at f l) i) z in
+        ap (λ q. (entry_at b q).next) (low d z d (omega arith) ∙ sym k0 ∙ sym back_k) ∙ u.next (not_before d z) ∙ ap (λ i. hop a (first_at f l) (suc i)) z
 
-  high_next : (d : ℕ) → k ≡ suc d → (j : ℕ) → k ≤ j → suc j ≤ n → IsLater j → IsLater (suc j)
-  high_next d z j kj le e =
-      let k0 : before_of a (first_at f l) k ≡ hop a (first_at f l) d = ap (λ i. before_of a (first_at f l) i) z in
-      ap (λ q. (entry_at b q).next) e ∙ next_else (suc j) (omega arith) (λ y. (let x = apart a l (first_at f l) (suc n) h d (suc j) (omega arith) (omega arith) (sym k0 ∙ y) in absurd (omega arith)))
+    high_next : (d : ℕ) → k ≡ suc d → (j : ℕ) → k ≤ j → suc j ≤ n → IsLater j → IsLater (suc j)
+    high_next d z j kj le e =
+        let k0 : before_of a (first_at f l) k ≡ hop a (first_at f l) d = ap (λ i. before_of a (first_at f l) i) z in
+        ap (λ q. (entry_at b q).next) e ∙ next_else (suc j) (omega arith)
+        (λ y. (let x = apart a l (first_at f l) (suc n) h d (suc j) (omega arith) (omega arith) (sym k0 ∙ y) in absurd (omega arith)))
 
-  high : (d : ℕ) → k ≡ suc d → (m : ℕ) → k + m ≤ n → IsLater (k + m)
-  high d z zero le = let e : suc d ≡ k + 0 = omega arith in subst IsLater e (high_first d z)
-  high d z (suc m) le = let e : suc (k + m) ≡ k + suc m = omega arith in subst IsLater e (high_next d z (k + m) (omega arith) (omega arith) (high d z m (omega arith)))
+    high : (d : ℕ) → k ≡ suc d → (m : ℕ) → k + m ≤ n → IsLater (k + m)
+    high d z zero le = let e : suc d ≡ k + 0 = omega arith in subst IsLater e (high_first d z)
+    high d z (suc m) le = let e : suc (k + m) ≡ k + suc m =
+        omega arith in subst IsLater e (high_next d z (k + m) (omega arith) (omega arith) (high d z m (omega arith)))
 
-  -- the steps before it are as they were, and those after it one less
-  pub hop-low : (j : ℕ) → j < k → hop b (first_at g l) j ≡ hop a (first_at f l) j
-  hop-low j lt = low (k - 1) (omega arith) j (omega arith)
+    -- the steps before it are as they were, and those after it one less
+    pub hop-low : (j : ℕ) → j < k → hop b (first_at g l) j ≡ hop a (first_at f l) j
+    hop-low j lt = low (k - 1) (omega arith) j (omega arith)
 
-  pub hop-high : (j : ℕ) → k ≤ j → j ≤ n → hop b (first_at g l) j ≡ hop a (first_at f l) (suc j)
-  hop-high j le ln = by (cases_lt 0 k)
-    where
-      by : (0 < k) ⊎ (k ≤ 0) → hop b (first_at g l) j ≡ hop a (first_at f l) (suc j)
-      by (inl lt) =
-          let e : k + (j - k) ≡ j = omega arith in
-          subst IsLater e (high (k - 1) (omega arith) (j - k) (omega arith))
-      by (inr z) = front (omega arith) j ln
+    pub hop-high : (j : ℕ) → k ≤ j → j ≤ n → hop b (first_at g l) j ≡ hop a (first_at f l) (suc j)
+    hop-high j le ln = by (cases_lt 0 k)
+      where
+        by : (0 < k) ⊎ (k ≤ 0) → hop b (first_at g l) j ≡ hop a (first_at f l) (suc j)
+        by (inl lt) =
+            let e : k + (j - k) ≡ j = omega arith in
+            subst IsLater e (high (k - 1) (omega arith) (j - k) (omega arith))
+        by (inr z) = front (omega arith) j ln
 
-  -- which step of the old chain it is
-  pub skip : (j : ℕ) → j < n → (i : ℕ) × (i < suc n) × (i ≢ k) × (hop b (first_at g l) j ≡ hop a (first_at f l) i)
-  skip j lt = by (cases_lt j k)
-    where
-      by : (j < k) ⊎ (k ≤ j) → (i : ℕ) × (i < suc n) × (i ≢ k) × (hop b (first_at g l) j ≡ hop a (first_at f l) i)
-      by (inl jk) = (j, omega arith, (λ e. absurd (omega arith)), hop-low j jk)
-      by (inr kj) = (suc j, omega arith, (λ e. absurd (omega arith)), hop-high j kj (omega arith))
+    -- which step of the old chain it is
+    pub skip : (j : ℕ) → j < n → (i : ℕ) × (i < suc n) × (i ≢ k) × (hop b (first_at g l) j ≡ hop a (first_at f l) i)
+    skip j lt = by (cases_lt j k)
+      where
+        by : (j < k) ⊎ (k ≤ j) → (i : ℕ) × (i < suc n) × (i ≢ k) × (hop b (first_at g l) j ≡ hop a (first_at f l) i)
+        by (inl jk) = (j, omega arith, (λ e. absurd (omega arith)), hop-low j jk)
+        by (inr kj) = (suc j, omega arith, (λ e. absurd (omega arith)), hop-high j kj (omega arith))
 
-  prev_low : (j : ℕ) → j ≤ k → before_of b (first_at g l) j ≡ before_of a (first_at f l) j
-  prev_low zero le = refl
-  prev_low (suc j) le = hop-low j (omega arith)
+    prev_low : (j : ℕ) → j ≤ k → before_of b (first_at g l) j ≡ before_of a (first_at f l) j
+    prev_low zero le = refl
+    prev_low (suc j) le = hop-low j (omega arith)
 
-  prev_high : (j : ℕ) → k < j → j ≤ n → before_of b (first_at g l) j ≡ hop a (first_at f l) j
-  prev_high zero lt le = absurd (omega arith)
-  prev_high (suc j) lt le = hop-high j (omega arith) (omega arith)
+    prev_high : (j : ℕ) → k < j → j ≤ n → before_of b (first_at g l) j ≡ hop a (first_at f l) j
+    prev_high zero lt le = absurd (omega arith)
+    prev_high (suc j) lt le = hop-high j (omega arith) (omega arith)
 
-  before_else : (i : ℕ) → i < suc n → i ≢ suc k → (entry_at b (hop a (first_at f l) i)).before ≡ before_of a (first_at f l) i
-  before_else i lt ne = u.befores (hop a (first_at f l) i) not ∙ h.back i lt
-    where
-      not : hop a (first_at f l) i ≢ hop a (first_at f l) (suc k)
-      not e = by (cases_lt (suc k) (suc n))
-        where
-          by : (suc k < suc n) ⊎ (suc n ≤ suc k) → ⊥
-          by (inl l2) = ne (apart a l (first_at f l) (suc n) h i (suc k) lt l2 e)
-          by (inr l2) =
-              let m : suc k ≡ suc n = omega arith in
-              let z = ap (λ j. hop a (first_at f l) j) m in
-              let s = h.some i lt in let y = h.ends in absurd (omega arith)
+    before_else : (i : ℕ) → i < suc n → i ≢ suc k → (entry_at b (hop a (first_at f l) i)).before ≡ before_of a (first_at f l) i
+    before_else i lt ne = u.befores (hop a (first_at f l) i) not ∙ h.back i lt
+      where
+        not : hop a (first_at f l) i ≢ hop a (first_at f l) (suc k)
+        not e = by (cases_lt (suc k) (suc n))
+          where
+            by : (suc k < suc n) ⊎ (suc n ≤ suc k) → ⊥
+            by (inl l2) = ne (apart a l (first_at f l) (suc n) h i (suc k) lt l2 e)
+            by (inr l2) =
+                let m : suc k ≡ suc n = omega arith in
+                let z = ap (λ j. hop a (first_at f l) j) m in
+                let s = h.some i lt in let y = h.ends in absurd (omega arith)
 
-  back_now : (j : ℕ) → j < n → (j < k) ⊎ (k ≤ j) → (j < suc k) ⊎ (suc k ≤ j) → (entry_at b (hop b (first_at g l) j)).before ≡ before_of b (first_at g l) j
-  back_now j lt (inl jk) _ = ap (λ q. (entry_at b q).before) (hop-low j jk) ∙ before_else j (omega arith) (λ e. absurd (omega arith)) ∙ sym (prev_low j (omega arith))
-  back_now j lt (inr kj) (inl jk) =
-      let e : j ≡ k = omega arith in
-      ap (λ q. (entry_at b q).before) (hop-high j kj (omega arith) ∙ ap (λ i. hop a (first_at f l) (suc i)) e) ∙ u.before ∙ back_k ∙ ap (λ i. before_of a (first_at f l) i) (sym e) ∙ sym (prev_low j (omega arith))
-  back_now j lt (inr kj) (inr jk) = ap (λ q. (entry_at b q).before) (hop-high j kj (omega arith)) ∙ before_else (suc j) (omega arith) (λ e. absurd (omega arith)) ∙ sym (prev_high j (omega arith) (omega arith))
+    back_now : (j : ℕ) → j < n → (j < k) ⊎ (k ≤ j) → (j < suc k) ⊎ (suc k ≤ j) → (entry_at b (hop b (first_at g l) j)).before ≡ before_of b (first_at g l) j
+    back_now j lt (inl jk) _ = ap (λ q. (entry_at b q).before) (hop-low j jk) ∙ before_else j (omega arith) (λ e. absurd (omega arith))
+        ∙ sym (prev_low j (omega arith))
+    back_now j lt (inr kj) (inl jk) =
+        let e : j ≡ k = omega arith in
+        ap (λ q. (entry_at b q).before) (hop-high j kj (omega arith) ∙ ap (λ i. hop a (first_at f l) (suc i)) e) ∙ u.before ∙ back_k
+        ∙ ap (λ i. before_of a (first_at f l) i) (sym e) ∙ sym (prev_low j (omega arith))
+    back_now j lt (inr kj) (inr jk) = ap (λ q. (entry_at b q).before) (hop-high j kj (omega arith))
+        ∙ before_else (suc j) (omega arith) (λ e. absurd (omega arith)) ∙ sym (prev_high j (omega arith) (omega arith))
 
-  pub cut-chain : IsChain b l (first_at g l) n
-  cut-chain = record {
-    some = λ j lt. (let s = skip j lt in let x = h.some s.0 s.1 in let e = s.3 in omega arith);
-    inside = λ j lt. (let s = skip j lt in let x = h.inside s.0 s.1 in let e = s.3 in let m = u.places in omega arith);
-    of = λ j lt. (let s = skip j lt in u.named (hop b (first_at g l) j) ∙ ap (λ q. (entry_at a q).list) s.3 ∙ h.of s.0 s.1);
-    back = λ j lt. back_now j lt (cases_lt j k) (cases_lt j (suc k));
-    ends = hop-high n kn (omega arith) ∙ h.ends;
-  }
+    pub cut-chain : IsChain b l (first_at g l) n
+    cut-chain = record {
+      some = λ j lt. (let s = skip j lt in let x = h.some s.0 s.1 in let e = s.3 in omega arith);
+      inside = λ j lt. (let s = skip j lt in let x = h.inside s.0 s.1 in let e = s.3 in let m = u.places in omega arith);
+      of = λ j lt. (let s = skip j lt in u.named (hop b (first_at g l) j) ∙ ap (λ q. (entry_at a q).list) s.3 ∙ h.of s.0 s.1);
+      back = λ j lt. back_now j lt (cases_lt j k) (cases_lt j (suc k));
+      ends = hop-high n kn (omega arith) ∙ h.ends;
+    }
 
 -- ---- one more before it
-module _ (a b : List Entry) (f g : List ℕ) (l n p o : ℕ) (h : IsChain a l (first_at f l) n) (free : (i : ℕ) → i < n → hop a (first_at f l) i ≢ p) (some : 0 < p) (inside : p < length a) (u : Links a b f g p o l) where
+module _ (a b : List Entry) (f g : List ℕ) (l n p o : ℕ) (h : IsChain a l (first_at f l) n) (free : (i : ℕ) → i < n → hop a (first_at f l) i ≢ p) (some : 0 < p)
+    (inside : p < length a) (u : Links a b f g p o l) where
   pub more-hop : (j : ℕ) → j ≤ n → hop b (first_at g l) (suc j) ≡ hop a (first_at f l) j
   more-hop zero le = ap (λ q. (entry_at b q).next) u.begins ∙ u.here.2
   more-hop (suc j) le = ap (λ q. (entry_at b q).next) (more-hop j (omega arith)) ∙ u.nexts (hop a (first_at f l) j) (free j (omega arith))
@@ -197,4 +208,5 @@ module _ (a b : List Entry) (f g : List ℕ) (l n p o : ℕ) (h : IsChain a l (f
 
       of_more : (j : ℕ) → j < suc n → (entry_at b (hop b (first_at g l) j)).list ≡ l
       of_more zero lt = ap (λ q. (entry_at b q).list) u.begins ∙ u.here.1
-      of_more (suc j) lt = ap (λ q. (entry_at b q).list) (more-hop j (omega arith)) ∙ u.lists (hop a (first_at f l) j) (free j (omega arith)) ∙ h.of j (omega arith)
+      of_more (suc j) lt = ap (λ q. (entry_at b q).list) (more-hop j (omega arith)) ∙ u.lists (hop a (first_at f l) j) (free j (omega arith))
+          ∙ h.of j (omega arith)

@@ -18,16 +18,21 @@ cut-none rows o lt = record {
 }
 
 -- what is left of the row after one more pop
-pub cut-next : {X : Type 0} (before now then : List (List X)) (o : ℕ) → IsCutTo before now o → then ≡ pop_row now o → (row then o ≡ take (length (row now o) - 1) (row before o)) × (then ≡ set before o (take (length (row now o) - 1) (row before o)))
+pub cut-next : {X : Type 0} (before now then : List (List X)) (o : ℕ) → IsCutTo before now o → then ≡ pop_row now o
+    → (row then o ≡ take (length (row now o) - 1) (row before o)) × (then ≡ set before o (take (length (row now o) - 1) (row before o)))
 cut-next {X} before now then o h e =
     let n = length (row now o) in
     let k = h.short in
     let here : row now o ≡ take n (row before o) = ap (λ (rows : List (List X)). row rows o) h.is ∙ row_set before o (take n (row before o)) h.inside in
-    let less : take (n - 1) (row now o) ≡ take (n - 1) (row before o) = ap (λ (xs : List X). take (n - 1) xs) here ∙ take-take (n - 1) n (row before o) (omega arith) in
-    let whole : then ≡ set before o (take (n - 1) (row before o)) = e ∙ ap (λ (xs : List X). set now o xs) less ∙ ap (λ (rows : List (List X)). set rows o (take (n - 1) (row before o))) h.is ∙ set-set before o (take n (row before o)) (take (n - 1) (row before o)) in
+    let less : take (n - 1) (row now o) ≡ take (n - 1) (row before o) =
+    ap (λ (xs : List X). take (n - 1) xs) here ∙ take-take (n - 1) n (row before o) (omega arith) in
+    let whole : then ≡ set before o (take (n - 1) (row before o)) =
+    e ∙ ap (λ (xs : List X). set now o xs) less ∙ ap (λ (rows : List (List X)). set rows o (take (n - 1) (row before o))) h.is
+    ∙ set-set before o (take n (row before o)) (take (n - 1) (row before o)) in
     (ap (λ (rows : List (List X)). row rows o) whole ∙ row_set before o (take (n - 1) (row before o)) h.inside, whole)
 
-pub cut-length : {X : Type 0} (before now then : List (List X)) (o : ℕ) → IsCutTo before now o → then ≡ pop_row now o → length (row then o) ≡ length (row now o) - 1
+pub cut-length : {X : Type 0} (before now then : List (List X)) (o : ℕ) → IsCutTo before now o → then ≡ pop_row now o
+    → length (row then o) ≡ length (row now o) - 1
 cut-length {X} before now then o h e =
     let k = h.short in
     ap (λ (xs : List X). length xs) (cut-next before now then o h e).0 ∙ length-take-le (length (row now o) - 1) (row before o) (omega arith)
@@ -42,5 +47,6 @@ cut-more {X} before now then o h e =
       is = (cut-next before now then o h e).1 ∙ ap (λ i. set before o (take i (row before o))) (sym n);
     }
 
-pub cut-all : {X : Type 0} (before now then : List (List X)) (o : ℕ) → IsCutTo before now o → then ≡ pop_row now o → length (row now o) ≡ 0 → then ≡ set before o []
+pub cut-all : {X : Type 0} (before now then : List (List X)) (o : ℕ) → IsCutTo before now o → then ≡ pop_row now o → length (row now o) ≡ 0
+    → then ≡ set before o []
 cut-all {X} before now then o h e z = (cut-next before now then o h e).1 ∙ ap (λ n. set before o (take (n - 1) (row before o))) z

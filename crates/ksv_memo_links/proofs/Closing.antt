@@ -1,5 +1,6 @@
 -- What was marked is what has to go.
-use Rattle.std.proofs.Common.{◌≡◌, ◌≢◌, ◌⊎◌, inl, inr, Bool, true, false, cond, eqb, ℕ, suc, ◌+◌, ◌-◌, ◌*◌, ◌^◌, ◌<◌, ◌≤◌, max, min, List, [], ◌∷◌, length, map, take, get_or, Contains, refl, sym, ◌∙◌, ap, subst, arith, true≢false, sum_by, count_by, nat_eq, nat_lt, nat_le, ◌||◌}
+use Rattle.std.proofs.Common.{◌≡◌, ◌≢◌, ◌⊎◌, inl, inr, Bool, true, false, cond, eqb, ℕ, suc, ◌+◌, ◌-◌, ◌*◌, ◌^◌, ◌<◌, ◌≤◌, max, min, List, [], ◌∷◌, length, map}
+use Rattle.std.proofs.Common.{take, get_or, Contains, refl, sym, ◌∙◌, ap, subst, arith, true≢false, sum_by, count_by, nat_eq, nat_lt, nat_le, ◌||◌}
 use Rattle.std.proofs.lemmas.List.Sums.{sum_by-cons}
 use Rattle.std.proofs.lemmas.Bool.{cases_lt, cases_Bool}
 use Rattle.std.proofs.lemmas.Bool.Decides.{eqb_tells}
@@ -17,7 +18,8 @@ use Rattle.ksv_memo_links.specs.Links.{is_hit, IsHit, here, through, Forgets, fi
 use Rattle.ksv_memo_links.specs.Marking.{is_kept, IsMarking}
 use Rattle.ksv_memo_links.specs.Chained.{IsListed}
 use Rattle.ksv_memo_links.specs.Linked.{item_at}
-use Rattle.ksv_memo_links.specs.Forgetting.{SameLinks, MarksMore, IsEdit, Why, AreAllWithin, HitsRows, HitsBehind, HitsTouched, Spreads, IsWhole, IsNear, IsBehind, linked_of, lengths, looks, sizes}
+use Rattle.ksv_memo_links.specs.Forgetting.{SameLinks, MarksMore, IsEdit, Why, AreAllWithin, HitsRows, HitsBehind, HitsTouched, Spreads, IsWhole, IsNear}
+use Rattle.ksv_memo_links.specs.Forgetting.{IsBehind, linked_of, lengths, looks, sizes}
 use Rattle.ksv_memo_links.proofs.Edits.{row_there}
 use Rattle.ksv_memo_links.proofs.Turns.{row_of, few-pages, few-ends, page-item, end-item}
 use Rattle.ksv_memo_links.proofs.Mark.{stays-out}
@@ -38,7 +40,9 @@ marking-none first why work e =
     }
 
 -- each slot that the overwrite touches is marked
-pages-hit : (p q : Parts) (place n s : ℕ) → IsListed p.uses.lists (map lists_of_uses p.uses.rows) → HitsRows p q (Overwrite place n) (page_lists p.uses.lists) (first_page place) (min (end_page place n) (length (page_lists p.uses.lists))) → IsHit (Overwrite place n) p.marks.kept p.uses.rows s → is_kept q.marks.kept s ≡ false
+pages-hit : (p q : Parts) (place n s : ℕ) → IsListed p.uses.lists (map lists_of_uses p.uses.rows)
+    → HitsRows p q (Overwrite place n) (page_lists p.uses.lists) (first_page place) (min (end_page place n) (length (page_lists p.uses.lists)))
+    → IsHit (Overwrite place n) p.marks.kept p.uses.rows s → is_kept q.marks.kept s ≡ false
 pages-hit p q place n s l h hit =
     let m = uses-meet place n (row p.uses.rows s) hit.touched in
     let i = page-item p.uses.rows p.uses.lists l s m.page m.there in
@@ -47,7 +51,10 @@ pages-hit p q place n s l h hit =
     let P : ℕ → Type 0 = λ t. is_hit (Overwrite place n) p.uses.rows t ≡ true → is_kept q.marks.kept t ≡ false in
     subst P i.2 (h.out m.page i.0 (omega arith) (omega arith) i.1) hit.touched
 
-pages-near : (p q : Parts) (place n : ℕ) → IsListed p.uses.lists (map lists_of_uses p.uses.rows) → HitsRows p q (Overwrite place n) (page_lists p.uses.lists) (first_page place) (min (end_page place n) (length (page_lists p.uses.lists))) → looks q + 2 * length p.marks.work ≤ looks p + pages_met (Overwrite place n) + 3 * sum_by (met_by (Overwrite place n)) p.uses.rows + 2 * length q.marks.work
+pages-near : (p q : Parts) (place n : ℕ) → IsListed p.uses.lists (map lists_of_uses p.uses.rows)
+    → HitsRows p q (Overwrite place n) (page_lists p.uses.lists) (first_page place) (min (end_page place n) (length (page_lists p.uses.lists)))
+    → looks q + 2 * length p.marks.work ≤ looks p + pages_met (Overwrite place n) + 3 * sum_by (met_by (Overwrite place n)) p.uses.rows
+    + 2 * length q.marks.work
 pages-near p q place n b h =
     let first = first_page place in
     let end = end_page place n in
@@ -62,11 +69,15 @@ pages-near p q place n b h =
     let f1 = ap (λ k. sizes L k) e1 in
     let f2 = ap (λ k. sizes L k) e2 in
     let f3 = ap (λ k. tally first k N) e1 in
-    let t : tally first end N ≤ sum_by (met_by (Overwrite place n)) p.uses.rows = rows-le (λ ns. count_by (within first end) ns) (met_by (Overwrite place n)) N p.uses.rows refl refl (λ r. ap (λ ns. count_by (within first end) ns) (row_of pages_in p.uses.rows r refl)) in
+    let t : tally first end N ≤ sum_by (met_by (Overwrite place n)) p.uses.rows =
+    rows-le (λ ns. count_by (within first end) ns) (met_by (Overwrite place n)) N p.uses.rows refl refl
+    (λ r. ap (λ ns. count_by (within first end) ns) (row_of pages_in p.uses.rows r refl)) in
     let k = h.looks in
     omega arith
 
-pub pages-touched : (p q : Parts) (place n pages : ℕ) → IsListed p.uses.lists (map lists_of_uses p.uses.rows) → HitsRows p q (Overwrite place n) (page_lists p.uses.lists) (first_page place) (min (end_page place n) (length (page_lists p.uses.lists))) → HitsTouched p q (Overwrite place n) pages
+pub pages-touched : (p q : Parts) (place n pages : ℕ) → IsListed p.uses.lists (map lists_of_uses p.uses.rows)
+    → HitsRows p q (Overwrite place n) (page_lists p.uses.lists) (first_page place) (min (end_page place n) (length (page_lists p.uses.lists)))
+    → HitsTouched p q (Overwrite place n) pages
 pages-touched p q place n pages b h = record {
   more = h.more;
   hits = λ s hit. pages-hit p q place n s b h hit;
@@ -75,7 +86,8 @@ pages-touched p q place n pages b h = record {
 }
 
 -- ---- an insert or a delete
-module _ (p q : Parts) (change : Change) (place pages : ℕ) (all : AreAllWithin pages p) (b : IsListed p.uses.lists (map lists_of_uses p.uses.rows)) (h : HitsBehind p q change place pages) where
+module _ (p q : Parts) (change : Change) (place pages : ℕ) (all : AreAllWithin pages p) (b : IsListed p.uses.lists (map lists_of_uses p.uses.rows))
+    (h : HitsBehind p q change place pages) where
   -- each slot that it touches is marked
   past-hit : (s : ℕ) → is_kept p.marks.kept s ≡ true → is_hit change p.uses.rows s ≡ true → EndsPast place (row p.uses.rows s) → is_kept q.marks.kept s ≡ false
   past-hit s k t (inl (g, c, le)) =
@@ -91,7 +103,9 @@ module _ (p q : Parts) (change : Change) (place pages : ℕ) (all : AreAllWithin
       let P : ℕ → Type 0 = λ x. is_hit change p.uses.rows x ≡ true → is_kept q.marks.kept x ≡ false in
       subst P i.2 (h.ended l i.0 lt ((all s k).ends l c) i.1) t
 
-  past-near : looks q + 2 * length p.marks.work ≤ looks p + 1 + 2 * (pages - first_page place) + 3 * sum_by (λ us. count_by (nat_le (first_page place)) (pages_in us)) p.uses.rows + 3 * sum_by (λ us. count_by (λ l. nat_eq l 0 || nat_lt (first_page place) l) (ends_in us)) p.uses.rows + 2 * length q.marks.work
+  past-near : looks q + 2 * length p.marks.work ≤ looks p + 1 + 2 * (pages - first_page place)
+      + 3 * sum_by (λ us. count_by (nat_le (first_page place)) (pages_in us)) p.uses.rows
+      + 3 * sum_by (λ us. count_by (λ l. nat_eq l 0 || nat_lt (first_page place) l) (ends_in us)) p.uses.rows + 2 * length q.marks.work
   past-near =
       let f = first_page place in
       let E = end_lists p.uses.lists in let L = page_lists p.uses.lists in
@@ -102,7 +116,9 @@ module _ (p q : Parts) (change : Change) (place pages : ℕ) (all : AreAllWithin
       let a2 = ap (λ k. sizes L k) a1 in
       let a3 = ap (λ k. tally f k N) a1 in
       let a4 = tally-behind f m N in
-      let a5 : sum_by (λ ns. count_by (nat_le f) ns) N ≤ sum_by (λ us. count_by (nat_le f) (pages_in us)) p.uses.rows = rows-le (λ ns. count_by (nat_le f) ns) (λ us. count_by (nat_le f) (pages_in us)) N p.uses.rows refl refl (λ r. ap (λ ns. count_by (nat_le f) ns) (row_of pages_in p.uses.rows r refl)) in
+      let a5 : sum_by (λ ns. count_by (nat_le f) ns) N ≤ sum_by (λ us. count_by (nat_le f) (pages_in us)) p.uses.rows =
+      rows-le (λ ns. count_by (nat_le f) ns) (λ us. count_by (nat_le f) (pages_in us)) N p.uses.rows refl refl
+      (λ r. ap (λ ns. count_by (nat_le f) ns) (row_of pages_in p.uses.rows r refl)) in
       let n = max (f + 1) (pages + 1) in
       let d = sizes-few E M (f + 1) (n - (f + 1)) (few-ends p.uses.rows p.uses.lists b) in
       let d1 : n - (f + 1) + (f + 1) ≡ n = omega arith in
@@ -110,11 +126,14 @@ module _ (p q : Parts) (change : Change) (place pages : ℕ) (all : AreAllWithin
       let d3 = ap (λ k. tally (f + 1) k M) d1 in
       let z = sizes-few E M 0 1 (few-ends p.uses.rows p.uses.lists b) in
       let d4 = tally-ends f n M in
-      let d5 : sum_by (λ ns. count_by (λ l. nat_eq l 0 || nat_lt f l) ns) M ≤ sum_by (λ us. count_by (λ l. nat_eq l 0 || nat_lt f l) (ends_in us)) p.uses.rows = rows-le (λ ns. count_by (λ l. nat_eq l 0 || nat_lt f l) ns) (λ us. count_by (λ l. nat_eq l 0 || nat_lt f l) (ends_in us)) M p.uses.rows refl refl (λ r. ap (λ ns. count_by (λ l. nat_eq l 0 || nat_lt f l) ns) (row_of ends_in p.uses.rows r refl)) in
+      let d5 : sum_by (λ ns. count_by (λ l. nat_eq l 0 || nat_lt f l) ns) M ≤ sum_by (λ us. count_by (λ l. nat_eq l 0 || nat_lt f l) (ends_in us)) p.uses.rows =
+      rows-le (λ ns. count_by (λ l. nat_eq l 0 || nat_lt f l) ns) (λ us. count_by (λ l. nat_eq l 0 || nat_lt f l) (ends_in us)) M p.uses.rows refl refl
+      (λ r. ap (λ ns. count_by (λ l. nat_eq l 0 || nat_lt f l) ns) (row_of ends_in p.uses.rows r refl)) in
       let k = h.looks in
       omega arith
 
-pub insert-touched : (p q : Parts) (place n pages : ℕ) → AreAllWithin pages p → IsListed p.uses.lists (map lists_of_uses p.uses.rows) → HitsBehind p q (Insert place n) place pages → HitsTouched p q (Insert place n) pages
+pub insert-touched : (p q : Parts) (place n pages : ℕ) → AreAllWithin pages p → IsListed p.uses.lists (map lists_of_uses p.uses.rows)
+    → HitsBehind p q (Insert place n) place pages → HitsTouched p q (Insert place n) pages
 insert-touched p q place n pages all b h = record {
   more = h.more;
   hits = λ s hit. past-hit p q (Insert place n) place pages all b h s hit.was_kept hit.touched (insert-past place n (row p.uses.rows s) hit.touched);
@@ -122,7 +141,8 @@ insert-touched p q place n pages all b h = record {
   behind = λ o. past-near p q (Insert place n) place pages all b h;
 }
 
-pub delete-touched : (p q : Parts) (place n pages : ℕ) → AreAllWithin pages p → IsListed p.uses.lists (map lists_of_uses p.uses.rows) → HitsBehind p q (Delete place n) place pages → HitsTouched p q (Delete place n) pages
+pub delete-touched : (p q : Parts) (place n pages : ℕ) → AreAllWithin pages p → IsListed p.uses.lists (map lists_of_uses p.uses.rows)
+    → HitsBehind p q (Delete place n) place pages → HitsTouched p q (Delete place n) pages
 delete-touched p q place n pages all b h = record {
   more = h.more;
   hits = λ s hit. past-hit p q (Delete place n) place pages all b h s hit.was_kept hit.touched (delete-past place n (row p.uses.rows s) hit.touched);
@@ -131,7 +151,9 @@ delete-touched p q place n pages all b h = record {
 }
 
 -- ---- an append
-sized-hit : (p q : Parts) (s : ℕ) → IsListed p.uses.lists (map lists_of_uses p.uses.rows) → HitsRows p q Append (end_lists p.uses.lists) 0 (min 1 (length (end_lists p.uses.lists))) → IsHit Append p.marks.kept p.uses.rows s → is_kept q.marks.kept s ≡ false
+sized-hit : (p q : Parts) (s : ℕ) → IsListed p.uses.lists (map lists_of_uses p.uses.rows)
+    → HitsRows p q Append (end_lists p.uses.lists) 0 (min 1 (length (end_lists p.uses.lists))) → IsHit Append p.marks.kept p.uses.rows s
+    → is_kept q.marks.kept s ≡ false
 sized-hit p q s e h hit =
     let c = append-ends (row p.uses.rows s) hit.touched in
     let i = end-item p.uses.rows p.uses.lists e s 0 c in
@@ -139,14 +161,18 @@ sized-hit p q s e h hit =
     let P : ℕ → Type 0 = λ x. is_hit Append p.uses.rows x ≡ true → is_kept q.marks.kept x ≡ false in
     subst P i.2 (h.out 0 i.0 (omega arith) (omega arith) i.1) hit.touched
 
-sized-near : (p q : Parts) → IsListed p.uses.lists (map lists_of_uses p.uses.rows) → HitsRows p q Append (end_lists p.uses.lists) 0 (min 1 (length (end_lists p.uses.lists))) → looks q + 2 * length p.marks.work ≤ looks p + 1 + 3 * sum_by (λ us. count_by (λ l. nat_eq l 0) (ends_in us)) p.uses.rows + 2 * length q.marks.work
+sized-near : (p q : Parts) → IsListed p.uses.lists (map lists_of_uses p.uses.rows)
+    → HitsRows p q Append (end_lists p.uses.lists) 0 (min 1 (length (end_lists p.uses.lists)))
+    → looks q + 2 * length p.marks.work ≤ looks p + 1 + 3 * sum_by (λ us. count_by (λ l. nat_eq l 0) (ends_in us)) p.uses.rows + 2 * length q.marks.work
 sized-near p q e h =
     let E = end_lists p.uses.lists in
     let M = map ends_in p.uses.rows in
     let z = sizes-few E M 0 1 (few-ends p.uses.rows p.uses.lists e) in
     let s1 = sizes-up E (max 0 (min 1 (length E))) 1 (omega arith) in
     let d4 = tally-size M in
-    let d5 : sum_by (λ ns. count_by (λ l. nat_eq l 0) ns) M ≤ sum_by (λ us. count_by (λ l. nat_eq l 0) (ends_in us)) p.uses.rows = rows-le (λ ns. count_by (λ l. nat_eq l 0) ns) (λ us. count_by (λ l. nat_eq l 0) (ends_in us)) M p.uses.rows refl refl (λ r. ap (λ ns. count_by (λ l. nat_eq l 0) ns) (row_of ends_in p.uses.rows r refl)) in
+    let d5 : sum_by (λ ns. count_by (λ l. nat_eq l 0) ns) M ≤ sum_by (λ us. count_by (λ l. nat_eq l 0) (ends_in us)) p.uses.rows =
+    rows-le (λ ns. count_by (λ l. nat_eq l 0) ns) (λ us. count_by (λ l. nat_eq l 0) (ends_in us)) M p.uses.rows refl refl
+    (λ r. ap (λ ns. count_by (λ l. nat_eq l 0) ns) (row_of ends_in p.uses.rows r refl)) in
     let k = h.looks in
     omega arith
 
@@ -154,7 +180,8 @@ zeros : {X : Type 0} (xs : List X) → sum_by (λ x. 0) xs ≡ 0
 zeros [] = refl
 zeros {X} (x ∷ xs) = let c = sum_by-cons (λ (y : X). 0) x xs in let r = zeros xs in omega arith
 
-pub append-touched : (p q : Parts) (pages : ℕ) → IsListed p.uses.lists (map lists_of_uses p.uses.rows) → HitsRows p q Append (end_lists p.uses.lists) 0 (min 1 (length (end_lists p.uses.lists))) → HitsTouched p q Append pages
+pub append-touched : (p q : Parts) (pages : ℕ) → IsListed p.uses.lists (map lists_of_uses p.uses.rows)
+    → HitsRows p q Append (end_lists p.uses.lists) 0 (min 1 (length (end_lists p.uses.lists))) → HitsTouched p q Append pages
 append-touched p q pages e h = record {
   more = h.more;
   hits = λ s hit. sized-hit p q s e h hit;
@@ -162,7 +189,8 @@ append-touched p q pages e h = record {
   behind = λ o. (let a = sized-near p q e h in omega arith);
 }
 
-user-reached : (p q r : Parts) (s i asked : ℕ) → IsListed p.asks.lists p.asks.named → i < length (row p.asks.named s) → get_or (row p.asks.named s) i 0 ≡ asked → SameLinks p q → Spreads q r (length r.marks.work) 1 → Contains r.marks.work asked → is_kept r.marks.kept s ≡ false
+user-reached : (p q r : Parts) (s i asked : ℕ) → IsListed p.asks.lists p.asks.named → i < length (row p.asks.named s) → get_or (row p.asks.named s) i 0 ≡ asked
+    → SameLinks p q → Spreads q r (length r.marks.work) 1 → Contains r.marks.work asked → is_kept r.marks.kept s ≡ false
 user-reached p q r s i asked l lt e same spread c =
     let a = subst (λ m. (n : ℕ) × (n < length (row p.asks.lists m)) × ((item_at p.asks.lists m n).owner ≡ s)) e (l.found s i lt) in
     let j : get_or r.marks.work c.0 0 ≡ asked = get_or_default r.marks.work c.0 0 asked c.1 ∙ c.2 in
@@ -172,7 +200,9 @@ user-reached p q r s i asked l lt e same spread c =
     ap (λ n. is_kept r.marks.kept n) (sym a.2) ∙ out
 
 -- and each slot from which a marked one is reached
-all-reached : (p q r : Parts) (change : Change) (pages : ℕ) → IsWhole p → IsListed p.asks.lists p.asks.named → HitsTouched p q change pages → Spreads q r (length r.marks.work) 1 → IsMarking p.marks.kept (Why p p.marks.kept change) r.marks.kept r.marks.work → (s : ℕ) → is_kept p.marks.kept s ≡ true → Why p p.marks.kept change s → is_kept r.marks.kept s ≡ false
+all-reached : (p q r : Parts) (change : Change) (pages : ℕ) → IsWhole p → IsListed p.asks.lists p.asks.named → HitsTouched p q change pages
+    → Spreads q r (length r.marks.work) 1 → IsMarking p.marks.kept (Why p p.marks.kept change) r.marks.kept r.marks.work → (s : ℕ)
+    → is_kept p.marks.kept s ≡ true → Why p p.marks.kept change s → is_kept r.marks.kept s ≡ false
 all-reached p q r change pages w l h spread m _ k (here s hit) = stays-out q.marks.kept r.marks.kept s spread.more.fewer (h.hits s hit)
 all-reached p q r change pages w l h spread m _ k (through s i lt why) =
     let asked = get_or (row p.asks.named s) i 0 in
@@ -184,7 +214,8 @@ cases_sum : (f : ℕ → ℕ) (xs : List ℕ) → 0 < sum_by f xs → (k : ℕ) 
 cases_sum f [] lt = absurd (omega arith)
 cases_sum f (x ∷ xs) lt = by (cases_lt 0 (f x)) (cases_sum f xs)
   where
-    by : (0 < f x) ⊎ (f x ≤ 0) → (0 < sum_by f xs → (k : ℕ) × (k < length xs) × (0 < f (get_or xs k 0))) → (k : ℕ) × (k < length (x ∷ xs)) × (0 < f (get_or (x ∷ xs) k 0))
+    by : (0 < f x) ⊎ (f x ≤ 0) → (0 < sum_by f xs → (k : ℕ) × (k < length xs) × (0 < f (get_or xs k 0)))
+        → (k : ℕ) × (k < length (x ∷ xs)) × (0 < f (get_or (x ∷ xs) k 0))
     by (inl h) later = (0, omega arith, h)
     by (inr h) later =
         let c = sum_by-cons f x xs in
@@ -205,7 +236,8 @@ positive f xs lt = by (cases_sum f xs lt)
     by : (k : ℕ) × (k < length xs) × (0 < f (get_or xs k 0)) → (x : ℕ) × Contains xs x × (0 < f x)
     by (k, l, h) = (get_or xs k 0, (k, l, get_or_default xs k (get_or xs k 0) 0 l), h)
 
-module _ (p q r : Parts) (change : Change) (pages : ℕ) (w : IsWhole p) (idle : p.marks.work ≡ []) (asks : IsListed p.asks.lists p.asks.named) (h : HitsTouched p q change pages) (spread : Spreads q r (length r.marks.work) 1) where
+module _ (p q r : Parts) (change : Change) (pages : ℕ) (w : IsWhole p) (idle : p.marks.work ≡ []) (asks : IsListed p.asks.lists p.asks.named)
+    (h : HitsTouched p q change pages) (spread : Spreads q r (length r.marks.work) 1) where
   same : SameLinks p r
   same = same-trans p q r h.more.same spread.more.same
 
@@ -224,7 +256,8 @@ module _ (p q r : Parts) (change : Change) (pages : ℕ) (w : IsWhole p) (idle :
       let P : ℕ → Type 0 = λ n. (is_kept p.marks.kept n ≡ true) × (is_kept r.marks.kept n ≡ false) × Why p p.marks.kept change n in
       subst P (get_or_default r.marks.work c.0 0 s c.1 ∙ c.2) g
 
-  left : (s : ℕ) → is_kept p.marks.kept s ≡ true → (Contains r.marks.work s → ⊥) → (is_kept r.marks.kept s ≡ true) ⊎ (is_kept r.marks.kept s ≡ false) → is_kept r.marks.kept s ≡ true
+  left : (s : ℕ) → is_kept p.marks.kept s ≡ true → (Contains r.marks.work s → ⊥) → (is_kept r.marks.kept s ≡ true) ⊎ (is_kept r.marks.kept s ≡ false)
+      → is_kept r.marks.kept s ≡ true
   left s k non (inl e) = e
   left s k non (inr e) = absurd (non (marking.out s k e))
 
@@ -245,15 +278,19 @@ module _ (p q r : Parts) (change : Change) (pages : ℕ) (w : IsWhole p) (idle :
       let was = w.asked_kept s k (marking.less s e) lt in
       left m was (λ c. true≢false (sym e ∙ reached s (marking.less s e) (through s k lt (out m c).2))) (cases_Bool (is_kept r.marks.kept m))
 
-  vacant_still : (s : ℕ) → is_kept r.marks.kept s ≡ false → (Contains r.marks.work s → ⊥) → (is_kept p.marks.kept s ≡ true) ⊎ (is_kept p.marks.kept s ≡ false) → (row p.asks.named s ≡ []) × (row p.uses.rows s ≡ [])
+  vacant_still : (s : ℕ) → is_kept r.marks.kept s ≡ false → (Contains r.marks.work s → ⊥) → (is_kept p.marks.kept s ≡ true) ⊎ (is_kept p.marks.kept s ≡ false)
+      → (row p.asks.named s ≡ []) × (row p.uses.rows s ≡ [])
   vacant_still s e non (inl k) = absurd (non (marking.out s k e))
   vacant_still s e non (inr k) = w.vacant s k (λ c. (let lt = c.1 in let z = ap (λ (ws : List ℕ). length ws) idle in absurd (omega arith)))
 
   pub whole-after : IsWhole r
   whole-after = record {
     shaped = shaped-more p r w.shaped same to_r.same_length;
-    asked_kept = λ s k e. (let P : List (List ℕ) → Type 0 = λ rows. k < length (row rows s) → is_kept r.marks.kept (get_or (row rows s) k 0) ≡ true in subst P (sym same.asks) (asked_still s k e));
-    vacant = λ s e non. (let v = vacant_still s e non (cases_Bool (is_kept p.marks.kept s)) in (ap (λ (rows : List (List ℕ)). row rows s) same.asks ∙ v.0, ap (λ (rows : List (List Use)). row rows s) same.uses ∙ v.1));
+    asked_kept = λ s k e.
+        (let P : List (List ℕ) → Type 0 = λ rows. k < length (row rows s)
+        → is_kept r.marks.kept (get_or (row rows s) k 0) ≡ true in subst P (sym same.asks) (asked_still s k e));
+    vacant = λ s e non. (let v = vacant_still s e non (cases_Bool (is_kept p.marks.kept s)) in
+        (ap (λ (rows : List (List ℕ)). row rows s) same.asks ∙ v.0, ap (λ (rows : List (List Use)). row rows s) same.uses ∙ v.1));
     waits = λ s c. (out s c).1;
     apart = marking.apart;
   }

@@ -1,5 +1,6 @@
 -- The users of slots that go are no more than what those slots asked.
-use Rattle.std.proofs.Common.{◌≡◌, ◌≢◌, ◌⊎◌, inl, inr, true, false, cond, eqb, ℕ, suc, ◌+◌, ◌*◌, ◌<◌, ◌≤◌, List, [], ◌∷◌, length, set, get_or, Contains, refl, sym, ◌∙◌, ap, subst, arith, sum_by}
+use Rattle.std.proofs.Common.{◌≡◌, ◌≢◌, ◌⊎◌, inl, inr, true, false, cond, eqb, ℕ, suc, ◌+◌, ◌*◌, ◌<◌, ◌≤◌, List, [], ◌∷◌, length, set, get_or, Contains, refl}
+use Rattle.std.proofs.Common.{sym, ◌∙◌, ap, subst, arith, sum_by}
 use Rattle.std.specs.List.{AllPairs}
 use Rattle.std.proofs.lemmas.List.{set_past, get_or_past, get_or_default}
 use Rattle.std.proofs.lemmas.List.Sums.{sum_by-cons, sum_by-set, sum_by-le, sum_by-le-sum_by}
@@ -52,7 +53,8 @@ less_after g z rows w o = by (eqb_tells o w)
     by (inl e) = let f = ap (λ n. g (row (set rows w []) n)) e.1 in let k = ap g (row_emptied rows w) in omega arith
     by (inr e) = let f = ap g (row_other rows w o [] e.1) in omega arith
 
-left_after : (g : List ℕ → ℕ) → g [] ≡ 0 → (rows : List (List ℕ)) (w : ℕ) (ws : List ℕ) → ((o : ℕ) → 0 < g (row rows o) → Contains (w ∷ ws) o) → (o : ℕ) → 0 < g (row (set rows w []) o) → Contains ws o
+left_after : (g : List ℕ → ℕ) → g [] ≡ 0 → (rows : List (List ℕ)) (w : ℕ) (ws : List ℕ) → ((o : ℕ) → 0 < g (row rows o) → Contains (w ∷ ws) o) → (o : ℕ)
+    → 0 < g (row (set rows w []) o) → Contains ws o
 left_after g z rows w ws h o lt = by (eqb_tells o w)
   where
     later : (w ≡ o) ⊎ Contains ws o → o ≢ w → Contains ws o
@@ -63,7 +65,8 @@ left_after g z rows w ws h o lt = by (eqb_tells o w)
     by (inl e) = let f = ap (λ n. g (row (set rows w []) n)) e.1 in let k = ap g (row_emptied rows w) in absurd (omega arith)
     by (inr e) = let f = ap g (row_other rows w o [] e.1) in later (first_or_later w ws o (h o (omega arith))) e.1
 
-none_counts : (g : List ℕ → ℕ) (rows : List (List ℕ)) → ((o : ℕ) → 0 < g (row rows o) → Contains {X = ℕ} [] o) → (k : ℕ) (d : List ℕ) → k < length rows → g (get_or rows k d) ≤ 0
+none_counts : (g : List ℕ → ℕ) (rows : List (List ℕ)) → ((o : ℕ) → 0 < g (row rows o) → Contains {X = ℕ} [] o) → (k : ℕ) (d : List ℕ) → k < length rows
+    → g (get_or rows k d) ≤ 0
 none_counts g rows h k d lt = by (cases_lt 0 (g (row rows k)))
   where
     by : (0 < g (row rows k)) ⊎ (g (row rows k) ≤ 0) → g (get_or rows k d) ≤ 0
@@ -71,7 +74,8 @@ none_counts g rows h k d lt = by (cases_lt 0 (g (row rows k)))
     by (inr le) = let e = ap g (get_or_default rows k d [] lt) in omega arith
 
 -- a sum over rows is one over the slots of the rows that count
-pub supported : (g : List ℕ → ℕ) → g [] ≡ 0 → (ws : List ℕ) (rows : List (List ℕ)) → ((o : ℕ) → 0 < g (row rows o) → Contains ws o) → sum_by g rows ≤ sum_by (λ o. g (row rows o)) ws
+pub supported : (g : List ℕ → ℕ) → g [] ≡ 0 → (ws : List ℕ) (rows : List (List ℕ)) → ((o : ℕ) → 0 < g (row rows o) → Contains ws o)
+    → sum_by g rows ≤ sum_by (λ o. g (row rows o)) ws
 supported g z [] rows h = let m : sum_by g rows ≤ length rows * 0 = sum_by-le g 0 rows (none_counts g rows h) in omega arith
 supported g z (w ∷ ws) rows h =
     let ih = supported g z ws (set rows w []) (left_after g z rows w ws h) in
@@ -81,7 +85,8 @@ supported g z (w ∷ ws) rows h =
     omega arith
 
 -- what isn't among the slots isn't counted
-not_counted_next : (n v : ℕ) (vs : List ℕ) → (Contains (v ∷ vs) n → ⊥) → ((eqb v n ≡ true) × (v ≡ n)) ⊎ ((eqb v n ≡ false) × (v ≢ n)) → sum_by (λ s. one_if s n) vs ≡ 0 → sum_by (λ s. one_if s n) (v ∷ vs) ≡ 0
+not_counted_next : (n v : ℕ) (vs : List ℕ) → (Contains (v ∷ vs) n → ⊥) → ((eqb v n ≡ true) × (v ≡ n)) ⊎ ((eqb v n ≡ false) × (v ≢ n))
+    → sum_by (λ s. one_if s n) vs ≡ 0 → sum_by (λ s. one_if s n) (v ∷ vs) ≡ 0
 not_counted_next n v vs k (inl e) h = absurd (k (subst (Contains (v ∷ vs)) e.1 (Contains-append_left (v ∷ []) vs v (Contains-push [] v))))
 not_counted_next n v vs k (inr e) h = let c = sum_by-cons (λ s. one_if s n) v vs in let t : one_if v n ≡ 0 = ap (λ b. cond b 1 0) e.0 in omega arith
 
@@ -89,8 +94,11 @@ not_counted : (n : ℕ) (vs : List ℕ) → (Contains vs n → ⊥) → sum_by (
 not_counted n [] k = refl
 not_counted n (v ∷ vs) k = not_counted_next n v vs k (eqb_tells v n) (not_counted n vs (λ c. k (Contains-append_right (v ∷ []) vs n c)))
 
-one_more : (w : ℕ) (ws : List ℕ) (n : ℕ) → AllPairs (λ (a b : ℕ). a ≢ b) (w ∷ ws) → ((eqb w n ≡ true) × (w ≡ n)) ⊎ ((eqb w n ≡ false) × (w ≢ n)) → sum_by (λ s. one_if s n) ws ≤ 1 → sum_by (λ s. one_if s n) (w ∷ ws) ≤ 1
-one_more w ws n h (inl e) ih = let c = sum_by-cons (λ s. one_if s n) w ws in let r = not_counted n ws (let P : ℕ → Type 0 = λ m. Contains ws m → ⊥ in subst P e.1 (not_later [] ws w h)) in let t : one_if w n ≡ 1 = ap (λ b. cond b 1 0) e.0 in omega arith
+one_more : (w : ℕ) (ws : List ℕ) (n : ℕ) → AllPairs (λ (a b : ℕ). a ≢ b) (w ∷ ws) → ((eqb w n ≡ true) × (w ≡ n)) ⊎ ((eqb w n ≡ false) × (w ≢ n))
+    → sum_by (λ s. one_if s n) ws ≤ 1 → sum_by (λ s. one_if s n) (w ∷ ws) ≤ 1
+one_more w ws n h (inl e) ih = let c = sum_by-cons (λ s. one_if s n) w ws in let r =
+    not_counted n ws (let P : ℕ → Type 0 = λ m. Contains ws m → ⊥ in subst P e.1 (not_later [] ws w h)) in let t : one_if w n ≡ 1 =
+    ap (λ b. cond b 1 0) e.0 in omega arith
 one_more w ws n h (inr e) ih = let c = sum_by-cons (λ s. one_if s n) w ws in let t : one_if w n ≡ 0 = ap (λ b. cond b 1 0) e.0 in omega arith
 
 -- of slots that differ at most one is n
@@ -113,7 +121,9 @@ tally_none [] = refl
 tally_none (w ∷ ws) = let c = sum_by-cons (λ s. sum_by (one_if s) []) w ws in let h = tally_none ws in omega arith
 
 -- the users of slots that go are no more than what those slots asked, where no list has more items than asks name it
-pub users_few : {X : Type 0} (lists : List (List X)) (asked : List (List ℕ)) (ws : List ℕ) → AllPairs (λ (a b : ℕ). a ≢ b) ws → ((s : ℕ) → length (row lists s) ≤ sum_by (λ ns. sum_by (one_if s) ns) asked) → ((o : ℕ) → 0 < tally ws (row asked o) → Contains ws o) → sum_by (λ s. length (row lists s)) ws ≤ sum_by (λ o. length (row asked o)) ws
+pub users_few : {X : Type 0} (lists : List (List X)) (asked : List (List ℕ)) (ws : List ℕ) → AllPairs (λ (a b : ℕ). a ≢ b) ws
+    → ((s : ℕ) → length (row lists s) ≤ sum_by (λ ns. sum_by (one_if s) ns) asked) → ((o : ℕ) → 0 < tally ws (row asked o) → Contains ws o)
+    → sum_by (λ s. length (row lists s)) ws ≤ sum_by (λ o. length (row asked o)) ws
 users_few lists asked ws apart counts closed =
     let a = sum_by-le-sum_by (λ s. length (row lists s)) (λ s. sum_by (λ ns. sum_by (one_if s) ns) asked) ws (λ s. let e = counts s in omega arith) in
     let b = swapped (λ s ns. sum_by (one_if s) ns) ws asked in

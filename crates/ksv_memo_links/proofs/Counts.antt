@@ -11,7 +11,8 @@ naming-push rows o n l lt =
     let b = sum_by_push (one_if l) (row rows o) n in
     omega arith
 
-pub naming-pop : (rows : List (List ℕ)) (o l : ℕ) → o < length rows → 0 < length (row rows o) → naming (pop_row rows o) l + one_if l (get_or (row rows o) (length (row rows o) - 1) 0) ≡ naming rows l
+pub naming-pop : (rows : List (List ℕ)) (o l : ℕ) → o < length rows → 0 < length (row rows o)
+    → naming (pop_row rows o) l + one_if l (get_or (row rows o) (length (row rows o) - 1) 0) ≡ naming rows l
 naming-pop rows o l lt some =
     let k = length (row rows o) - 1 in
     let f : List ℕ → ℕ = λ ns. sum_by (one_if l) ns in

@@ -1,5 +1,6 @@
 -- Where a walk along the items of a list stands, told from the place that it has, and how it goes on.
-use Rattle.std.proofs.Common.{◌≡◌, ◌≢◌, ◌⊎◌, inl, inr, true, false, eqb, cond, ℕ, zero, suc, ◌+◌, ◌-◌, ◌<◌, ◌≤◌, List, [], ◌∷◌, length, get_or, refl, sym, ◌∙◌, ap, subst, arith}
+use Rattle.std.proofs.Common.{◌≡◌, ◌≢◌, ◌⊎◌, inl, inr, true, false, eqb, cond, ℕ, zero, suc, ◌+◌, ◌-◌, ◌<◌, ◌≤◌, List, [], ◌∷◌, length, get_or, refl, sym, ◌∙◌}
+use Rattle.std.proofs.Common.{ap, subst, arith}
 use Rattle.std.proofs.lemmas.Bool.Decides.{eqb_tells}
 use Rattle.ksv_memo_links.specs.declared.blocks.Item.{Item}
 use Rattle.ksv_memo_links.specs.Shelved.{row}
@@ -15,16 +16,22 @@ left_from (x ∷ xs) p = cond (eqb x.at p) (suc (length xs)) (left_from xs p)
 abbrev pub seen_to : List Item → ℕ → ℕ
 seen_to xs p = length xs - left_from xs p
 
-left-at : (xs : List Item) → ((i j : ℕ) → i < j → j ≤ length xs → (get_or xs i (at 0 0)).at ≢ (get_or xs j (at 0 0)).at) → (i : ℕ) → i ≤ length xs → left_from xs (get_or xs i (at 0 0)).at ≡ length xs - i
+left-at : (xs : List Item) → ((i j : ℕ) → i < j → j ≤ length xs → (get_or xs i (at 0 0)).at ≢ (get_or xs j (at 0 0)).at) → (i : ℕ) → i ≤ length xs
+    → left_from xs (get_or xs i (at 0 0)).at ≡ length xs - i
 left-at [] h i le = omega arith
 left-at (x ∷ xs) h zero le = by (eqb_tells x.at x.at)
   where
-    by : ((eqb x.at x.at ≡ true) × (x.at ≡ x.at)) ⊎ ((eqb x.at x.at ≡ false) × (x.at ≢ x.at)) → cond (eqb x.at x.at) (suc (length xs)) (left_from xs x.at) ≡ suc (length xs) - 0
+    by : ((eqb x.at x.at ≡ true) × (x.at ≡ x.at)) ⊎ ((eqb x.at x.at ≡ false) × (x.at ≢ x.at))
+        → cond (eqb x.at x.at) (suc (length xs)) (left_from xs x.at) ≡ suc (length xs) - 0
     by (inl e) = let z = ap (λ b. cond b (suc (length xs)) (left_from xs x.at)) e.0 in omega arith
     by (inr e) = absurd (e.1 refl)
-left-at (x ∷ xs) h (suc i) le = by (left-at xs (λ j k lt l. h (suc j) (suc k) (omega arith) (omega arith)) i (omega arith)) (eqb_tells x.at (get_or xs i (at 0 0)).at)
+left-at (x ∷ xs) h (suc i) le = by (left-at xs (λ j k lt l. h (suc j) (suc k) (omega arith) (omega arith)) i (omega arith))
+    (eqb_tells x.at (get_or xs i (at 0 0)).at)
   where
-    by : left_from xs (get_or xs i (at 0 0)).at ≡ length xs - i → ((eqb x.at (get_or xs i (at 0 0)).at ≡ true) × (x.at ≡ (get_or xs i (at 0 0)).at)) ⊎ ((eqb x.at (get_or xs i (at 0 0)).at ≡ false) × (x.at ≢ (get_or xs i (at 0 0)).at)) → cond (eqb x.at (get_or xs i (at 0 0)).at) (suc (length xs)) (left_from xs (get_or xs i (at 0 0)).at) ≡ suc (length xs) - suc i
+    by : left_from xs (get_or xs i (at 0 0)).at ≡ length xs - i
+        → ((eqb x.at (get_or xs i (at 0 0)).at ≡ true) × (x.at ≡ (get_or xs i (at 0 0)).at)) ⊎
+        ((eqb x.at (get_or xs i (at 0 0)).at ≡ false) × (x.at ≢ (get_or xs i (at 0 0)).at))
+        → cond (eqb x.at (get_or xs i (at 0 0)).at) (suc (length xs)) (left_from xs (get_or xs i (at 0 0)).at) ≡ suc (length xs) - suc i
     by r (inl e) = absurd (h zero (suc i) (omega arith) le e.1)
     by r (inr e) = let z = ap (λ b. cond b (suc (length xs)) (left_from xs (get_or xs i (at 0 0)).at)) e.0 in omega arith
 
@@ -55,9 +62,12 @@ module _ (lists : List (List Item)) (named : List (List ℕ)) (s : ℕ) (h : IsL
   starts p e = (stands-at 0 p (omega arith) e, seen-is 0 p (omega arith) e)
 
   -- at the next one, told from the lists as they are now, which are the same
-  pub steps : (now : List (List Item)) (p : ℕ) (x : Item) → now ≡ lists → StandsAt lists s p → ((list i : ℕ) → p ≡ (item_at now list i).at → (i < length (row now list)) × (x.owner ≡ (item_at now list i).owner) × (x.at ≡ (item_at now list (i + 1)).at)) → Steps lists s p x
+  pub steps : (now : List (List Item)) (p : ℕ) (x : Item) → now ≡ lists → StandsAt lists s p
+      → ((list i : ℕ) → p ≡ (item_at now list i).at → (i < length (row now list)) × (x.owner ≡ (item_at now list i).owner)
+      × (x.at ≡ (item_at now list (i + 1)).at)) → Steps lists s p x
   steps now p x same stands tells =
-      let P : List (List Item) → Type 0 = λ ls. (list i : ℕ) → p ≡ (item_at ls list i).at → (i < length (row ls list)) × (x.owner ≡ (item_at ls list i).owner) × (x.at ≡ (item_at ls list (i + 1)).at) in
+      let P : List (List Item) → Type 0 = λ ls. (list i : ℕ) → p ≡ (item_at ls list i).at
+      → (i < length (row ls list)) × (x.owner ≡ (item_at ls list i).owner) × (x.at ≡ (item_at ls list (i + 1)).at) in
       let i = seen_to (row lists s) p in
       let found = subst P same tells s i stands in
       let lt = found.0 in
@@ -72,5 +82,7 @@ module _ (lists : List (List Item)) (named : List (List ℕ)) (s : ℕ) (h : IsL
       }
 
   -- after the last
-  pub ended : (now : List (List Item)) (p : ℕ) → now ≡ lists → StandsAt lists s p → ((list i : ℕ) → p ≡ (item_at now list i).at → length (row now list) ≤ i) → length (row lists s) ≤ seen_to (row lists s) p
-  ended now p same stands none = let P : List (List Item) → Type 0 = λ ls. (list i : ℕ) → p ≡ (item_at ls list i).at → length (row ls list) ≤ i in subst P same none s (seen_to (row lists s) p) stands
+  pub ended : (now : List (List Item)) (p : ℕ) → now ≡ lists → StandsAt lists s p → ((list i : ℕ) → p ≡ (item_at now list i).at → length (row now list) ≤ i)
+      → length (row lists s) ≤ seen_to (row lists s) p
+  ended now p same stands none = let P : List (List Item) → Type 0 = λ ls. (list i : ℕ) → p ≡ (item_at ls list i).at
+      → length (row ls list) ≤ i in subst P same none s (seen_to (row lists s) p) stands

@@ -18,7 +18,8 @@ none-named a (suc n) l =
     omega arith
 
 -- a list that was made longer, or was left as it was
-pub padded-by : {X T E : Type 0} (r : Result T E) (old new : List X) (n : ℕ) (d : X) → OnOk r (new ≡ old ++ replicate n d) → OnErr r (new ≡ old) → (m : ℕ) × (new ≡ old ++ replicate m d) × (m ≤ n)
+pub padded-by : {X T E : Type 0} (r : Result T E) (old new : List X) (n : ℕ) (d : X) → OnOk r (new ≡ old ++ replicate n d) → OnErr r (new ≡ old)
+    → (m : ℕ) × (new ≡ old ++ replicate m d) × (m ≤ n)
 padded-by (Ok x) old new n d ok err = (n, ok, omega arith)
 padded-by (Err e) old new n d ok err = (0, err ∙ sym (append-nil old), omega arith)
 
@@ -35,13 +36,16 @@ module _ (a : List Entry) (B : List Block) (f : List ℕ) (n : ℕ) (h : IsChain
 
   pub same-named : HasSameRows (named_of a B) (named_of a more)
   same-named = record {
-    more = (let e = ap (λ (rows : List (List ℕ)). length rows) (map-append (λ (b : Block). lists_in a b.begin b.count) B (replicate n (record { begin = 0; count = 0 }))) in let m = length-append (named_of a B) (named_of a (replicate n (record { begin = 0; count = 0 }))) in omega arith);
+    more = (let e = ap (λ (rows : List (List ℕ)). length rows)
+        (map-append (λ (b : Block). lists_in a b.begin b.count) B (replicate n (record { begin = 0; count = 0 }))) in let m =
+        length-append (named_of a B) (named_of a (replicate n (record { begin = 0; count = 0 }))) in omega arith);
     each = λ s. named-row a more s ∙ ap (λ (b : Block). lists_in a b.begin b.count) (same-blocks s) ∙ sym (named-row a B s);
   }
 
   pub same-naming : (l : ℕ) → naming (named_of a more) l ≡ naming (named_of a B) l
   same-naming l =
-      let e = ap (λ (rows : List (List ℕ)). naming rows l) (map-append (λ (b : Block). lists_in a b.begin b.count) B (replicate n (record { begin = 0; count = 0 }))) in
+      let e = ap (λ (rows : List (List ℕ)). naming rows l)
+      (map-append (λ (b : Block). lists_in a b.begin b.count) B (replicate n (record { begin = 0; count = 0 }))) in
       let m = sum_by-append (λ (ns : List ℕ). sum_by (one_if l) ns) (named_of a B) (named_of a (replicate n (record { begin = 0; count = 0 }))) in
       let z = none-named a n l in
       omega arith
@@ -51,8 +55,10 @@ module _ (a : List Entry) (B : List Block) (f : List ℕ) (n : ℕ) (h : IsChain
     chains = λ l. subst (λ m. IsChain a l (first_at f l) m) (sym (same-naming l)) (h.chains l);
     inside = λ s p v. h.inside s p (live-as more B s p (sym (same-blocks s)) v);
     owner = λ s p v. h.owner s p (live-as more B s p (sym (same-blocks s)) v);
-    found = λ s p v. (let k = h.found s p (live-as more B s p (sym (same-blocks s)) v) in let lt = k.1 in (k.0, (let m = same-naming (entry_at a p).list in omega arith), k.2));
-    live = λ l i lt. (let m = same-naming l in live-as B more (entry_at a (hop a (first_at f l) i)).owner (hop a (first_at f l) i) (same-blocks (entry_at a (hop a (first_at f l) i)).owner) (h.live l i (omega arith)));
+    found = λ s p v. (let k = h.found s p (live-as more B s p (sym (same-blocks s)) v) in let lt = k.1 in
+        (k.0, (let m = same-naming (entry_at a p).list in omega arith), k.2));
+    live = λ l i lt. (let m = same-naming l in live-as B more (entry_at a (hop a (first_at f l) i)).owner (hop a (first_at f l) i)
+        (same-blocks (entry_at a (hop a (first_at f l) i)).owner) (h.live l i (omega arith)));
     fits = h.fits;
   }
 

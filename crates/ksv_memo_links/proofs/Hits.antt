@@ -1,5 +1,6 @@
 -- Why the marks of the code are right, one upon another.
-use Rattle.std.proofs.Common.{◌≡◌, ◌≢◌, ◌⊎◌, inl, inr, Bool, true, false, eqb, ℕ, suc, ◌+◌, ◌*◌, ◌<◌, ◌≤◌, max, min, List, [], ◌∷◌, length, map, get_or, refl, sym, ◌∙◌, ap, subst, arith}
+use Rattle.std.proofs.Common.{◌≡◌, ◌≢◌, ◌⊎◌, inl, inr, Bool, true, false, eqb, ℕ, suc, ◌+◌, ◌*◌, ◌<◌, ◌≤◌, max, min, List, [], ◌∷◌, length, map, get_or, refl}
+use Rattle.std.proofs.Common.{sym, ◌∙◌, ap, subst, arith}
 use Rattle.std.proofs.lemmas.Bool.Decides.{eqb_tells}
 use Rattle.ksv_bytes.specs.declared.uses.Use.{Use}
 use Rattle.ksv_bytes.specs.declared.uses.Change.{Change}
@@ -20,7 +21,8 @@ use Rattle.ksv_memo_links.proofs.Edits.{row_there}
 use Rattle.ksv_memo_links.proofs.Tallies.{sizes-up}
 
 -- a slot of a list has a use
-pub listed-in : (rows : List (List Use)) (lists : List (List Item)) (l i : ℕ) → IsListed lists (map lists_of_uses rows) → i < length (row lists l) → 0 < length (row rows (item_at lists l i).owner)
+pub listed-in : (rows : List (List Use)) (lists : List (List Item)) (l i : ℕ) → IsListed lists (map lists_of_uses rows) → i < length (row lists l)
+    → 0 < length (row rows (item_at lists l i).owner)
 listed-in rows lists l i h lt =
     let k = h.owners l i lt in
     let some = k.1 in
@@ -32,13 +34,15 @@ listed-in rows lists l i h lt =
     by (u ∷ us) lt = omega arith
 
 -- who asked a slot that goes, goes
-pub user-why : (p : Parts) (slot i : ℕ) → IsListed p.asks.lists p.asks.named → i < length (row p.asks.lists slot) → (first : List Bool) (x : Change) → Why p first x slot → Why p first x (item_at p.asks.lists slot i).owner
+pub user-why : (p : Parts) (slot i : ℕ) → IsListed p.asks.lists p.asks.named → i < length (row p.asks.lists slot) → (first : List Bool) (x : Change)
+    → Why p first x slot → Why p first x (item_at p.asks.lists slot i).owner
 user-why p slot i l lt first x w =
     let k = l.owners slot i lt in
     through (item_at p.asks.lists slot i).owner k.0 k.1 (let P : ℕ → Type 0 = λ s. Why p first x s in subst P (sym k.2) w)
 
 -- a slot with a touched use was marked
-pub hit-marked : (p q : Parts) (change : Change) (slot : ℕ) → MarksOne p q slot → is_hit change p.uses.rows slot ≡ true → looks q + 2 * length p.marks.work ≤ looks p + 2 + 2 * length q.marks.work → HitsSlot p q change slot
+pub hit-marked : (p q : Parts) (change : Change) (slot : ℕ) → MarksOne p q slot → is_hit change p.uses.rows slot ≡ true
+    → looks q + 2 * length p.marks.work ≤ looks p + 2 + 2 * length q.marks.work → HitsSlot p q change slot
 hit-marked p q change slot one t few = record {
   more = one-mark p q (IsEdit change) slot one (λ first x e k. here slot (record { was_kept = k; touched = ap (λ c. is_hit c p.uses.rows slot) e ∙ t }));
   out = λ _. one-out p q slot one;
@@ -55,7 +59,8 @@ pub record Peeks (q q1 : Parts) : Type 0 where
   pub least : (from : ℕ) → IsCounted from q.marks → IsCounted from q1.marks
 
 -- one look at the asks, or at the uses
-pub peek-asks : (q : Parts) (asks : Chained) → asks.named ≡ q.asks.named → asks.lists ≡ q.asks.lists → asks.looks ≤ q.asks.looks + 1 → q.asks.looks ≤ asks.looks → Peeks q (record { asks = asks; uses = q.uses; marks = q.marks })
+pub peek-asks : (q : Parts) (asks : Chained) → asks.named ≡ q.asks.named → asks.lists ≡ q.asks.lists → asks.looks ≤ q.asks.looks + 1 → q.asks.looks ≤ asks.looks
+    → Peeks q (record { asks = asks; uses = q.uses; marks = q.marks })
 peek-asks q asks named lists most least = record {
   same = record { asks = named; ask_lists = lists; uses = refl; use_lists = refl };
   kept = refl;
@@ -65,7 +70,8 @@ peek-asks q asks named lists most least = record {
   least = λ from h. h;
 }
 
-pub peek-uses : (q : Parts) (uses : Used) → uses.rows ≡ q.uses.rows → uses.lists ≡ q.uses.lists → uses.looks ≤ q.uses.looks + 1 → q.uses.looks ≤ uses.looks → Peeks q (record { asks = q.asks; uses = uses; marks = q.marks })
+pub peek-uses : (q : Parts) (uses : Used) → uses.rows ≡ q.uses.rows → uses.lists ≡ q.uses.lists → uses.looks ≤ q.uses.looks + 1 → q.uses.looks ≤ uses.looks
+    → Peeks q (record { asks = q.asks; uses = uses; marks = q.marks })
 peek-uses q uses rows lists most least = record {
   same = record { asks = refl; ask_lists = refl; uses = rows; use_lists = lists };
   kept = refl;
@@ -84,7 +90,8 @@ row-none p change items = record {
 }
 
 pub peek-more : (p q q1 : Parts) (P : List Bool → Change → Type 0) → MarksMore p q P → Peeks q q1 → MarksMore p q1 P
-peek-more p q q1 P h k = more-trans p q q1 P (λ first x. Unit {0}) h (no-mark q q1 (λ first x. Unit {0}) k.same k.kept k.work k.least k.rises) (λ first x w m. tt)
+peek-more p q q1 P h k = more-trans p q q1 P (λ first x. Unit {0}) h (no-mark q q1 (λ first x. Unit {0}) k.same k.kept k.work k.least k.rises)
+    (λ first x w m. tt)
 
 -- the first item was looked for
 pub row-first : (p p1 : Parts) (change : Change) (items : List Item) → Peeks p p1 → HitsRow p p1 change items 0 1
@@ -97,10 +104,12 @@ row-first p p1 change items k =
       looks = let len = ap (λ (ws : List ℕ). length ws) k.work in let b = k.looks in omega arith;
     }
 
-pub row-more : (p q q1 r : Parts) (change : Change) (items : List Item) (i slot : ℕ) → HitsRow p q change items i 0 → Peeks q q1 → i < length items → slot ≡ (get_or items i (at 0 0)).owner → HitsSlot q1 r change slot → HitsRow p r change items (i + 1) 0
+pub row-more : (p q q1 r : Parts) (change : Change) (items : List Item) (i slot : ℕ) → HitsRow p q change items i 0 → Peeks q q1 → i < length items
+    → slot ≡ (get_or items i (at 0 0)).owner → HitsSlot q1 r change slot → HitsRow p r change items (i + 1) 0
 row-more p q q1 r change items i slot h k lt e u = record {
   more = more-trans p q1 r (IsEdit change) (IsEdit change) to_q1 u.more (λ first x w m. w);
-  out = below-more (λ j. is_hit change p.uses.rows (get_or items j (at 0 0)).owner ≡ true → is_kept r.marks.kept (get_or items j (at 0 0)).owner ≡ false) i (λ j lj t. stays-out q.marks.kept r.marks.kept (get_or items j (at 0 0)).owner fewer (h.out j lj t)) last;
+  out = below-more (λ j. is_hit change p.uses.rows (get_or items j (at 0 0)).owner ≡ true → is_kept r.marks.kept (get_or items j (at 0 0)).owner ≡ false) i
+      (λ j lj t. stays-out q.marks.kept r.marks.kept (get_or items j (at 0 0)).owner fewer (h.out j lj t)) last;
   within = omega arith;
   looks = let len = ap (λ (ws : List ℕ). length ws) k.work in let a = h.looks in let b = k.looks in let d = u.looks in omega arith;
 }
@@ -112,10 +121,12 @@ row-more p q q1 r change items i slot h k lt e u = record {
     fewer s f = ap (λ (ks : List Bool). is_kept ks s) (sym k.kept) ∙ u.more.fewer s f
 
     last : is_hit change p.uses.rows (get_or items i (at 0 0)).owner ≡ true → is_kept r.marks.kept (get_or items i (at 0 0)).owner ≡ false
-    last t = ap (λ s. is_kept r.marks.kept s) (sym e) ∙ u.out (ap (λ rows. is_hit change rows slot) to_q1.same.uses ∙ ap (λ s. is_hit change p.uses.rows s) e ∙ t)
+    last t = ap (λ s. is_kept r.marks.kept s) (sym e)
+        ∙ u.out (ap (λ rows. is_hit change rows slot) to_q1.same.uses ∙ ap (λ s. is_hit change p.uses.rows s) e ∙ t)
 
 -- there is no item more, which took no look
-pub row-end : (p q q1 : Parts) (change : Change) (items : List Item) (i : ℕ) → HitsRow p q change items i 0 → Peeks q q1 → looks q1 ≡ looks q → length items ≤ i → HitsRow p q1 change items (length items) 0
+pub row-end : (p q q1 : Parts) (change : Change) (items : List Item) (i : ℕ) → HitsRow p q change items i 0 → Peeks q q1 → looks q1 ≡ looks q → length items ≤ i
+    → HitsRow p q1 change items (length items) 0
 row-end p q q1 change items i h k idle le =
     let w = h.within in
     let same : i ≡ length items = omega arith in
@@ -149,7 +160,8 @@ rows-none p change lists a = record {
   looks = let m : max a a ≡ a = omega arith in let e = ap (λ n. sizes lists n) m in omega arith;
 }
 
-pub rows-more : (p q r : Parts) (change : Change) (lists : List (List Item)) (a g : ℕ) → a ≤ g → HitsRows p q change lists a g → HitsRow q r change (row lists g) (length (row lists g)) 1 → HitsRows p r change lists a (g + 1)
+pub rows-more : (p q r : Parts) (change : Change) (lists : List (List Item)) (a g : ℕ) → a ≤ g → HitsRows p q change lists a g
+    → HitsRow q r change (row lists g) (length (row lists g)) 1 → HitsRows p r change lists a (g + 1)
 rows-more p q r change lists a g le h k = record {
   more = more-trans p q r (IsEdit change) (IsEdit change) h.more k.more (λ first x e n. e);
   out = λ f i l lt. out f i l lt (eqb_tells f g);
@@ -166,7 +178,8 @@ rows-more p q r change lists a g le h k = record {
 
     here_it : (i : ℕ) → P g i
     here_it i =
-        let F : List (List Use) → Type 0 = λ uses. i < length (row lists g) → is_hit change uses (item_at lists g i).owner ≡ true → is_kept r.marks.kept (item_at lists g i).owner ≡ false in
+        let F : List (List Use) → Type 0 = λ uses. i < length (row lists g) → is_hit change uses (item_at lists g i).owner ≡ true
+        → is_kept r.marks.kept (item_at lists g i).owner ≡ false in
         subst F h.more.same.uses (k.out i)
 
     out : (f i : ℕ) → a ≤ f → f < g + 1 → ((eqb f g ≡ true) × (f ≡ g)) ⊎ ((eqb f g ≡ false) × (f ≢ g)) → P f i
@@ -174,12 +187,20 @@ rows-more p q r change lists a g le h k = record {
     out f i l lt (inr e) = λ n t. stays-out q.marks.kept r.marks.kept (item_at lists f i).owner k.more.fewer (h.out f i l (let ne = e.1 in omega arith) n t)
 
 -- the size, the ends behind a place and the pages there, one after the other
-pub hits-behind : (p q1 q2 r : Parts) (change : Change) (place pages : ℕ) → HitsRows p q1 change (end_lists p.uses.lists) 0 (min 1 (length (end_lists p.uses.lists))) → HitsRows q1 q2 change (end_lists p.uses.lists) (first_page place + 1) (min (pages + 1) (length (end_lists p.uses.lists))) → HitsRows q2 r change (page_lists p.uses.lists) (first_page place) (min pages (length (page_lists p.uses.lists))) → HitsBehind p r change place pages
+pub hits-behind : (p q1 q2 r : Parts) (change : Change) (place pages : ℕ)
+    → HitsRows p q1 change (end_lists p.uses.lists) 0 (min 1 (length (end_lists p.uses.lists)))
+    → HitsRows q1 q2 change (end_lists p.uses.lists) (first_page place + 1) (min (pages + 1) (length (end_lists p.uses.lists)))
+    → HitsRows q2 r change (page_lists p.uses.lists) (first_page place) (min pages (length (page_lists p.uses.lists)))
+    → HitsBehind p r change place pages
 hits-behind p q1 q2 r change place pages a b c = record {
   more = more-trans p q2 r (IsEdit change) (IsEdit change) to_q2 c.more (λ first x e n. e);
-  sized = λ i lt t. stays-out q1.marks.kept r.marks.kept (item_at (end_lists p.uses.lists) 0 i).owner fewer (a.out 0 i (omega arith) (let there = row_there (end_lists p.uses.lists) 0 i lt in omega arith) lt t);
-  ended = λ l i le lp lt t. stays-out q2.marks.kept r.marks.kept (item_at (end_lists p.uses.lists) l i).owner c.more.fewer (b.out l i (omega arith) (let there = row_there (end_lists p.uses.lists) l i lt in omega arith) lt (ap (λ rows. is_hit change rows (item_at (end_lists p.uses.lists) l i).owner) a.more.same.uses ∙ t));
-  met = λ g i le lp lt t. c.out g i le (let there = row_there (page_lists p.uses.lists) g i lt in omega arith) lt (ap (λ rows. is_hit change rows (item_at (page_lists p.uses.lists) g i).owner) to_q2.same.uses ∙ t);
+  sized = λ i lt t. stays-out q1.marks.kept r.marks.kept (item_at (end_lists p.uses.lists) 0 i).owner fewer
+      (a.out 0 i (omega arith) (let there = row_there (end_lists p.uses.lists) 0 i lt in omega arith) lt t);
+  ended = λ l i le lp lt t. stays-out q2.marks.kept r.marks.kept (item_at (end_lists p.uses.lists) l i).owner c.more.fewer
+      (b.out l i (omega arith) (let there = row_there (end_lists p.uses.lists) l i lt in omega arith) lt
+      (ap (λ rows. is_hit change rows (item_at (end_lists p.uses.lists) l i).owner) a.more.same.uses ∙ t));
+  met = λ g i le lp lt t. c.out g i le (let there = row_there (page_lists p.uses.lists) g i lt in omega arith) lt
+      (ap (λ rows. is_hit change rows (item_at (page_lists p.uses.lists) g i).owner) to_q2.same.uses ∙ t);
   looks =
       let f = first_page place in
       let x = a.looks in let y = b.looks in let z = c.looks in

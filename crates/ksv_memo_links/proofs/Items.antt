@@ -29,10 +29,12 @@ pub rows-length : (a : List Entry) (rows : List (List ℕ)) (l : ℕ) (f : List 
 rows-length a rows l [] = refl
 rows-length a rows l (p ∷ f) = let h = rows-length a rows (l + 1) f in omega arith
 
-pub rows-row : (a : List Entry) (rows : List (List ℕ)) (l : ℕ) (f : List ℕ) (i : ℕ) → i < length f → row (rows_from a rows l f) i ≡ items_from a (first_at f i) (naming rows (l + i))
+pub rows-row : (a : List Entry) (rows : List (List ℕ)) (l : ℕ) (f : List ℕ) (i : ℕ) → i < length f
+    → row (rows_from a rows l f) i ≡ items_from a (first_at f i) (naming rows (l + i))
 rows-row a rows l [] i lt = absurd (omega arith)
 rows-row a rows l (p ∷ f) zero lt = let e : l ≡ l + 0 = omega arith in ap (λ k. items_from a p (naming rows k)) e
-rows-row a rows l (p ∷ f) (suc i) lt = let e : l + 1 + i ≡ l + suc i = omega arith in rows-row a rows (l + 1) f i (omega arith) ∙ ap (λ k. items_from a (first_at f i) (naming rows k)) e
+rows-row a rows l (p ∷ f) (suc i) lt = let e : l + 1 + i ≡ l + suc i = omega arith in rows-row a rows (l + 1) f i (omega arith)
+    ∙ ap (λ k. items_from a (first_at f i) (naming rows k)) e
 
 pub lists-length : (a : List Entry) (B : List Block) (f : List ℕ) → length (lists_of a B f) ≡ length f
 lists-length a B f = rows-length a (named_of a B) 0 f
@@ -58,7 +60,8 @@ module _ (a : List Entry) (B : List Block) (f : List ℕ) (h : IsChained a B f) 
   pub list-length : (l : ℕ) → length (row (lists_of a B f) l) ≡ naming (named_of a B) l
   list-length l = ap (λ (ps : List Item). length ps) (list-row l) ∙ users-length a (first_at f l) (naming (named_of a B) l)
 
-  pub list-item : (l i : ℕ) → i < naming (named_of a B) l → get_or (row (lists_of a B f) l) i (at 0 0) ≡ at (entry_at a (hop a (first_at f l) i)).owner (hop a (first_at f l) i)
+  pub list-item : (l i : ℕ) → i < naming (named_of a B) l
+      → get_or (row (lists_of a B f) l) i (at 0 0) ≡ at (entry_at a (hop a (first_at f l) i)).owner (hop a (first_at f l) i)
   list-item l i lt = ap (λ (ps : List Item). get_or ps i (at 0 0)) (list-row l) ∙ users-get a (first_at f l) (naming (named_of a B) l) i lt
 
   -- the place of the entry of the item after i others, 0 after the last
@@ -73,8 +76,11 @@ module _ (a : List Entry) (B : List Block) (f : List ℕ) (h : IsChained a B f) 
           ∙ sym (h.chains l).ends ∙ ap (λ k. hop a (first_at f l) k) e
 
   -- the owner of an item has an entry of the list
-  users-ask : (l i : ℕ) → i < length (row (lists_of a B f) l) → (k : ℕ) × (k < length (row (named_of a B) (get_or (row (lists_of a B f) l) i (at 0 0)).owner)) × (get_or (row (named_of a B) (get_or (row (lists_of a B f) l) i (at 0 0)).owner) k 0 ≡ l)
-  users-ask l i lt = subst (λ s. (k : ℕ) × (k < length (row (named_of a B) s)) × (get_or (row (named_of a B) s) k 0 ≡ l)) (sym user) (p - (block_at B s).begin, count, entries)
+  users-ask : (l i : ℕ) → i < length (row (lists_of a B f) l)
+      → (k : ℕ) × (k < length (row (named_of a B) (get_or (row (lists_of a B f) l) i (at 0 0)).owner))
+      × (get_or (row (named_of a B) (get_or (row (lists_of a B f) l) i (at 0 0)).owner) k 0 ≡ l)
+  users-ask l i lt = subst (λ s. (k : ℕ) × (k < length (row (named_of a B) s)) × (get_or (row (named_of a B) s) k 0 ≡ l)) (sym user)
+      (p - (block_at B s).begin, count, entries)
     where
       inside : i < naming (named_of a B) l
       inside = let n = list-length l in omega arith
@@ -107,8 +113,11 @@ module _ (a : List Entry) (B : List Block) (f : List ℕ) (h : IsChained a B f) 
           ∙ ap (λ q. (entry_at a q).list) there ∙ (h.chains l).of i inside
 
   -- who names a list is one of its items
-  entries-use : (s k : ℕ) → k < length (row (named_of a B) s) → (i : ℕ) × (i < length (row (lists_of a B f) (get_or (row (named_of a B) s) k 0))) × ((get_or (row (lists_of a B f) (get_or (row (named_of a B) s) k 0)) i (at 0 0)).owner ≡ s)
-  entries-use s k lt = subst (λ l. (i : ℕ) × (i < length (row (lists_of a B f) l)) × ((get_or (row (lists_of a B f) l) i (at 0 0)).owner ≡ s)) (sym entries) (place.0, there, user)
+  entries-use : (s k : ℕ) → k < length (row (named_of a B) s)
+      → (i : ℕ) × (i < length (row (lists_of a B f) (get_or (row (named_of a B) s) k 0)))
+      × ((get_or (row (lists_of a B f) (get_or (row (named_of a B) s) k 0)) i (at 0 0)).owner ≡ s)
+  entries-use s k lt = subst (λ l. (i : ℕ) × (i < length (row (lists_of a B f) l)) × ((get_or (row (lists_of a B f) l) i (at 0 0)).owner ≡ s)) (sym entries)
+      (place.0, there, user)
     where
       short : k < (block_at B s).count
       short = let m = row-length a B s in omega arith
@@ -122,7 +131,8 @@ module _ (a : List Entry) (B : List Block) (f : List ℕ) (h : IsChained a B f) 
       entries : get_or (row (named_of a B) s) k 0 ≡ (entry_at a ((block_at B s).begin + k)).list
       entries = ap (λ (ns : List ℕ). get_or ns k 0) (named-row a B s) ∙ block-get a (block_at B s).begin (block_at B s).count k short
 
-      place : (i : ℕ) × (i < naming (named_of a B) (entry_at a ((block_at B s).begin + k)).list) × (hop a (first_at f (entry_at a ((block_at B s).begin + k)).list) i ≡ (block_at B s).begin + k)
+      place : (i : ℕ) × (i < naming (named_of a B) (entry_at a ((block_at B s).begin + k)).list)
+          × (hop a (first_at f (entry_at a ((block_at B s).begin + k)).list) i ≡ (block_at B s).begin + k)
       place = h.found s ((block_at B s).begin + k) v
 
       there : place.0 < length (row (lists_of a B f) (entry_at a ((block_at B s).begin + k)).list)
@@ -133,7 +143,8 @@ module _ (a : List Entry) (B : List Block) (f : List ℕ) (h : IsChained a B f) 
           ap (λ (x : Item). x.owner) (list-item (entry_at a ((block_at B s).begin + k)).list place.0 place.1)
           ∙ ap (λ q. (entry_at a q).owner) place.2 ∙ h.owner s ((block_at B s).begin + k) v
 
-  places-apart : (l i j : ℕ) → i < j → j ≤ length (row (lists_of a B f) l) → (get_or (row (lists_of a B f) l) i (at 0 0)).at ≢ (get_or (row (lists_of a B f) l) j (at 0 0)).at
+  places-apart : (l i j : ℕ) → i < j → j ≤ length (row (lists_of a B f) l)
+      → (get_or (row (lists_of a B f) l) i (at 0 0)).at ≢ (get_or (row (lists_of a B f) l) j (at 0 0)).at
   places-apart l i j lt le e = by (cases_lt j (naming (named_of a B) l))
     where
       n : length (row (lists_of a B f) l) ≡ naming (named_of a B) l
@@ -165,18 +176,26 @@ module _ (a : List Entry) (B : List Block) (f : List ℕ) (h : IsChained a B f) 
   }
 
   -- at a place that an item has, its owner is found, and the place of the next item
-  pub item-found : (p l i : ℕ) → p ≢ 0 → p ≡ (get_or (row (lists_of a B f) l) i (at 0 0)).at → (i < length (row (lists_of a B f) l)) × ((entry_at a p).owner ≡ (get_or (row (lists_of a B f) l) i (at 0 0)).owner) × ((entry_at a p).next ≡ (get_or (row (lists_of a B f) l) (i + 1) (at 0 0)).at)
+  pub item-found : (p l i : ℕ) → p ≢ 0 → p ≡ (get_or (row (lists_of a B f) l) i (at 0 0)).at
+      → (i < length (row (lists_of a B f) l)) × ((entry_at a p).owner ≡ (get_or (row (lists_of a B f) l) i (at 0 0)).owner)
+      × ((entry_at a p).next ≡ (get_or (row (lists_of a B f) l) (i + 1) (at 0 0)).at)
   item-found p l i some e = by (cases_lt i (naming (named_of a B) l))
     where
       n : length (row (lists_of a B f) l) ≡ naming (named_of a B) l
       n = list-length l
 
-      by : (i < naming (named_of a B) l) ⊎ (naming (named_of a B) l ≤ i) → (i < length (row (lists_of a B f) l)) × ((entry_at a p).owner ≡ (get_or (row (lists_of a B f) l) i (at 0 0)).owner) × ((entry_at a p).next ≡ (get_or (row (lists_of a B f) l) (i + 1) (at 0 0)).at)
+      by : (i < naming (named_of a B) l) ⊎ (naming (named_of a B) l ≤ i)
+          → (i < length (row (lists_of a B f) l)) × ((entry_at a p).owner ≡ (get_or (row (lists_of a B f) l) i (at 0 0)).owner)
+          × ((entry_at a p).next ≡ (get_or (row (lists_of a B f) l) (i + 1) (at 0 0)).at)
       by (inl lt) =
           let m = n in
           let here : p ≡ hop a (first_at f l) i = e ∙ cursor l i (omega arith) in
-          let step : suc i ≡ i + 1 = omega arith in
-          (omega arith, ap (λ q. (entry_at a q).owner) here ∙ sym (ap (λ (x : Item). x.owner) (list-item l i lt)), ap (λ q. (entry_at a q).next) here ∙ ap (λ k. hop a (first_at f l) k) step ∙ sym (cursor l (i + 1) (omega arith)))
+          let step : suc i ≡ i + 1 = omega arith in (
+            omega arith,
+            ap (λ q. (entry_at a q).owner) here ∙ sym (ap (λ (x : Item). x.owner) (list-item l i lt)),
+            ap (λ q. (entry_at a q).next) here
+                ∙ ap (λ k. hop a (first_at f l) k) step ∙ sym (cursor l (i + 1) (omega arith)),
+          )
       by (inr ge) =
           let m = n in
           absurd (some (e ∙ ap (λ (x : Item). x.at) (get_or_past (row (lists_of a B f) l) i (at 0 0) (omega arith))))

@@ -1,5 +1,6 @@
 -- A slot upon another is taken or kept, and the links stay whole.
-use Rattle.std.proofs.Common.{◌≡◌, ◌≢◌, ◌⊎◌, inl, inr, Bool, true, false, eqb, ℕ, ◌<◌, ◌≤◌, List, [], ◌∷◌, ◌++◌, length, set, get_or, Contains, All, refl, sym, ◌∙◌, ap, subst, arith, true≢false}
+use Rattle.std.proofs.Common.{◌≡◌, ◌≢◌, ◌⊎◌, inl, inr, Bool, true, false, eqb, ℕ, ◌<◌, ◌≤◌, List, [], ◌∷◌, ◌++◌, length, set, get_or, Contains, All, refl, sym}
+use Rattle.std.proofs.Common.{◌∙◌, ap, subst, arith, true≢false}
 use Rattle.std.specs.List.{AllPairs}
 use Rattle.std.proofs.lemmas.List.{length-set, get_or-set_same, get_or-set_other, set-set, set-get_or, length_push, get_or_append_left}
 use Rattle.std.proofs.lemmas.List.Elements.{Contains-append_left, Contains-push, Contains-push_cases}
@@ -25,11 +26,13 @@ pub whole : (p : Parts) → IsShaped p → IsSound p.marks.kept p.marks.work p.a
 whole p h w = record { shaped = h; asked_kept = w.asked_kept; vacant = w.vacant; waits = w.waits; apart = w.apart }
 
 -- rows within the slots
-noted_row : (rows : List (List ℕ)) (old : List (List ℕ)) (s n : ℕ) → length (row rows s) ≡ length (row old s) → (0 < length (row old s) → s < n) → 0 < length (row rows s) → s < n
+noted_row : (rows : List (List ℕ)) (old : List (List ℕ)) (s n : ℕ) → length (row rows s) ≡ length (row old s) → (0 < length (row old s) → s < n)
+    → 0 < length (row rows s) → s < n
 noted_row rows old s n e h lt = h (omega arith)
 
 -- ---- a slot is taken
-module _ (p q r : Parts) (slot : ℕ) (w : IsWhole p) (kept : q.marks.kept ≡ p.marks.kept) (work : p.marks.work ≡ q.marks.work ++ slot ∷ []) (inside : slot < length p.marks.kept) (asks : q.asks ≡ p.asks) (uses : q.uses ≡ p.uses) (c : Clears q r slot) where
+module _ (p q r : Parts) (slot : ℕ) (w : IsWhole p) (kept : q.marks.kept ≡ p.marks.kept) (work : p.marks.work ≡ q.marks.work ++ slot ∷ [])
+    (inside : slot < length p.marks.kept) (asks : q.asks ≡ p.asks) (uses : q.uses ≡ p.uses) (c : Clears q r slot) where
   asked_now : r.asks.named ≡ set p.asks.named slot []
   asked_now = c.asks ∙ ap (λ b. set b.named slot []) asks
 
@@ -72,7 +75,8 @@ module _ (p q r : Parts) (slot : ℕ) (w : IsWhole p) (kept : q.marks.kept ≡ p
 
       by : ((eqb s slot ≡ true) × (s ≡ slot)) ⊎ ((eqb s slot ≡ false) × (s ≢ slot)) → s < length r.marks.kept
       by (inl e) = let m = n in let f = e.1 in omega arith
-      by (inr e) = let m = n in let k = noted_row r.asks.named p.asks.named s (length p.marks.kept) (ap length (asked_other s e.1)) (w.shaped.asked_in s) lt in omega arith
+      by (inr e) = let m = n in let k = noted_row r.asks.named p.asks.named s (length p.marks.kept) (ap length (asked_other s e.1)) (w.shaped.asked_in s) lt in
+          omega arith
 
   less_used : (s : ℕ) → 0 < length (row r.uses.rows s) → s < length r.marks.kept
   less_used s lt = by (eqb_tells s slot)
@@ -98,20 +102,25 @@ module _ (p q r : Parts) (slot : ℕ) (w : IsWhole p) (kept : q.marks.kept ≡ p
     asked_kept = λ s k e lt. (let e0 = ap (λ ks. is_kept ks s) (sym kept_now) ∙ e in
         let ne : s ≢ slot = λ same. true≢false (sym e0 ∙ ap (λ n. is_kept p.marks.kept n) same ∙ out_now) in
         let o = asked_other s ne in
-        ap (λ ks. is_kept ks (get_or (row r.asks.named s) k 0)) kept_now ∙ ap (λ (ns : List ℕ). is_kept p.marks.kept (get_or ns k 0)) o ∙ w.asked_kept s k e0 (subst (λ (ns : List ℕ). k < length ns) o lt));
+        ap (λ ks. is_kept ks (get_or (row r.asks.named s) k 0)) kept_now ∙ ap (λ (ns : List ℕ). is_kept p.marks.kept (get_or ns k 0)) o
+        ∙ w.asked_kept s k e0 (subst (λ (ns : List ℕ). k < length ns) o lt));
     vacant = λ s e non. vacant s e non (eqb_tells s slot);
-    waits = λ s k. ap (λ ks. is_kept ks s) kept_now ∙ w.waits s (subst (λ ws. Contains ws s) (sym work_now) (Contains-append_left r.marks.work (slot ∷ []) s k));
+    waits = λ s k. ap (λ ks. is_kept ks s) kept_now ∙ w.waits s
+        (subst (λ ws. Contains ws s) (sym work_now) (Contains-append_left r.marks.work (slot ∷ []) s k));
     apart = λ i j d lt l. (let n = ap length work_now in let m = length_push r.marks.work slot in
         let P : List ℕ → Type 0 = λ ws. get_or ws i d ≢ get_or ws j d in
         let h = subst P work_now (w.apart i j d lt (omega arith)) in
         let Q : ℕ → ℕ → Type 0 = λ a b. a ≢ b in
-        subst (λ a. Q a (get_or r.marks.work j d)) (get_or_append_left r.marks.work (slot ∷ []) d i (omega arith)) (subst (λ b. Q (get_or (r.marks.work ++ slot ∷ []) i d) b) (get_or_append_left r.marks.work (slot ∷ []) d j l) h));
+        subst (λ a. Q a (get_or r.marks.work j d)) (get_or_append_left r.marks.work (slot ∷ []) d i (omega arith))
+        (subst (λ b. Q (get_or (r.marks.work ++ slot ∷ []) i d) b) (get_or_append_left r.marks.work (slot ∷ []) d j l) h));
   }
     where
-      vacant : (s : ℕ) → is_kept r.marks.kept s ≡ false → (Contains r.marks.work s → ⊥) → ((eqb s slot ≡ true) × (s ≡ slot)) ⊎ ((eqb s slot ≡ false) × (s ≢ slot)) → (row r.asks.named s ≡ []) × (row r.uses.rows s ≡ [])
+      vacant : (s : ℕ) → is_kept r.marks.kept s ≡ false → (Contains r.marks.work s → ⊥)
+          → ((eqb s slot ≡ true) × (s ≡ slot)) ⊎ ((eqb s slot ≡ false) × (s ≢ slot)) → (row r.asks.named s ≡ []) × (row r.uses.rows s ≡ [])
       vacant s e non (inl q) = (ap (λ n. row r.asks.named n) q.1 ∙ asked_here, ap (λ n. row r.uses.rows n) q.1 ∙ uses_here)
       vacant s e non (inr q) =
-          let v = w.vacant s (ap (λ ks. is_kept ks s) (sym kept_now) ∙ e) (λ k. cases s q.1 non (Contains-push_cases r.marks.work slot s (subst (λ ws. Contains ws s) work_now k))) in
+          let v = w.vacant s (ap (λ ks. is_kept ks s) (sym kept_now) ∙ e)
+          (λ k. cases s q.1 non (Contains-push_cases r.marks.work slot s (subst (λ ws. Contains ws s) work_now k))) in
           (asked_other s q.1 ∙ v.0, uses_other s q.1 ∙ v.1)
         where
           cases : (s : ℕ) → s ≢ slot → (Contains r.marks.work s → ⊥) → Contains r.marks.work s ⊎ (slot ≡ s) → ⊥
@@ -125,16 +134,21 @@ module _ (p q r : Parts) (slot : ℕ) (w : IsWhole p) (kept : q.marks.kept ≡ p
 pub same_rows : {T : Type 0} (rows : List (List T)) → HasSameRows rows rows
 same_rows rows = record { more = omega arith; each = λ r. refl }
 
-pub grown_whole : (p r : Parts) → IsWhole p → HasSameRows p.asks.named r.asks.named → HasSameRows p.uses.rows r.uses.rows → HasMore p.marks.kept r.marks.kept → r.marks.work ≡ p.marks.work → length r.marks.kept ≤ length r.asks.named → length r.marks.kept ≤ length r.asks.lists → length r.marks.kept ≤ length r.uses.rows → IsWhole r
+pub grown_whole : (p r : Parts) → IsWhole p → HasSameRows p.asks.named r.asks.named → HasSameRows p.uses.rows r.uses.rows → HasMore p.marks.kept r.marks.kept
+    → r.marks.work ≡ p.marks.work → length r.marks.kept ≤ length r.asks.named → length r.marks.kept ≤ length r.asks.lists
+    → length r.marks.kept ≤ length r.uses.rows → IsWhole r
 grown_whole p r w asks uses kept work l1 l2 l3 = whole r (record {
   asks = l1;
   lists = l2;
   uses = l3;
-  asked_in = λ s lt. (let m = kept.more in let k = noted_row r.asks.named p.asks.named s (length p.marks.kept) (ap length (asks.each s)) (w.shaped.asked_in s) lt in omega arith);
+  asked_in = λ s lt. (let m = kept.more in let k = noted_row r.asks.named p.asks.named s (length p.marks.kept) (ap length (asks.each s)) (w.shaped.asked_in s)
+      lt in omega arith);
   used_in = λ s lt. (let m = kept.more in let o = ap length (uses.each s) in let k = w.shaped.used_in s (omega arith) in omega arith);
 }) (record {
-  asked_kept = λ s k e lt. kept.each (get_or (row r.asks.named s) k 0) ∙ ap (λ (ns : List ℕ). is_kept p.marks.kept (get_or ns k 0)) (asks.each s) ∙ w.asked_kept s k (sym (kept.each s) ∙ e) (subst (λ (ns : List ℕ). k < length ns) (asks.each s) lt);
-  vacant = λ s e non. (let v = w.vacant s (sym (kept.each s) ∙ e) (λ c. non (subst (λ ws. Contains ws s) (sym work) c)) in (asks.each s ∙ v.0, uses.each s ∙ v.1));
+  asked_kept = λ s k e lt. kept.each (get_or (row r.asks.named s) k 0) ∙ ap (λ (ns : List ℕ). is_kept p.marks.kept (get_or ns k 0)) (asks.each s)
+      ∙ w.asked_kept s k (sym (kept.each s) ∙ e) (subst (λ (ns : List ℕ). k < length ns) (asks.each s) lt);
+  vacant = λ s e non. (let v = w.vacant s (sym (kept.each s) ∙ e) (λ c. non (subst (λ ws. Contains ws s) (sym work) c)) in
+      (asks.each s ∙ v.0, uses.each s ∙ v.1));
   waits = λ s c. kept.each s ∙ w.waits s (subst (λ ws. Contains ws s) work c);
   apart = subst (λ ws. AllPairs (λ (a b : ℕ). a ≢ b) ws) (sym work) w.apart;
 })
@@ -145,8 +159,10 @@ same_whole p r w s = whole r (record {
   asks = (let a = ap length s.asks in let d = w.shaped.asks in let e = ap (λ m. length m.kept) s.marks in omega arith);
   lists = (let a = s.ask_lists in let d = w.shaped.lists in let e = ap (λ m. length m.kept) s.marks in omega arith);
   uses = (let a = ap length s.uses in let d = w.shaped.uses in let e = ap (λ m. length m.kept) s.marks in omega arith);
-  asked_in = λ t lt. (let e = ap (λ m. length m.kept) s.marks in let k = noted_row r.asks.named p.asks.named t (length p.marks.kept) (ap (λ rows. length (row rows t)) s.asks) (w.shaped.asked_in t) lt in omega arith);
-  used_in = λ t lt. (let e = ap (λ m. length m.kept) s.marks in let o = ap (λ rows. length (row rows t)) s.uses in let k = w.shaped.used_in t (omega arith) in omega arith);
+  asked_in = λ t lt. (let e = ap (λ m. length m.kept) s.marks in let k = noted_row r.asks.named p.asks.named t (length p.marks.kept)
+      (ap (λ rows. length (row rows t)) s.asks) (w.shaped.asked_in t) lt in omega arith);
+  used_in = λ t lt. (let e = ap (λ m. length m.kept) s.marks in let o = ap (λ rows. length (row rows t)) s.uses in let k = w.shaped.used_in t (omega arith) in
+      omega arith);
 }) (
     let P : List Bool → List ℕ → List (List ℕ) → List (List Use) → Type 0 = λ k ws a u. IsSound k ws a u in
     subst (λ m. P m.kept m.work r.asks.named r.uses.rows) (sym s.marks)
@@ -161,7 +177,9 @@ still_kept kept slot s lt e = by (eqb_tells s slot)
     by (inl q) = ap (λ n. is_kept (set kept slot true) n) q.1 ∙ get_or-set_same kept slot true false lt
     by (inr q) = get_or-set_other kept slot s true false q.1 ∙ e
 
-module _ (p q r : Parts) (slot : ℕ) (asks : List ℕ) (us : List Use) (w : IsWhole p) (idle : p.marks.work ≡ []) (inside : slot < length p.marks.kept) (asks_kept : All (λ s. is_kept p.marks.kept s ≡ true) asks) (f : Fills p q slot asks us) (linked : r.asks ≡ q.asks) (uses : r.uses ≡ q.uses) (kept : r.marks.kept ≡ set p.marks.kept slot true) (work : r.marks.work ≡ []) where
+module _ (p q r : Parts) (slot : ℕ) (asks : List ℕ) (us : List Use) (w : IsWhole p) (idle : p.marks.work ≡ []) (inside : slot < length p.marks.kept)
+    (asks_kept : All (λ s. is_kept p.marks.kept s ≡ true) asks) (f : Fills p q slot asks us) (linked : r.asks ≡ q.asks) (uses : r.uses ≡ q.uses)
+    (kept : r.marks.kept ≡ set p.marks.kept slot true) (work : r.marks.work ≡ []) where
   asked_fill : r.asks.named ≡ set p.asks.named slot asks
   asked_fill = ap (λ b. b.named) linked ∙ f.asks
 
@@ -197,7 +215,8 @@ module _ (p q r : Parts) (slot : ℕ) (asks : List ℕ) (us : List Use) (w : IsW
     where
       by : ((eqb s slot ≡ true) × (s ≡ slot)) ⊎ ((eqb s slot ≡ false) × (s ≢ slot)) → s < length r.marks.kept
       by (inl e) = let m = same_count in let g = e.1 in omega arith
-      by (inr e) = let m = same_count in let k = noted_row r.asks.named p.asks.named s (length p.marks.kept) (ap length (asked_still s e.1)) (w.shaped.asked_in s) lt in omega arith
+      by (inr e) = let m = same_count in let k = noted_row r.asks.named p.asks.named s (length p.marks.kept) (ap length (asked_still s e.1))
+          (w.shaped.asked_in s) lt in omega arith
 
   fill_used : (s : ℕ) → 0 < length (row r.uses.rows s) → s < length r.marks.kept
   fill_used s lt = by (eqb_tells s slot)
@@ -232,21 +251,28 @@ module _ (p q r : Parts) (slot : ℕ) (asks : List ℕ) (us : List Use) (w : IsW
       now : (s : ℕ) → is_kept p.marks.kept s ≡ true → is_kept r.marks.kept s ≡ true
       now s e = ap (λ ks. is_kept ks s) kept ∙ still_kept p.marks.kept slot s inside e
 
-      asked : (s k : ℕ) → is_kept r.marks.kept s ≡ true → k < length (row r.asks.named s) → ((eqb s slot ≡ true) × (s ≡ slot)) ⊎ ((eqb s slot ≡ false) × (s ≢ slot)) → is_kept r.marks.kept (get_or (row r.asks.named s) k 0) ≡ true
+      asked : (s k : ℕ) → is_kept r.marks.kept s ≡ true → k < length (row r.asks.named s)
+          → ((eqb s slot ≡ true) × (s ≡ slot)) ⊎ ((eqb s slot ≡ false) × (s ≢ slot)) → is_kept r.marks.kept (get_or (row r.asks.named s) k 0) ≡ true
       asked s k e lt (inl q) =
           let o : row r.asks.named s ≡ asks = ap (λ n. row r.asks.named n) q.1 ∙ asked_new in
           ap (λ (ns : List ℕ). is_kept r.marks.kept (get_or ns k 0)) o ∙ now (get_or asks k 0) (asks_kept k 0 (subst (λ (ns : List ℕ). k < length ns) o lt))
       asked s k e lt (inr q) =
           let o = asked_still s q.1 in
-          ap (λ (ns : List ℕ). is_kept r.marks.kept (get_or ns k 0)) o ∙ now (get_or (row p.asks.named s) k 0) (w.asked_kept s k (sym (kept_other s q.1) ∙ e) (subst (λ (ns : List ℕ). k < length ns) o lt))
+          ap (λ (ns : List ℕ). is_kept r.marks.kept (get_or ns k 0)) o
+          ∙ now (get_or (row p.asks.named s) k 0) (w.asked_kept s k (sym (kept_other s q.1) ∙ e) (subst (λ (ns : List ℕ). k < length ns) o lt))
 
-      vacant : (s : ℕ) → is_kept r.marks.kept s ≡ false → ((eqb s slot ≡ true) × (s ≡ slot)) ⊎ ((eqb s slot ≡ false) × (s ≢ slot)) → (row r.asks.named s ≡ []) × (row r.uses.rows s ≡ [])
-      vacant s e (inl q) = absurd (true≢false (sym (ap (λ n. is_kept r.marks.kept n) q.1 ∙ ap (λ ks. is_kept ks slot) kept ∙ get_or-set_same p.marks.kept slot true false inside) ∙ e))
+      vacant : (s : ℕ) → is_kept r.marks.kept s ≡ false → ((eqb s slot ≡ true) × (s ≡ slot)) ⊎ ((eqb s slot ≡ false) × (s ≢ slot))
+          → (row r.asks.named s ≡ []) × (row r.uses.rows s ≡ [])
+      vacant s e (inl q) =
+          absurd (true≢false (sym
+          (ap (λ n. is_kept r.marks.kept n) q.1 ∙ ap (λ ks. is_kept ks slot) kept ∙ get_or-set_same p.marks.kept slot true false inside) ∙ e))
       vacant s e (inr q) = let v = w.vacant s (sym (kept_other s q.1) ∙ e) (none_waited s) in (asked_still s q.1 ∙ v.0, uses_still s q.1 ∙ v.1)
 
   pub filled_whole : IsWhole r
   filled_whole = whole r filled_shaped filled_sound
 
 -- a row that was empty is so again
-pub undone : {X : Type 0} (before now then : List (List X)) (o : ℕ) (xs : List X) → row before o ≡ [] → now ≡ set before o xs → then ≡ set now o [] → then ≡ before
-undone {X} before now then o xs none e f = f ∙ ap (λ (rows : List (List X)). set rows o []) e ∙ set-set before o xs [] ∙ ap (λ (ys : List X). set before o ys) (sym none) ∙ set-get_or before o []
+pub undone : {X : Type 0} (before now then : List (List X)) (o : ℕ) (xs : List X) → row before o ≡ [] → now ≡ set before o xs → then ≡ set now o []
+    → then ≡ before
+undone {X} before now then o xs none e f = f ∙ ap (λ (rows : List (List X)). set rows o []) e ∙ set-set before o xs []
+    ∙ ap (λ (ys : List X). set before o ys) (sym none) ∙ set-get_or before o []

@@ -1,8 +1,10 @@
 -- The chains stay whole when one entry is linked or unlinked.
-use Rattle.std.proofs.Common.{◌≡◌, ◌≢◌, ◌⊎◌, inl, inr, true, false, eqb, cond, ℕ, zero, suc, ◌+◌, ◌-◌, ◌^◌, ◌<◌, ◌≤◌, List, [], ◌∷◌, ◌++◌, length, take, set, get_or, refl, sym, ◌∙◌, ap, subst, arith}
+use Rattle.std.proofs.Common.{◌≡◌, ◌≢◌, ◌⊎◌, inl, inr, true, false, eqb, cond, ℕ, zero, suc, ◌+◌, ◌-◌, ◌^◌, ◌<◌, ◌≤◌, List, [], ◌∷◌, ◌++◌, length, take, set}
+use Rattle.std.proofs.Common.{get_or, refl, sym, ◌∙◌, ap, subst, arith}
 use Rattle.std.proofs.lemmas.Bool.{cases_lt, cases_eq}
 use Rattle.std.proofs.lemmas.Bool.Decides.{eqb_tells}
-use Rattle.std.proofs.lemmas.List.{same_lists, length-map, map-set, get_or-map, get_or_past, get_or-set_same, get_or-set_other, take_at, get_or_push, get_or_default}
+use Rattle.std.proofs.lemmas.List.{same_lists, length-map, map-set, get_or-map, get_or_past, get_or-set_same, get_or-set_other, take_at, get_or_push}
+use Rattle.std.proofs.lemmas.List.{get_or_default}
 use Rattle.ksv_memo_links.specs.declared.blocks.Entry.{Entry}
 use Rattle.ksv_memo_links.specs.declared.blocks.Block.{Block}
 use Rattle.ksv_memo_links.specs.Shelved.{row, push_row, pop_row}
@@ -23,7 +25,8 @@ block-get a p (suc n) (suc i) lt = let e : p + 1 + i ≡ p + suc i = omega arith
 
 pub block-more : (a : List Entry) (p n : ℕ) → lists_in a p (suc n) ≡ lists_in a p n ++ (entry_at a (p + n)).list ∷ []
 block-more a p zero = let e : p ≡ p + 0 = omega arith in ap (λ q. (entry_at a q).list ∷ []) e
-block-more a p (suc n) = let e : p + 1 + n ≡ p + suc n = omega arith in ap (λ ns. (entry_at a p).list ∷ ns) (block-more a (p + 1) n ∙ ap (λ q. lists_in a (p + 1) n ++ (entry_at a q).list ∷ []) e)
+block-more a p (suc n) = let e : p + 1 + n ≡ p + suc n =
+    omega arith in ap (λ ns. (entry_at a p).list ∷ ns) (block-more a (p + 1) n ∙ ap (λ q. lists_in a (p + 1) n ++ (entry_at a q).list ∷ []) e)
 
 pub block-same : (a b : List Entry) (p n : ℕ) → ((q : ℕ) → p ≤ q → q < p + n → (entry_at b q).list ≡ (entry_at a q).list) → lists_in b p n ≡ lists_in a p n
 block-same a b p zero h = refl
@@ -51,10 +54,12 @@ pub named-same : (a b : List Entry) (B : List Block) → ((s p : ℕ) → IsLive
 named-same a b B h = same_lists (named_of b B) (named_of a B) (named-length b B ∙ sym (named-length a B)) (λ s d lt. by s d lt)
   where
     rows : (s : ℕ) → row (named_of b B) s ≡ row (named_of a B) s
-    rows s = named-row b B s ∙ block-same a b (block_at B s).begin (block_at B s).count (λ q le lt. h s q (record { from = le; until = lt })) ∙ sym (named-row a B s)
+    rows s = named-row b B s ∙ block-same a b (block_at B s).begin (block_at B s).count (λ q le lt. h s q (record { from = le; until = lt }))
+        ∙ sym (named-row a B s)
 
     by : (s : ℕ) (d : List ℕ) → s < length (named_of b B) → get_or (named_of b B) s d ≡ get_or (named_of a B) s d
-    by s d lt = get_or_default (named_of b B) s d [] lt ∙ rows s ∙ sym (get_or_default (named_of a B) s d [] (let m = named-length a B in let n = named-length b B in omega arith))
+    by s d lt = get_or_default (named_of b B) s d [] lt ∙ rows s
+        ∙ sym (get_or_default (named_of a B) s d [] (let m = named-length a B in let n = named-length b B in omega arith))
 
 -- what has a block is an owner
 pub owner-there : (B : List Block) (s p : ℕ) → IsLive B s p → s < length B
@@ -80,7 +85,8 @@ live-as B C t q e v =
     record { from = omega arith; until = omega arith }
 
 -- where the next entry of an owner goes, there is no entry of a block or a chain
-module _ (a : List Entry) (B : List Block) (f : List ℕ) (s bg k p : ℕ) (h : IsChained a B f) (count : k ≡ (block_at B s).count) (begin : 0 < k → bg ≡ (block_at B s).begin) (at : p ≡ bg + k) (free : IsFree B s p) (some : 0 < p) where
+module _ (a : List Entry) (B : List Block) (f : List ℕ) (s bg k p : ℕ) (h : IsChained a B f) (count : k ≡ (block_at B s).count)
+    (begin : 0 < k → bg ≡ (block_at B s).begin) (at : p ≡ bg + k) (free : IsFree B s p) (some : 0 < p) where
   pub not-live : (t : ℕ) → IsLive B t p → ⊥
   not-live t v = by (eqb_tells t s)
     where
@@ -93,7 +99,8 @@ module _ (a : List Entry) (B : List Block) (f : List ℕ) (s bg k p : ℕ) (h : 
           here_it w (inr le) = let x = w.from in let y = w.until in omega arith
 
   pub off-chain : (x i : ℕ) → i < naming (named_of a B) x → hop a (first_at f x) i ≢ p
-  off-chain x i lt e = not-live (entry_at a (hop a (first_at f x) i)).owner (subst (λ q. IsLive B (entry_at a (hop a (first_at f x) i)).owner q) e (h.live x i lt))
+  off-chain x i lt e = not-live (entry_at a (hop a (first_at f x) i)).owner
+      (subst (λ q. IsLive B (entry_at a (hop a (first_at f x) i)).owner q) e (h.live x i lt))
 
   pub first-other : (l : ℕ) → first_at f l ≢ p
   first-other l e = by (cases_lt 0 (naming (named_of a B) l))
@@ -115,7 +122,8 @@ first-inside a B f l h some = by (cases_lt 0 (naming (named_of a B) l))
         let w : first_at f l ≡ 0 = ap (λ i. hop a (first_at f l) i) (sym z) ∙ (h.chains l).ends in omega arith
 
 -- with more places the entries are as they were
-module _ (a b : List Entry) (B : List Block) (f : List ℕ) (h : IsChained a B f) (more : length a ≤ length b) (few : length b < 2 ^ 32) (each : (p : ℕ) → entry_at b p ≡ entry_at a p) where
+module _ (a b : List Entry) (B : List Block) (f : List ℕ) (h : IsChained a B f) (more : length a ≤ length b) (few : length b < 2 ^ 32)
+    (each : (p : ℕ) → entry_at b p ≡ entry_at a p) where
   pub named-still : named_of b B ≡ named_of a B
   named-still = named-same a b B (λ s p v. ap (λ (x : Entry). x.list) (each p))
 
@@ -139,7 +147,8 @@ module _ (a b : List Entry) (B : List Block) (f : List ℕ) (h : IsChained a B f
       let l = (entry_at a p).list in
       let lt = k.1 in
       let e : (entry_at b p).list ≡ (entry_at a p).list = ap (λ (x : Entry). x.list) (each p) in
-      subst (λ y. (i : ℕ) × (i < naming (named_of b B) y) × (hop b (first_at f y) i ≡ p)) (sym e) (k.0, (let m = tally_still (entry_at a p).list in omega arith), hop_still (entry_at a p).list k.0 (omega arith) ∙ k.2)
+      subst (λ y. (i : ℕ) × (i < naming (named_of b B) y) × (hop b (first_at f y) i ≡ p)) (sym e)
+      (k.0, (let m = tally_still (entry_at a p).list in omega arith), hop_still (entry_at a p).list k.0 (omega arith) ∙ k.2)
 
   live_still : (l i : ℕ) → i < naming (named_of b B) l → IsLive B (entry_at b (hop b (first_at f l) i)).owner (hop b (first_at f l) i)
   live_still l i lt =
@@ -150,7 +159,8 @@ module _ (a b : List Entry) (B : List Block) (f : List ℕ) (h : IsChained a B f
 
   pub chained-still : IsChained b B f
   chained-still = record {
-    chains = λ l. subst (λ n. IsChain b l (first_at f l) n) (sym (tally_still l)) (same-chain a b l (first_at f l) (naming (named_of a B) l) (h.chains l) (all_same l));
+    chains = λ l. subst (λ n. IsChain b l (first_at f l) n) (sym (tally_still l))
+        (same-chain a b l (first_at f l) (naming (named_of a B) l) (h.chains l) (all_same l));
     inside = λ s p v. (let k = h.inside s p v in omega arith);
     owner = λ s p v. ap (λ (x : Entry). x.owner) (each p) ∙ h.owner s p v;
     found = found_still;
@@ -159,7 +169,8 @@ module _ (a b : List Entry) (B : List Block) (f : List ℕ) (h : IsChained a B f
   }
 
 -- ---- one more entry of an owner
-module _ (a b : List Entry) (B : List Block) (f g : List ℕ) (s bg k p l : ℕ) (h : IsChained a B f) (s_in : s < length B) (count : k ≡ (block_at B s).count) (begin : 0 < k → bg ≡ (block_at B s).begin) (at : p ≡ bg + k) (free : IsFree B s p) (some : 0 < p) (p_in : p < length a) (u : Links a b f g p s l) where
+module _ (a b : List Entry) (B : List Block) (f g : List ℕ) (s bg k p l : ℕ) (h : IsChained a B f) (s_in : s < length B) (count : k ≡ (block_at B s).count)
+    (begin : 0 < k → bg ≡ (block_at B s).begin) (at : p ≡ bg + k) (free : IsFree B s p) (some : 0 < p) (p_in : p < length a) (u : Links a b f g p s l) where
   abbrev pub new : Block
   new = record { begin = bg; count = suc k }
 
@@ -273,7 +284,9 @@ module _ (a b : List Entry) (B : List Block) (f g : List ℕ) (s bg k p l : ℕ)
           some = λ i lt. (let e = hops i (omega arith) in let y = c.some i lt in omega arith);
           inside = λ i lt. (let e = hops i (omega arith) in let y = c.inside i lt in let m = u.places in omega arith);
           of = λ i lt. ap (λ q. (entry_at b q).list) (hops i (omega arith)) ∙ u.lists (hop a (first_at f x) i) (off x i lt) ∙ c.of i lt;
-          back = λ i lt. ap (λ q. (entry_at b q).before) (hops i (omega arith)) ∙ u.befores (hop a (first_at f x) i) (off x i lt) (first_of x (hop a (first_at f x) i) (c.some i lt) (c.of i lt) ne) ∙ c.back i lt ∙ sym (prev i (omega arith));
+          back = λ i lt. ap (λ q. (entry_at b q).before) (hops i (omega arith))
+              ∙ u.befores (hop a (first_at f x) i) (off x i lt) (first_of x (hop a (first_at f x) i) (c.some i lt) (c.of i lt) ne) ∙ c.back i lt
+              ∙ sym (prev i (omega arith));
           ends = hops (naming (named_of a B) x) (omega arith) ∙ c.ends;
         }
 
@@ -287,7 +300,8 @@ module _ (a b : List Entry) (B : List Block) (f g : List ℕ) (s bg k p l : ℕ)
   chains_now x = by (eqb_tells x l)
     where
       by : ((eqb x l ≡ true) × (x ≡ l)) ⊎ ((eqb x l ≡ false) × (x ≢ l)) → IsChain b x (first_at g x) (naming (named_of b now) x)
-      by (inl e) = subst (λ y. IsChain b y (first_at g y) (naming (named_of b now) y)) (sym e.1) (subst (λ n. IsChain b l (first_at g l) n) (sym tally_here) chain_here)
+      by (inl e) = subst (λ y. IsChain b y (first_at g y) (naming (named_of b now) y)) (sym e.1)
+          (subst (λ n. IsChain b l (first_at g l) n) (sym tally_here) chain_here)
       by (inr e) = subst (λ n. IsChain b x (first_at g x) n) (sym (tally_else x e.0)) (else-chain x e.1)
 
   inside_now : (t q : ℕ) → IsLive now t q → q < length b
@@ -330,7 +344,12 @@ module _ (a b : List Entry) (B : List Block) (f g : List ℕ) (s bg k p l : ℕ)
               found_as q l (same ∙ e.1) (suc k2.0, (let m = tally_here in omega arith), hop_here k2.0 (omega arith) ∙ k2.2)
           old (inr e) =
               let lt = was_found.1 in
-              found_as q (entry_at a q).list same (was_found.0, (let m = tally_else (entry_at a q).list e.0 in omega arith), hops (entry_at a q).list e.1 was_found.0 (omega arith) ∙ was_found.2)
+              found_as q (entry_at a q).list same (
+                was_found.0,
+                (let m = tally_else (entry_at a q).list e.0 in omega arith),
+                hops (entry_at a q).list e.1 was_found.0 (omega arith)
+                    ∙ was_found.2,
+              )
 
   abbrev Stands : ℕ → Type 0
   Stands q = IsLive now (entry_at b q).owner q
@@ -338,7 +357,8 @@ module _ (a b : List Entry) (B : List Block) (f g : List ℕ) (s bg k p l : ℕ)
   stood : (x i : ℕ) → i < naming (named_of a B) x → Stands (hop a (first_at f x) i)
   stood x i lt =
       let v = h.live x i lt in
-      subst (λ t. IsLive now t (hop a (first_at f x) i)) (sym (u.owners (hop a (first_at f x) i) (off x i lt))) (keeps (entry_at a (hop a (first_at f x) i)).owner (hop a (first_at f x) i) v)
+      subst (λ t. IsLive now t (hop a (first_at f x) i)) (sym (u.owners (hop a (first_at f x) i) (off x i lt)))
+      (keeps (entry_at a (hop a (first_at f x) i)).owner (hop a (first_at f x) i) v)
 
   live_here : (i : ℕ) → i < suc (naming (named_of a B) l) → Stands (hop b (first_at g l) i)
   live_here zero lt =
@@ -370,7 +390,8 @@ module _ (a b : List Entry) (B : List Block) (f g : List ℕ) (s bg k p l : ℕ)
   }
 
 -- ---- the last entry of an owner less
-module _ (a b : List Entry) (B : List Block) (f g : List ℕ) (s bg k p : ℕ) (h : IsChained a B f) (begin : bg ≡ (block_at B s).begin) (count : suc k ≡ (block_at B s).count) (at : p ≡ bg + k) (u : Unlinks a b f g p) where
+module _ (a b : List Entry) (B : List Block) (f g : List ℕ) (s bg k p : ℕ) (h : IsChained a B f) (begin : bg ≡ (block_at B s).begin)
+    (count : suc k ≡ (block_at B s).count) (at : p ≡ bg + k) (u : Unlinks a b f g p) where
   abbrev pub less : Block
   less = record { begin = bg; count = k }
 
@@ -525,10 +546,12 @@ module _ (a b : List Entry) (B : List Block) (f g : List ℕ) (s bg k p : ℕ) (
       by (inl e) = subst (λ y. IsChain b y (first_at g y) (naming (named_of b left) y)) (sym e.1) chain_cut
       by (inr e) =
           subst (λ m. IsChain b x (first_at g x) m) (sym (tally_others x e.0))
-          (subst (λ q. IsChain b x q (naming (named_of a B) x)) (sym (u.others x e.1)) (same-chain a b x (first_at f x) (naming (named_of a B) x) (h.chains x) (same_for x e.1)))
+          (subst (λ q. IsChain b x q (naming (named_of a B) x)) (sym (u.others x e.1))
+          (same-chain a b x (first_at f x) (naming (named_of a B) x) (h.chains x) (same_for x e.1)))
 
   found_left : (t q : ℕ) → IsLive left t q → (i : ℕ) × (i < naming (named_of b left) (entry_at b q).list) × (hop b (first_at g (entry_at b q).list) i ≡ q)
-  found_left t q v = subst (λ y. (i : ℕ) × (i < naming (named_of b left) y) × (hop b (first_at g y) i ≡ q)) (sym (u.named q)) (by (eqb_tells (entry_at a q).list l))
+  found_left t q v = subst (λ y. (i : ℕ) × (i < naming (named_of b left) y) × (hop b (first_at g y) i ≡ q)) (sym (u.named q))
+      (by (eqb_tells (entry_at a q).list l))
     where
       before : IsLive B t q × (q ≢ p)
       before = was_live t q v
@@ -536,7 +559,8 @@ module _ (a b : List Entry) (B : List Block) (f g : List ℕ) (s bg k p : ℕ) (
       was_found : (i : ℕ) × (i < naming (named_of a B) (entry_at a q).list) × (hop a (first_at f (entry_at a q).list) i ≡ q)
       was_found = h.found t q before.0
 
-      in_chain : (i : ℕ) → i < suc (naming (named_of b left) l) → hop a (first_at f l) i ≡ q → (i < i0) ⊎ (i0 ≤ i) → (j : ℕ) × (j < naming (named_of b left) l) × (hop b (first_at g l) j ≡ q)
+      in_chain : (i : ℕ) → i < suc (naming (named_of b left) l) → hop a (first_at f l) i ≡ q → (i < i0) ⊎ (i0 ≤ i)
+          → (j : ℕ) × (j < naming (named_of b left) l) × (hop b (first_at g l) j ≡ q)
       in_chain i lt e (inl il) =
           (i, (let z = i0_in in omega arith), hop-low a b f g l (naming (named_of b left) l) i0 chain_was (let z = i0_in in omega arith) taken i il ∙ e)
       in_chain zero lt e (inr il) =
@@ -546,29 +570,42 @@ module _ (a b : List Entry) (B : List Block) (f g : List ℕ) (s bg k p : ℕ) (
         where
           next_one : (suc i ≡ i0) ⊎ (suc i ≡ i0 → ⊥) → (j : ℕ) × (j < naming (named_of b left) l) × (hop b (first_at g l) j ≡ q)
           next_one (inl z) = absurd (before.1 (sym e ∙ ap (λ i. hop a (first_at f l) i) z ∙ stood_at))
-          next_one (inr z) =
-              (i, omega arith, hop-high a b f g l (naming (named_of b left) l) i0 chain_was (let z = i0_in in omega arith) taken i (omega arith) (omega arith) ∙ e)
+          next_one (inr z) = (
+            i,
+            omega arith,
+            hop-high a b f g l (naming (named_of b left) l) i0 chain_was (let z = i0_in in omega arith) taken i (omega arith) (omega arith)
+                ∙ e,
+          )
 
-      by : ((eqb (entry_at a q).list l ≡ true) × ((entry_at a q).list ≡ l)) ⊎ ((eqb (entry_at a q).list l ≡ false) × ((entry_at a q).list ≢ l)) → (i : ℕ) × (i < naming (named_of b left) (entry_at a q).list) × (hop b (first_at g (entry_at a q).list) i ≡ q)
+      by : ((eqb (entry_at a q).list l ≡ true) × ((entry_at a q).list ≡ l)) ⊎ ((eqb (entry_at a q).list l ≡ false) × ((entry_at a q).list ≢ l))
+          → (i : ℕ) × (i < naming (named_of b left) (entry_at a q).list) × (hop b (first_at g (entry_at a q).list) i ≡ q)
       by (inl e) =
           let k2 = subst (λ y. (i : ℕ) × (i < naming (named_of a B) y) × (hop a (first_at f y) i ≡ q)) e.1 was_found in
           let lt = k2.1 in
-          subst (λ y. (i : ℕ) × (i < naming (named_of b left) y) × (hop b (first_at g y) i ≡ q)) (sym e.1) (in_chain k2.0 (let m = tally_one in omega arith) k2.2 (cases_lt k2.0 i0))
+          subst (λ y. (i : ℕ) × (i < naming (named_of b left) y) × (hop b (first_at g y) i ≡ q)) (sym e.1)
+          (in_chain k2.0 (let m = tally_one in omega arith) k2.2 (cases_lt k2.0 i0))
       by (inr e) =
-          let lt = was_found.1 in
-          (was_found.0, (let m = tally_others (entry_at a q).list e.0 in omega arith), hops_left (entry_at a q).list was_found.0 e.1 (omega arith) ∙ was_found.2)
+          let lt = was_found.1 in (
+            was_found.0,
+            (let m = tally_others (entry_at a q).list e.0 in omega arith),
+            hops_left (entry_at a q).list was_found.0 e.1 (omega arith)
+                ∙ was_found.2,
+          )
 
   abbrev StandsLeft : ℕ → Type 0
   StandsLeft q = IsLive left (entry_at b q).owner q
 
   stood_left : (x i : ℕ) → i < naming (named_of a B) x → hop a (first_at f x) i ≢ p → StandsLeft (hop a (first_at f x) i)
-  stood_left x i lt np = subst (λ t. IsLive left t (hop a (first_at f x) i)) (sym (u.owner (hop a (first_at f x) i))) (live_left (entry_at a (hop a (first_at f x) i)).owner (hop a (first_at f x) i) (h.live x i lt) np)
+  stood_left x i lt np = subst (λ t. IsLive left t (hop a (first_at f x) i)) (sym (u.owner (hop a (first_at f x) i)))
+      (live_left (entry_at a (hop a (first_at f x) i)).owner (hop a (first_at f x) i) (h.live x i lt) np)
 
   live_cut : (i : ℕ) → i < naming (named_of b left) l → StandsLeft (hop b (first_at g l) i)
   live_cut i lt =
       let j = skip a b f g l (naming (named_of b left) l) i0 chain_was (let z = i0_in in omega arith) taken i lt in
       let ji = j.1 in
-      subst StandsLeft (sym j.3) (stood_left l j.0 (let m = tally_one in omega arith) (λ e. j.2 (apart a l (first_at f l) (suc (naming (named_of b left) l)) chain_was j.0 i0 j.1 i0_in (e ∙ sym stood_at))))
+      subst StandsLeft (sym j.3)
+      (stood_left l j.0 (let m = tally_one in omega arith)
+      (λ e. j.2 (apart a l (first_at f l) (suc (naming (named_of b left) l)) chain_was j.0 i0 j.1 i0_in (e ∙ sym stood_at))))
 
   live_all : (x i : ℕ) → i < naming (named_of b left) x → StandsLeft (hop b (first_at g x) i)
   live_all x i lt = by (eqb_tells x l)
@@ -619,7 +656,8 @@ module _ (a : List Entry) (B : List Block) (f : List ℕ) (s p : ℕ) (h : IsCha
       on : (entry_at a p).next ≡ hop a (first_at f (entry_at a p).list) (suc found_at.0)
       on = ap (λ q. (entry_at a q).next) (sym found_at.2)
 
-      by : (suc found_at.0 < naming (named_of a B) (entry_at a p).list) ⊎ (naming (named_of a B) (entry_at a p).list ≤ suc found_at.0) → (entry_at a p).next < length a
+      by : (suc found_at.0 < naming (named_of a B) (entry_at a p).list) ⊎ (naming (named_of a B) (entry_at a p).list ≤ suc found_at.0)
+          → (entry_at a p).next < length a
       by (inl lt) = let z = on in let y = chain_of.inside (suc found_at.0) lt in omega arith
       by (inr le) =
           let lt = found_at.1 in

@@ -1,6 +1,8 @@
 -- One more mark.
-use Rattle.std.proofs.Common.{◌≡◌, ◌≢◌, ◌⊎◌, inl, inr, Bool, true, false, eqb, ℕ, ◌<◌, ◌≤◌, List, [], ◌∷◌, ◌++◌, length, set, get_or, refl, sym, ◌∙◌, ap, subst, arith, Contains, true≢false}
-use Rattle.std.proofs.lemmas.List.{append-nil, length-set, get_or-set_same, get_or-set_other, length_push, get_or_append_left, get_or_push, set-get_or, set_past, get_or_past, get_or_default}
+use Rattle.std.proofs.Common.{◌≡◌, ◌≢◌, ◌⊎◌, inl, inr, Bool, true, false, eqb, ℕ, ◌<◌, ◌≤◌, List, [], ◌∷◌, ◌++◌, length, set, get_or, refl, sym, ◌∙◌, ap, subst}
+use Rattle.std.proofs.Common.{arith, Contains, true≢false}
+use Rattle.std.proofs.lemmas.List.{append-nil, length-set, get_or-set_same, get_or-set_other, length_push, get_or_append_left, get_or_push, set-get_or}
+use Rattle.std.proofs.lemmas.List.{set_past, get_or_past, get_or_default}
 use Rattle.std.proofs.lemmas.List.Elements.{Contains-push, Contains-append_left}
 use Rattle.std.proofs.lemmas.List.Quantifiers.{all_pairs_push}
 use Rattle.std.proofs.lemmas.Bool.{cases_lt, cases_Bool}
@@ -46,13 +48,15 @@ marked-grows kept work s = by (cases_Bool (is_kept kept s))
     by (inl e) = (s ∷ [], marked_yes kept work s e)
     by (inr e) = ([], marked_no kept work s e ∙ sym (append-nil work))
 
-mark-new : (first : List Bool) (why : ℕ → Type 0) (kept : List Bool) (work : List ℕ) (s : ℕ) → IsMarking first why kept work → is_kept kept s ≡ true → why s → IsMarking first why (set kept s false) (work ++ s ∷ [])
+mark-new : (first : List Bool) (why : ℕ → Type 0) (kept : List Bool) (work : List ℕ) (s : ℕ) → IsMarking first why kept work → is_kept kept s ≡ true → why s
+    → IsMarking first why (set kept s false) (work ++ s ∷ [])
 mark-new first why kept work s h e w = record {
   same_length = length-set kept s false ∙ h.same_length;
   less = λ t k. h.less t (kept-fewer kept s t k);
   gone = λ j lt. gone j (cases_lt j (length work)) lt;
   out = λ t k l. out t k l (eqb_tells t s);
-  apart = all_pairs_push (λ a b. a ≢ b) work s h.apart (λ k d lt q. true≢false (sym e ∙ ap (λ n. is_kept kept n) (sym q ∙ get_or_default work k d 0 lt) ∙ (h.gone k lt).1));
+  apart = all_pairs_push (λ a b. a ≢ b) work s h.apart
+      (λ k d lt q. true≢false (sym e ∙ ap (λ n. is_kept kept n) (sym q ∙ get_or_default work k d 0 lt) ∙ (h.gone k lt).1));
 }
   where
     P : ℕ → Type 0
@@ -67,11 +71,13 @@ mark-new first why kept work s h e w = record {
         let last : length work ≡ j = omega arith in
         subst P (sym (get_or_push work s 0 j last)) (h.less s e, kept-marked kept s, w)
 
-    out : (t : ℕ) → is_kept first t ≡ true → is_kept (set kept s false) t ≡ false → ((eqb t s ≡ true) × (t ≡ s)) ⊎ ((eqb t s ≡ false) × (t ≢ s)) → Contains (work ++ s ∷ []) t
+    out : (t : ℕ) → is_kept first t ≡ true → is_kept (set kept s false) t ≡ false → ((eqb t s ≡ true) × (t ≡ s)) ⊎ ((eqb t s ≡ false) × (t ≢ s))
+        → Contains (work ++ s ∷ []) t
     out t k l (inl q) = subst (Contains (work ++ s ∷ [])) (sym q.1) (Contains-push work s)
     out t k l (inr q) = Contains-append_left work (s ∷ []) t (h.out t k (sym (get_or-set_other kept s t false false q.1) ∙ l))
 
-pub mark-step : (first : List Bool) (why : ℕ → Type 0) (kept : List Bool) (work : List ℕ) (s : ℕ) → IsMarking first why kept work → (is_kept kept s ≡ true → why s) → IsMarking first why (set kept s false) (marked_work kept work s)
+pub mark-step : (first : List Bool) (why : ℕ → Type 0) (kept : List Bool) (work : List ℕ) (s : ℕ) → IsMarking first why kept work
+    → (is_kept kept s ≡ true → why s) → IsMarking first why (set kept s false) (marked_work kept work s)
 mark-step first why kept work s h w = by (cases_Bool (is_kept kept s))
   where
     P : List Bool → List ℕ → Type 0

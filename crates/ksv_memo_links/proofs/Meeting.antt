@@ -10,9 +10,11 @@ use Rattle.ksv_memo_links.specs.Touching.{pages_in, ends_in}
 use Rattle.ksv_memo_links.specs.Placed.{IsMet, lists_of_uses, list_of_page, list_of_end}
 use Rattle.ksv_memo_links.proofs.Edits.{row_set, row_other}
 
-pub met-put : (rows then : List (List Use)) (named now : List (List ℕ)) (lists lists2 : List (List Item)) (slot : ℕ) (us : List Use) → IsMet rows named lists → now ≡ set named slot (lists_of_uses us) → length lists2 < 2 ^ 32 → slot < length rows → then ≡ set rows slot us → IsMet then now lists2
+pub met-put : (rows then : List (List Use)) (named now : List (List ℕ)) (lists lists2 : List (List Item)) (slot : ℕ) (us : List Use) → IsMet rows named lists
+    → now ≡ set named slot (lists_of_uses us) → length lists2 < 2 ^ 32 → slot < length rows → then ≡ set rows slot us → IsMet then now lists2
 met-put rows then named now lists lists2 slot us h e fits lt f = record {
-  wide = (let a = ap (λ (rs : List (List Use)). length rs) f in let b = length-set rows slot us in let c = ap (λ (ns : List (List ℕ)). length ns) e in let d = length-set named slot (lists_of_uses us) in let w = h.wide in omega arith);
+  wide = (let a = ap (λ (rs : List (List Use)). length rs) f in let b = length-set rows slot us in let c = ap (λ (ns : List (List ℕ)). length ns) e in let d =
+      length-set named slot (lists_of_uses us) in let w = h.wide in omega arith);
   each = λ s. by s (eqb_tells s slot);
   fits = fits;
 }
@@ -26,7 +28,8 @@ met-put rows then named now lists lists2 slot us h e fits lt f = record {
         ∙ ap lists_of_uses (sym (ap (λ (rs : List (List Use)). row rs s) f ∙ row_other rows slot s us q.1))
 
 -- how many of the lists of uses are those of pages
-pub pages-among : (us : List Use) (end : Option ℕ) (n : ℕ) → option_to_list end ≡ ends_in us → n ≡ length (lists_of_uses us) → n - length (option_to_list end) ≡ length (pages_in us)
+pub pages-among : (us : List Use) (end : Option ℕ) (n : ℕ) → option_to_list end ≡ ends_in us → n ≡ length (lists_of_uses us)
+    → n - length (option_to_list end) ≡ length (pages_in us)
 pages-among us end n e c =
     let a = length-append (map list_of_page (pages_in us)) (map list_of_end (ends_in us)) in
     let b = length-map (pages_in us) list_of_page in

@@ -23,4 +23,5 @@ pub not_later : (xs ys : List ℕ) (x : ℕ) → AllPairs (λ (a b : ℕ). a ≢
 not_later xs ys x h k =
     let n = length-append xs (x ∷ ys) in
     let lt = k.1 in
-    h (length xs) (length xs + suc k.0) x (omega arith) (omega arith) (get_or_at xs x ys x (length xs) refl ∙ sym k.2 ∙ sym (get_or-append-add xs (x ∷ ys) (suc k.0) x))
+    h (length xs) (length xs + suc k.0) x (omega arith) (omega arith)
+    (get_or_at xs x ys x (length xs) refl ∙ sym k.2 ∙ sym (get_or-append-add xs (x ∷ ys) (suc k.0) x))

@@ -1,5 +1,6 @@
 -- Marks upon marks.
-use Rattle.std.proofs.Common.{◌≡◌, ◌≢◌, ◌⊎◌, inl, inr, Bool, true, false, eqb, ℕ, ◌+◌, ◌<◌, ◌≤◌, List, [], ◌++◌, length, set, sym, ◌∙◌, ap, subst, arith, append_assoc}
+use Rattle.std.proofs.Common.{◌≡◌, ◌≢◌, ◌⊎◌, inl, inr, Bool, true, false, eqb, ℕ, ◌+◌, ◌<◌, ◌≤◌, List, [], ◌++◌, length, set, sym, ◌∙◌, ap, subst, arith}
+use Rattle.std.proofs.Common.{append_assoc}
 use Rattle.std.proofs.lemmas.List.{length-set, append-nil}
 use Rattle.std.proofs.lemmas.Bool.Decides.{eqb_tells}
 use Rattle.ksv_bytes.specs.declared.uses.Use.{Use}
@@ -40,12 +41,15 @@ why-back p q first x P s h =
     let F : List (List ℕ) → List (List Use) → Type 0 = λ asked uses. P (Reaches asked (IsHit x first uses)) in
     subst (λ notes. F notes p.uses.rows) s.asks (subst (F q.asks.named) s.uses h)
 
-pub more-trans : (p q r : Parts) (P Q : List Bool → Change → Type 0) → MarksMore p q P → MarksMore q r Q → ((first : List Bool) (x : Change) → P first x → IsMarking first (Why p first x) q.marks.kept q.marks.work → Q first x) → MarksMore p r P
+pub more-trans : (p q r : Parts) (P Q : List Bool → Change → Type 0) → MarksMore p q P → MarksMore q r Q
+    → ((first : List Bool) (x : Change) → P first x → IsMarking first (Why p first x) q.marks.kept q.marks.work → Q first x) → MarksMore p r P
 more-trans p q r P Q h k f = record {
   same = same-trans p q r h.same k.same;
   same_length = k.same_length ∙ h.same_length;
   fewer = λ s e. h.fewer s (k.fewer s e);
-  marking = λ first x w m. (let n = h.marking first x w m in why-back p q first x (λ why. IsMarking first why r.marks.kept r.marks.work) h.same (k.marking first x (f first x w n) (why-along p q first x (λ why. IsMarking first why q.marks.kept q.marks.work) h.same n)));
+  marking = λ first x w m.
+      (let n = h.marking first x w m in why-back p q first x (λ why. IsMarking first why r.marks.kept r.marks.work) h.same
+      (k.marking first x (f first x w n) (why-along p q first x (λ why. IsMarking first why q.marks.kept q.marks.work) h.same n)));
   grows = (h.grows.0 ++ k.grows.0, k.grows.1 ∙ ap (λ (ws : List ℕ). ws ++ k.grows.0) h.grows.1 ∙ append_assoc p.marks.work h.grows.0 k.grows.0);
   least = λ from c. k.least from (h.least from c);
   rises = let a = h.rises in let b = k.rises in omega arith;
@@ -59,19 +63,23 @@ pub record MarksOne (p q : Parts) (s : ℕ) : Type 0 where
   pub least : (from : ℕ) → IsCounted from p.marks → IsCounted from q.marks
   pub rises : looks p ≤ looks q
 
-pub one-mark : (p q : Parts) (P : List Bool → Change → Type 0) (s : ℕ) → MarksOne p q s → ((first : List Bool) (x : Change) → P first x → is_kept first s ≡ true → Why p first x s) → MarksMore p q P
+pub one-mark : (p q : Parts) (P : List Bool → Change → Type 0) (s : ℕ) → MarksOne p q s
+    → ((first : List Bool) (x : Change) → P first x → is_kept first s ≡ true → Why p first x s) → MarksMore p q P
 one-mark p q P s h why = record {
   same = h.same;
   same_length = ap (λ (bs : List Bool). length bs) h.kept ∙ length-set p.marks.kept s false;
   fewer = λ t e. kept-fewer p.marks.kept s t (ap (λ (bs : List Bool). is_kept bs t) (sym h.kept) ∙ e);
   marking = λ first x w m. (let F : List Bool → List ℕ → Type 0 = λ ks ws. IsMarking first (Why p first x) ks ws in
-      subst (λ ks. F ks q.marks.work) (sym h.kept) (subst (F (set p.marks.kept s false)) (sym h.work) (mark-step first (Why p first x) p.marks.kept p.marks.work s m (λ e. why first x w (m.less s e)))));
+      subst (λ ks. F ks q.marks.work) (sym h.kept)
+      (subst (F (set p.marks.kept s false)) (sym h.work)
+      (mark-step first (Why p first x) p.marks.kept p.marks.work s m (λ e. why first x w (m.less s e)))));
   grows = let g = marked-grows p.marks.kept p.marks.work s in (g.0, h.work ∙ g.1);
   least = h.least;
   rises = h.rises;
 }
 
-pub no-mark : (p q : Parts) (P : List Bool → Change → Type 0) → SameLinks p q → q.marks.kept ≡ p.marks.kept → q.marks.work ≡ p.marks.work → ((from : ℕ) → IsCounted from p.marks → IsCounted from q.marks) → looks p ≤ looks q → MarksMore p q P
+pub no-mark : (p q : Parts) (P : List Bool → Change → Type 0) → SameLinks p q → q.marks.kept ≡ p.marks.kept → q.marks.work ≡ p.marks.work
+    → ((from : ℕ) → IsCounted from p.marks → IsCounted from q.marks) → looks p ≤ looks q → MarksMore p q P
 no-mark p q P s e f least rises = record {
   same = s;
   same_length = ap (λ (bs : List Bool). length bs) e;

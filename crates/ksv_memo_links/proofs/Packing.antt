@@ -13,7 +13,8 @@ pub record IsCopied (from to : List (List ℕ)) (o : ℕ) : Type 0 where
   pub done : (t : ℕ) → t < o → row to t ≡ row from t
   pub none : (t : ℕ) → o ≤ t → row to t ≡ []
 
-pub copied-more : (from to then : List (List ℕ)) (o : ℕ) (xs : List ℕ) → IsCopied from to o → o < length from → xs ≡ row from o → then ≡ set to o xs → IsCopied from then (o + 1)
+pub copied-more : (from to then : List (List ℕ)) (o : ℕ) (xs : List ℕ) → IsCopied from to o → o < length from → xs ≡ row from o → then ≡ set to o xs
+    → IsCopied from then (o + 1)
 copied-more from to then o xs h lt e f = record {
   size = ap (λ (rows : List (List ℕ)). length rows) f ∙ length-set to o xs ∙ h.size;
   done = λ t l. done t l (eqb_tells t o);
@@ -21,14 +22,17 @@ copied-more from to then o xs h lt e f = record {
 }
   where
     done : (t : ℕ) → t < o + 1 → ((eqb t o ≡ true) × (t ≡ o)) ⊎ ((eqb t o ≡ false) × (t ≢ o)) → row then t ≡ row from t
-    done t l (inl y) = ap (λ n. row then n) y.1 ∙ ap (λ (rows : List (List ℕ)). row rows o) f ∙ row_set to o xs (let n = h.size in omega arith) ∙ e ∙ sym (ap (λ n. row from n) y.1)
+    done t l (inl y) = ap (λ n. row then n) y.1 ∙ ap (λ (rows : List (List ℕ)). row rows o) f ∙ row_set to o xs (let n = h.size in omega arith) ∙ e
+        ∙ sym (ap (λ n. row from n) y.1)
     done t l (inr y) = ap (λ (rows : List (List ℕ)). row rows t) f ∙ row_other to o t xs y.1 ∙ h.done t (let ne = y.1 in omega arith)
 
 pub copied-all : (from to : List (List ℕ)) (o : ℕ) → IsCopied from to o → length from ≤ o → to ≡ from
-copied-all from to o h le = same_lists to from h.size (λ t d lt. get_or_default to t d [] lt ∙ h.done t (let n = h.size in omega arith) ∙ sym (get_or_default from t d [] (let n = h.size in omega arith)))
+copied-all from to o h le = same_lists to from h.size
+    (λ t d lt. get_or_default to t d [] lt ∙ h.done t (let n = h.size in omega arith) ∙ sym (get_or_default from t d [] (let n = h.size in omega arith)))
 
 -- what is named is a list that is there
-pub list-there : (lists : List (List Item)) (named : List (List ℕ)) (s : ℕ) → IsListed lists named → (k d : ℕ) → k < length (row named s) → get_or (row named s) k d < length lists
+pub list-there : (lists : List (List Item)) (named : List (List ℕ)) (s : ℕ) → IsListed lists named → (k d : ℕ) → k < length (row named s)
+    → get_or (row named s) k d < length lists
 list-there lists named s h k d lt =
     let f = h.found s k lt in
     let there = row_there lists (get_or (row named s) k 0) f.0 f.1 in

@@ -1,7 +1,9 @@
 -- More rows at the end, which are empty.
-use Rattle.std.proofs.Common.{◌≡◌, ◌⊎◌, inl, inr, Bool, false, cond, ℕ, zero, suc, ◌-◌, ◌<◌, ◌≤◌, List, [], ◌++◌, length, map, get_or, replicate, count_by, refl, sym, ◌∙◌, ap, subst, arith}
+use Rattle.std.proofs.Common.{◌≡◌, ◌⊎◌, inl, inr, Bool, false, cond, ℕ, zero, suc, ◌-◌, ◌<◌, ◌≤◌, List, [], ◌++◌, length, map, get_or, replicate, count_by}
+use Rattle.std.proofs.Common.{refl, sym, ◌∙◌, ap, subst, arith}
 use Rattle.std.proofs.lemmas.Bool.{cases_lt}
-use Rattle.std.proofs.lemmas.List.{length-append, length-map, length-replicate, get_or_append_left, get_or-append_right, get_or-replicate, get_or_past, get_or-map}
+use Rattle.std.proofs.lemmas.List.{length-append, length-map, length-replicate, get_or_append_left, get_or-append_right, get_or-replicate, get_or_past}
+use Rattle.std.proofs.lemmas.List.{get_or-map}
 use Rattle.std.proofs.lemmas.List.Sums.{sum_by-append, sum_by-cons}
 use Rattle.ksv_memo_links.specs.Shelved.{row, HasSameRows}
 use Rattle.ksv_memo_links.specs.Marking.{HasMore}
@@ -16,7 +18,8 @@ padded {X} xs n r d = by (cases_lt r (length xs))
 
     by : (r < length xs) ⊎ (length xs ≤ r) → get_or (xs ++ replicate n d) r d ≡ get_or xs r d
     by (inl lt) = get_or_append_left xs (replicate n d) d r lt
-    by (inr le) = get_or-append_right xs (replicate n d) (length xs) r d refl le ∙ none (r - length xs) (cases_lt (r - length xs) n) ∙ sym (get_or_past xs r d le)
+    by (inr le) = get_or-append_right xs (replicate n d) (length xs) r d refl le ∙ none (r - length xs) (cases_lt (r - length xs) n)
+        ∙ sym (get_or_past xs r d le)
 
 -- a row, where what is found where there is nothing has no items
 row_map : {V X : Type 0} (f : V → List X) (d : V) → f d ≡ [] → (rows : List V) (r : ℕ) → row (map f rows) r ≡ f (get_or rows r d)
@@ -26,7 +29,8 @@ row_map {V} {X} f d none rows r = by (cases_lt r (length rows))
     by (inl lt) = get_or-map f rows r d [] lt
     by (inr le) = get_or_past (map f rows) r [] (let n = length-map rows f in omega arith) ∙ sym (ap f (get_or_past rows r d le) ∙ none)
 
-pub rows_more : {V X : Type 0} (f : V → List X) (d : V) → f d ≡ [] → (seen : List (List X)) (rows : List V) (n : ℕ) → map f rows ≡ seen → HasSameRows seen (map f (rows ++ replicate n d))
+pub rows_more : {V X : Type 0} (f : V → List X) (d : V) → f d ≡ [] → (seen : List (List X)) (rows : List V) (n : ℕ) → map f rows ≡ seen
+    → HasSameRows seen (map f (rows ++ replicate n d))
 rows_more {V} {X} f d none seen rows n same = subst (λ (xs : List (List X)). HasSameRows xs (map f (rows ++ replicate n d))) same (record {
   more = (let a = length-map rows f in let b = length-map (rows ++ replicate n d) f in let c = length-append rows (replicate n d) in omega arith);
   each = λ r. row_map f d none (rows ++ replicate n d) r ∙ ap f (padded rows n r d) ∙ sym (row_map f d none rows r);

@@ -1,5 +1,6 @@
 -- The users of marked slots, one slot upon another.
-use Rattle.std.proofs.Common.{◌≡◌, ◌≢◌, ◌⊎◌, inl, inr, Bool, true, false, eqb, ℕ, ◌+◌, ◌*◌, ◌<◌, ◌≤◌, List, ◌++◌, length, take, get_or, refl, sym, ◌∙◌, ap, subst, arith}
+use Rattle.std.proofs.Common.{◌≡◌, ◌≢◌, ◌⊎◌, inl, inr, Bool, true, false, eqb, ℕ, ◌+◌, ◌*◌, ◌<◌, ◌≤◌, List, ◌++◌, length, take, get_or, refl, sym, ◌∙◌, ap}
+use Rattle.std.proofs.Common.{subst, arith}
 use Rattle.std.proofs.lemmas.List.{length-append, get_or_append_left, take-append-le, get_or_read}
 use Rattle.std.proofs.lemmas.List.Sums.{sum_by_more}
 use Rattle.std.proofs.lemmas.Bool.Decides.{eqb_tells}
@@ -16,7 +17,8 @@ use Rattle.ksv_memo_links.proofs.Hits.{Peeks, peek-more, user-why}
 
 pub users-none : (p : Parts) (slot : ℕ) → HitsUsers p p slot 0 0
 users-none p slot = record {
-  more = no-mark p p (λ first x. Why p first x slot) (record { asks = refl; ask_lists = refl; uses = refl; use_lists = refl }) refl refl (λ from c. c) (omega arith);
+  more = no-mark p p (λ first x. Why p first x slot) (record { asks = refl; ask_lists = refl; uses = refl; use_lists = refl }) refl refl (λ from c. c)
+      (omega arith);
   out = λ s lt. absurd (omega arith);
   within = omega arith;
   looks = omega arith;
@@ -24,10 +26,12 @@ users-none p slot = record {
 
 -- the users of a slot are those that asked it still
 asked-along : (p q : Parts) → IsListed p.asks.lists p.asks.named → SameLinks p q → IsListed q.asks.lists q.asks.named
-asked-along p q h s = subst (λ (lists : List (List Item)). IsListed lists q.asks.named) (sym s.ask_lists) (subst (λ (asked : List (List ℕ)). IsListed p.asks.lists asked) (sym s.asks) h)
+asked-along p q h s = subst (λ (lists : List (List Item)). IsListed lists q.asks.named) (sym s.ask_lists)
+    (subst (λ (asked : List (List ℕ)). IsListed p.asks.lists asked) (sym s.asks) h)
 
 -- a user is one of the slots
-pub user-there : (p : Parts) (slot i : ℕ) → IsShaped p → IsListed p.asks.lists p.asks.named → i < length (row p.asks.lists slot) → (item_at p.asks.lists slot i).owner < length p.marks.kept
+pub user-there : (p : Parts) (slot i : ℕ) → IsShaped p → IsListed p.asks.lists p.asks.named → i < length (row p.asks.lists slot)
+    → (item_at p.asks.lists slot i).owner < length p.marks.kept
 user-there p slot i w h lt =
     let k = h.owners slot i lt in
     let some = k.1 in
@@ -44,12 +48,18 @@ users-first p p1 slot k =
       looks = let len = ap (λ (ws : List ℕ). length ws) k.work in let b = k.looks in omega arith;
     }
 
-pub users-more : (p q q1 r : Parts) (slot i user : ℕ) → HitsUsers p q slot i 1 → Peeks q q1 → IsListed p.asks.lists p.asks.named → i < length (row p.asks.lists slot) → user ≡ (item_at p.asks.lists slot i).owner → MarksOne q1 r user → looks r + 2 * length q1.marks.work ≤ looks q1 + 1 + 2 * length r.marks.work → HitsUsers p r slot (i + 1) 1
+pub users-more : (p q q1 r : Parts) (slot i user : ℕ) → HitsUsers p q slot i 1 → Peeks q q1 → IsListed p.asks.lists p.asks.named
+    → i < length (row p.asks.lists slot) → user ≡ (item_at p.asks.lists slot i).owner → MarksOne q1 r user
+    → looks r + 2 * length q1.marks.work ≤ looks q1 + 1 + 2 * length r.marks.work → HitsUsers p r slot (i + 1) 1
 users-more p q q1 r slot i user h k l lt e one few = record {
   more = more-trans p q1 r (λ first x. Why p first x slot) (λ first x. Why q first x slot) to_q1
-      (one-mark q1 r (λ first x. Why q first x slot) user one (λ first x w f. why-along q q1 first x (λ why. why user) k.same (let P : ℕ → Type 0 = λ s. Why q first x s in subst P now (user-why q slot i (asked-along p q l h.more.same) there first x w))))
+      (one-mark q1 r (λ first x. Why q first x slot) user one
+      (λ first x w f. why-along q q1 first x (λ why. why user) k.same
+      (let P : ℕ → Type 0 = λ s. Why q first x s in subst P now (user-why q slot i (asked-along p q l h.more.same) there first x w))))
       (λ first x w m. why-along p q first x (λ why. why slot) h.more.same w);
-  out = below-more (λ j. is_kept r.marks.kept (item_at p.asks.lists slot j).owner ≡ false) i (λ j lj. stays-out q.marks.kept r.marks.kept (item_at p.asks.lists slot j).owner fewer (h.out j lj)) (ap (λ s. is_kept r.marks.kept s) (sym e) ∙ one-out q1 r user one);
+  out = below-more (λ j. is_kept r.marks.kept (item_at p.asks.lists slot j).owner ≡ false) i
+      (λ j lj. stays-out q.marks.kept r.marks.kept (item_at p.asks.lists slot j).owner fewer (h.out j lj))
+      (ap (λ s. is_kept r.marks.kept s) (sym e) ∙ one-out q1 r user one);
   within = omega arith;
   looks = let len = ap (λ (ws : List ℕ). length ws) k.work in let a = h.looks in let b = k.looks in omega arith;
 }
@@ -70,7 +80,8 @@ users-more p q q1 r slot i user h k l lt e one few = record {
     fewer s f = ap (λ (ks : List Bool). is_kept ks s) (sym k.kept) ∙ marks.fewer s f
 
 -- there is no user more, which took no look
-pub users-end : (p q q1 : Parts) (slot i : ℕ) → HitsUsers p q slot i 1 → Peeks q q1 → looks q1 ≡ looks q → length (row p.asks.lists slot) ≤ i → HitsUsers p q1 slot (length (row p.asks.lists slot)) 1
+pub users-end : (p q q1 : Parts) (slot i : ℕ) → HitsUsers p q slot i 1 → Peeks q q1 → looks q1 ≡ looks q → length (row p.asks.lists slot) ≤ i
+    → HitsUsers p q1 slot (length (row p.asks.lists slot)) 1
 users-end p q q1 slot i h k idle le =
     let w = h.within in
     let same : i ≡ length (row p.asks.lists slot) = omega arith in
@@ -97,16 +108,19 @@ spread-end p q q1 i h k le =
     let c : Spreads p q1 i 1 = record {
       more = peek-more p q q1 (λ first x. Unit {0}) h.more k;
       within = omega arith;
-      out = λ j l lt. (let F : List Bool → List ℕ → Type 0 = λ ks ws. l < length (row p.asks.lists (get_or ws j 0)) → is_kept ks (item_at p.asks.lists (get_or ws j 0) l).owner ≡ false in
+      out = λ j l lt. (let F : List Bool → List ℕ → Type 0 = λ ks ws. l < length (row p.asks.lists (get_or ws j 0))
+          → is_kept ks (item_at p.asks.lists (get_or ws j 0) l).owner ≡ false in
           subst (λ ks. F ks q1.marks.work) (sym k.kept) (subst (F q.marks.kept) (sym k.work) (h.out j l lt)));
       looks = let x = h.looks in let y = k.looks in let z = ap (λ (ws : List ℕ). lengths p.asks.lists (take i ws)) k.work in omega arith;
     } in
     let P : ℕ → Type 0 = λ n. Spreads p q1 n 1 in
     subst P same c
 
-pub spread-more : (p q q1 r : Parts) (i slot : ℕ) → Spreads p q i 0 → Peeks q q1 → i < length q.marks.work → slot ≡ get_or q.marks.work i slot → HitsUsers q1 r slot (length (row q1.asks.lists slot)) 1 → Spreads p r (i + 1) 0
+pub spread-more : (p q q1 r : Parts) (i slot : ℕ) → Spreads p q i 0 → Peeks q q1 → i < length q.marks.work → slot ≡ get_or q.marks.work i slot
+    → HitsUsers q1 r slot (length (row q1.asks.lists slot)) 1 → Spreads p r (i + 1) 0
 spread-more p q q1 r i slot h k lt is u = record {
-  more = more-trans p q1 r (λ first x. Unit {0}) (λ first x. Why q1 first x slot) to_q1 u.more (λ first x w m. why-along p q1 first x (λ why. why slot) to_q1.same (let P : ℕ → Type 0 = λ s. Why p first x s in subst P there (m.gone i lt1).2));
+  more = more-trans p q1 r (λ first x. Unit {0}) (λ first x. Why q1 first x slot) to_q1 u.more
+      (λ first x w m. why-along p q1 first x (λ why. why slot) to_q1.same (let P : ℕ → Type 0 = λ s. Why p first x s in subst P there (m.gone i lt1).2));
   within = let n = ap (λ (ws : List ℕ). length ws) grown in let l = length-append q.marks.work u.more.grows.0 in omega arith;
   out = λ j l lt2. out j l lt2 (eqb_tells j i);
   looks =
@@ -134,13 +148,17 @@ spread-more p q q1 r i slot h k lt is u = record {
     early j l = ap (λ (ws : List ℕ). get_or ws j 0) grown ∙ get_or_append_left q.marks.work u.more.grows.0 0 j l
 
     sums : lengths p.asks.lists (take (i + 1) r.marks.work) ≡ lengths p.asks.lists (take i q.marks.work) + length (row p.asks.lists slot)
-    sums = ap (λ (ws : List ℕ). lengths p.asks.lists (take (i + 1) ws)) grown ∙ ap (λ (ws : List ℕ). lengths p.asks.lists ws) (take-append-le (i + 1) q.marks.work u.more.grows.0 (omega arith)) ∙ sum_by_more (λ s. length (row p.asks.lists s)) q.marks.work i 0 lt ∙ ap (λ s. lengths p.asks.lists (take i q.marks.work) + length (row p.asks.lists s)) at_i
+    sums = ap (λ (ws : List ℕ). lengths p.asks.lists (take (i + 1) ws)) grown
+        ∙ ap (λ (ws : List ℕ). lengths p.asks.lists ws) (take-append-le (i + 1) q.marks.work u.more.grows.0 (omega arith))
+        ∙ sum_by_more (λ s. length (row p.asks.lists s)) q.marks.work i 0 lt
+        ∙ ap (λ s. lengths p.asks.lists (take i q.marks.work) + length (row p.asks.lists s)) at_i
 
     P : ℕ → ℕ → Type 0
     P s l = l < length (row p.asks.lists s) → is_kept r.marks.kept (item_at p.asks.lists s l).owner ≡ false
 
     new : (l : ℕ) → P slot l
-    new l = let F : List (List Item) → Type 0 = λ lists. l < length (row lists slot) → is_kept r.marks.kept (item_at lists slot l).owner ≡ false in subst F to_q1.same.ask_lists (u.out l)
+    new l = let F : List (List Item) → Type 0 = λ lists. l < length (row lists slot)
+        → is_kept r.marks.kept (item_at lists slot l).owner ≡ false in subst F to_q1.same.ask_lists (u.out l)
 
     fewer : (s : ℕ) → is_kept r.marks.kept s ≡ true → is_kept q.marks.kept s ≡ true
     fewer s e = ap (λ (ks : List Bool). is_kept ks s) (sym k.kept) ∙ u.more.fewer s e
@@ -150,4 +168,5 @@ spread-more p q q1 r i slot h k lt is u = record {
     out j l l2 (inr e) =
         let ne = e.1 in
         let lj : j < i = omega arith in
-        subst (λ s. P s l) (sym (early j (omega arith))) (λ m. stays-out q.marks.kept r.marks.kept (item_at p.asks.lists (get_or q.marks.work j 0) l).owner fewer (h.out j l lj m))
+        subst (λ s. P s l) (sym (early j (omega arith)))
+        (λ m. stays-out q.marks.kept r.marks.kept (item_at p.asks.lists (get_or q.marks.work j 0) l).owner fewer (h.out j l lj m))

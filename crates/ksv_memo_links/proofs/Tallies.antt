@@ -1,5 +1,6 @@
 -- The items of pages are no more than the pages that uses meet.
-use Rattle.std.proofs.Common.{◌≡◌, ℕ, zero, suc, ◌+◌, ◌-◌, ◌≤◌, Bool, true, false, cond, ◌&&◌, nat_lt, nat_le, nat_eq, List, [], ◌∷◌, length, refl, ap, arith, sum_by, count_by, ◌||◌}
+use Rattle.std.proofs.Common.{◌≡◌, ℕ, zero, suc, ◌+◌, ◌-◌, ◌≤◌, Bool, true, false, cond, ◌&&◌, nat_lt, nat_le, nat_eq, List, [], ◌∷◌, length, refl, ap, arith}
+use Rattle.std.proofs.Common.{sum_by, count_by, ◌||◌}
 use Rattle.std.proofs.lemmas.List.Sums.{sum_by-cons, sum_by-le-sum_by}
 use Rattle.ksv_memo_links.specs.Shelved.{row}
 use Rattle.ksv_memo_links.specs.Linked.{one_if, naming}
@@ -13,7 +14,8 @@ within a b g = nat_le a g && nat_lt g b
 step-one : (a b g : ℕ) → a ≤ b → cond (within a (suc b) g) 1 0 ≡ cond (within a b g) 1 0 + one_if b g
 step-one a b g le = by (nat_le a g) refl (nat_lt g b) refl (nat_lt g (suc b)) refl (nat_eq b g) refl
   where
-    by : (x : Bool) → nat_le a g ≡ x → (y : Bool) → nat_lt g b ≡ y → (z : Bool) → nat_lt g (suc b) ≡ z → (u : Bool) → nat_eq b g ≡ u → cond (x && z) 1 0 ≡ cond (x && y) 1 0 + cond u 1 0
+    by : (x : Bool) → nat_le a g ≡ x → (y : Bool) → nat_lt g b ≡ y → (z : Bool) → nat_lt g (suc b) ≡ z → (u : Bool) → nat_eq b g ≡ u
+        → cond (x && z) 1 0 ≡ cond (x && y) 1 0 + cond u 1 0
     by x e y f z h u k = grind arith
 
 sums : {X : Type 0} (f g h : X → ℕ) → ((x : X) → h x ≡ f x + g x) → (xs : List X) → sum_by h xs ≡ sum_by f xs + sum_by g xs
@@ -27,9 +29,11 @@ abbrev pub tally : ℕ → ℕ → List (List ℕ) → ℕ
 tally a b rows = sum_by (λ ns. count_by (within a b) ns) rows
 
 tally-more : (a b : ℕ) (rows : List (List ℕ)) → a ≤ b → tally a (suc b) rows ≡ tally a b rows + naming rows b
-tally-more a b rows le = sums (λ ns. count_by (within a b) ns) (λ ns. sum_by (one_if b) ns) (λ ns. count_by (within a (suc b)) ns) (λ ns. sums (λ g. cond (within a b g) 1 0) (one_if b) (λ g. cond (within a (suc b) g) 1 0) (λ g. step-one a b g le) ns) rows
+tally-more a b rows le = sums (λ ns. count_by (within a b) ns) (λ ns. sum_by (one_if b) ns) (λ ns. count_by (within a (suc b)) ns)
+    (λ ns. sums (λ g. cond (within a b g) 1 0) (one_if b) (λ g. cond (within a (suc b) g) 1 0) (λ g. step-one a b g le) ns) rows
 
-pub sizes-few : {X : Type 0} (lists : List (List X)) (rows : List (List ℕ)) (a n : ℕ) → ((l : ℕ) → length (row lists l) ≤ naming rows l) → sizes lists (n + a) ≤ sizes lists a + tally a (n + a) rows
+pub sizes-few : {X : Type 0} (lists : List (List X)) (rows : List (List ℕ)) (a n : ℕ) → ((l : ℕ) → length (row lists l) ≤ naming rows l)
+    → sizes lists (n + a) ≤ sizes lists a + tally a (n + a) rows
 sizes-few lists rows a zero few = let e : 0 + a ≡ a = omega arith in let f = ap (λ n. sizes lists n) e in omega arith
 sizes-few lists rows a (suc n) few =
     let ih = sizes-few lists rows a n few in
@@ -48,7 +52,8 @@ pub sizes-up : {X : Type 0} (lists : List (List X)) (a b : ℕ) → a ≤ b → 
 sizes-up lists a b le = let g = sizes-grow lists a (b - a) in let e : b - a + a ≡ b = omega arith in let f = ap (λ k. sizes lists k) e in omega arith
 
 -- sums over rows that are read alike
-pub rows-le : {X Y : Type 0} (f : List X → ℕ) (g : List Y → ℕ) (xs : List (List X)) (ys : List (List Y)) → f [] ≡ 0 → g [] ≡ 0 → ((r : ℕ) → f (row xs r) ≡ g (row ys r)) → sum_by f xs ≤ sum_by g ys
+pub rows-le : {X Y : Type 0} (f : List X → ℕ) (g : List Y → ℕ) (xs : List (List X)) (ys : List (List Y)) → f [] ≡ 0 → g [] ≡ 0
+    → ((r : ℕ) → f (row xs r) ≡ g (row ys r)) → sum_by f xs ≤ sum_by g ys
 rows-le f g [] ys z y h = omega arith
 rows-le f g (x ∷ xs) [] z y h =
     let a = sum_by-cons f x xs in
@@ -74,13 +79,15 @@ within-behind a b g = by (nat_le a g) (nat_lt g b)
     by false y = omega arith
 
 pub tally-behind : (a b : ℕ) (rows : List (List ℕ)) → tally a b rows ≤ sum_by (λ ns. count_by (nat_le a) ns) rows
-tally-behind a b rows = sum_by-le-sum_by (λ ns. count_by (within a b) ns) (λ ns. count_by (nat_le a) ns) rows (λ ns. counts (within a b) (nat_le a) (within-behind a b) ns)
+tally-behind a b rows = sum_by-le-sum_by (λ ns. count_by (within a b) ns) (λ ns. count_by (nat_le a) ns) rows
+    (λ ns. counts (within a b) (nat_le a) (within-behind a b) ns)
 
 -- the size and what is behind a place, together
 end-one : (a b l : ℕ) → cond (within 0 1 l) 1 0 + cond (within (a + 1) b l) 1 0 ≤ cond (nat_eq l 0 || nat_lt a l) 1 0
 end-one a b l = by (nat_le 0 l) refl (nat_lt l 1) refl (nat_le (a + 1) l) refl (nat_lt l b) (nat_eq l 0) refl (nat_lt a l) refl
   where
-    by : (x : Bool) → nat_le 0 l ≡ x → (y : Bool) → nat_lt l 1 ≡ y → (z : Bool) → nat_le (a + 1) l ≡ z → (t : Bool) → (u : Bool) → nat_eq l 0 ≡ u → (v : Bool) → nat_lt a l ≡ v → cond (x && y) 1 0 + cond (z && t) 1 0 ≤ cond (u || v) 1 0
+    by : (x : Bool) → nat_le 0 l ≡ x → (y : Bool) → nat_lt l 1 ≡ y → (z : Bool) → nat_le (a + 1) l ≡ z → (t : Bool) → (u : Bool) → nat_eq l 0 ≡ u → (v : Bool)
+        → nat_lt a l ≡ v → cond (x && y) 1 0 + cond (z && t) 1 0 ≤ cond (u || v) 1 0
     by x e y f z g t u h v k = grind arith
 
 two-counts : (p q r : ℕ → Bool) → ((x : ℕ) → cond (p x) 1 0 + cond (q x) 1 0 ≤ cond (r x) 1 0) → (xs : List ℕ) → count_by p xs + count_by q xs ≤ count_by r xs
@@ -96,7 +103,8 @@ two-sums f g h each (x ∷ xs) =
     let d = each x in let e = two-sums f g h each xs in omega arith
 
 pub tally-ends : (a b : ℕ) (rows : List (List ℕ)) → tally 0 1 rows + tally (a + 1) b rows ≤ sum_by (λ ns. count_by (λ l. nat_eq l 0 || nat_lt a l) ns) rows
-tally-ends a b rows = two-sums (λ ns. count_by (within 0 1) ns) (λ ns. count_by (within (a + 1) b) ns) (λ ns. count_by (λ l. nat_eq l 0 || nat_lt a l) ns) (λ ns. two-counts (within 0 1) (within (a + 1) b) (λ l. nat_eq l 0 || nat_lt a l) (end-one a b) ns) rows
+tally-ends a b rows = two-sums (λ ns. count_by (within 0 1) ns) (λ ns. count_by (within (a + 1) b) ns) (λ ns. count_by (λ l. nat_eq l 0 || nat_lt a l) ns)
+    (λ ns. two-counts (within 0 1) (within (a + 1) b) (λ l. nat_eq l 0 || nat_lt a l) (end-one a b) ns) rows
 
 size-one : (l : ℕ) → cond (within 0 1 l) 1 0 ≤ cond (nat_eq l 0) 1 0
 size-one l = by (nat_le 0 l) refl (nat_lt l 1) refl (nat_eq l 0) refl
@@ -105,4 +113,5 @@ size-one l = by (nat_le 0 l) refl (nat_lt l 1) refl (nat_eq l 0) refl
     by x e y f u h = grind arith
 
 pub tally-size : (rows : List (List ℕ)) → tally 0 1 rows ≤ sum_by (λ ns. count_by (λ l. nat_eq l 0) ns) rows
-tally-size rows = sum_by-le-sum_by (λ ns. count_by (within 0 1) ns) (λ ns. count_by (λ l. nat_eq l 0) ns) rows (λ ns. counts (within 0 1) (λ l. nat_eq l 0) size-one ns)
+tally-size rows = sum_by-le-sum_by (λ ns. count_by (within 0 1) ns) (λ ns. count_by (λ l. nat_eq l 0) ns) rows
+    (λ ns. counts (within 0 1) (λ l. nat_eq l 0) size-one ns)

@@ -1,5 +1,6 @@
 -- A touched use meets a page that the overwrite meets, or meets a page or ends behind the insert or the delete.
-use Rattle.std.proofs.Common.{◌≡◌, ◌⊎◌, inl, inr, ℕ, zero, suc, ◌+◌, ◌-◌, ◌/◌, ◌<◌, ◌≤◌, max, Bool, true, false, cond, nat_lt, List, [], ◌∷◌, length, get_or, Contains, refl, sym, ap, subst, arith}
+use Rattle.std.proofs.Common.{◌≡◌, ◌⊎◌, inl, inr, ℕ, zero, suc, ◌+◌, ◌-◌, ◌/◌, ◌<◌, ◌≤◌, max, Bool, true, false, cond, nat_lt, List, [], ◌∷◌, length, get_or}
+use Rattle.std.proofs.Common.{Contains, refl, sym, ap, subst, arith}
 use Rattle.std.specs.List.{list_any}
 use Rattle.std.proofs.lemmas.Bool.{cases_lt}
 use Rattle.std.proofs.lemmas.Bool.Decides.{Decides-and, Decides-ltb}
@@ -47,7 +48,8 @@ bytes-meet at n f t a b =
     }
 
 use-meets : (at n : ℕ) (u : Use) → is_use_touched (Overwrite at n) u ≡ true → Meets at n (pages_of u)
-use-meets at n (Bytes f t) e = let k = (Decides-and (nat_lt f (at + n)) (nat_lt at t) (Decides-ltb f (at + n)) (Decides-ltb at t)).0 e in bytes-meet at n f t k.0 k.1
+use-meets at n (Bytes f t) e = let k = (Decides-and (nat_lt f (at + n)) (nat_lt at t) (Decides-ltb f (at + n)) (Decides-ltb at t)).0 e in bytes-meet at n f t
+    k.0 k.1
 use-meets at n (Reach t) e = absurd (cc)
 use-meets at n Size e = absurd (cc)
 
@@ -125,4 +127,5 @@ append-size (Reach t) e = e
 append-size Size e = refl
 
 pub append-ends : (us : List Use) → list_any (is_use_touched Append) us ≡ true → Contains (ends_in us) 0
-append-ends us e = let a = Any-from_list_any (is_use_touched Append) us e in size-ends us (list_any-from_Any is_size us (a.0, a.1, a.2, a.3, append-size a.1 a.4))
+append-ends us e = let a = Any-from_list_any (is_use_touched Append) us e in size-ends us
+    (list_any-from_Any is_size us (a.0, a.1, a.2, a.3, append-size a.1 a.4))

@@ -1,5 +1,6 @@
 -- Lists that take turns: those of ends, and those of pages.
-use Rattle.std.proofs.Common.{◌≡◌, ◌≢◌, ◌⊎◌, inl, inr, true, false, cond, eqb, ℕ, zero, suc, ◌+◌, ◌*◌, ◌/◌, ◌<◌, ◌≤◌, List, [], ◌∷◌, length, map, get_or, Contains, refl, sym, ◌∙◌, ap, subst, arith, sum_by}
+use Rattle.std.proofs.Common.{◌≡◌, ◌≢◌, ◌⊎◌, inl, inr, true, false, cond, eqb, ℕ, zero, suc, ◌+◌, ◌*◌, ◌/◌, ◌<◌, ◌≤◌, List, [], ◌∷◌, length, map, get_or}
+use Rattle.std.proofs.Common.{Contains, refl, sym, ◌∙◌, ap, subst, arith, sum_by}
 use Rattle.std.proofs.lemmas.Bool.{cases_lt}
 use Rattle.std.proofs.lemmas.Bool.Decides.{eqb_tells}
 use Rattle.std.proofs.lemmas.List.{get_or-map, get_or_past, get_or_read, length-map}
@@ -27,7 +28,8 @@ row_of {X} {Y} f rows s none = by (cases_lt s (length rows))
     by (inr le) = get_or_past (map f rows) s [] (let n = length-map rows f in omega arith) ∙ sym none ∙ ap f (sym (get_or_past rows s [] le))
 
 -- every other row
-every : {X : Type 0} (lists : List (List X)) (n : ℕ) → (row (every_other true lists) n ≡ row lists (2 * n)) × (row (every_other false lists) n ≡ row lists (2 * n + 1))
+every : {X : Type 0} (lists : List (List X)) (n : ℕ)
+    → (row (every_other true lists) n ≡ row lists (2 * n)) × (row (every_other false lists) n ≡ row lists (2 * n + 1))
 every [] n = (refl, refl)
 every {X} (x ∷ lists) zero = (refl, (every lists 0).0 ∙ (let e : suc (2 * 0) ≡ 2 * 0 + 1 = omega arith in ap (λ k. row (x ∷ lists) k) e))
 every {X} (x ∷ lists) (suc n) = (
@@ -62,7 +64,8 @@ map-named f one l (p ∷ ps) =
     let e = same (eqb_tells l p) (eqb_tells (f l) (f p)) in
     omega arith
   where
-    same : ((eqb l p ≡ true) × (l ≡ p)) ⊎ ((eqb l p ≡ false) × (l ≢ p)) → ((eqb (f l) (f p) ≡ true) × (f l ≡ f p)) ⊎ ((eqb (f l) (f p) ≡ false) × (f l ≢ f p)) → one_if (f l) (f p) ≡ one_if l p
+    same : ((eqb l p ≡ true) × (l ≡ p)) ⊎ ((eqb l p ≡ false) × (l ≢ p)) → ((eqb (f l) (f p) ≡ true) × (f l ≡ f p)) ⊎ ((eqb (f l) (f p) ≡ false) × (f l ≢ f p))
+        → one_if (f l) (f p) ≡ one_if l p
     same (inl e) (inl g) = ap (λ b. cond b 1 0) (g.0 ∙ sym e.0)
     same (inr e) (inr g) = ap (λ b. cond b 1 0) (g.0 ∙ sym e.0)
     same (inl e) (inr g) = absurd (g.1 (ap f e.1))
@@ -101,14 +104,18 @@ gives f xs x c = (c.0, (let n = length-map xs f in let lt = c.1 in omega arith),
 
 module _ (rows : List (List Use)) (lists : List (List Item)) (h : IsListed lists (map lists_of_uses rows)) where
   -- a list has no more items than what it stands for is named
-  few-of : (l n : ℕ) (of : List Use → List ℕ) → of [] ≡ [] → ((us : List Use) → sum_by (one_if l) (lists_of_uses us) ≡ sum_by (one_if n) (of us)) → length (row lists l) ≤ naming (map of rows) n
+  few-of : (l n : ℕ) (of : List Use → List ℕ) → of [] ≡ [] → ((us : List Use) → sum_by (one_if l) (lists_of_uses us) ≡ sum_by (one_if n) (of us))
+      → length (row lists l) ≤ naming (map of rows) n
   few-of l n of none each =
       let a = h.few l in
-      let b = rows-le (λ ns. sum_by (one_if l) ns) (λ ns. sum_by (one_if n) ns) (map lists_of_uses rows) (map of rows) refl refl (λ r. ap (λ ns. sum_by (one_if l) ns) (row_of lists_of_uses rows r refl) ∙ each (row rows r) ∙ ap (λ ns. sum_by (one_if n) ns) (sym (row_of of rows r none))) in
+      let b = rows-le (λ ns. sum_by (one_if l) ns) (λ ns. sum_by (one_if n) ns) (map lists_of_uses rows) (map of rows) refl refl
+      (λ r. ap (λ ns. sum_by (one_if l) ns) (row_of lists_of_uses rows r refl) ∙ each (row rows r)
+      ∙ ap (λ ns. sum_by (one_if n) ns) (sym (row_of of rows r none))) in
       omega arith
 
   pub few-pages : (g : ℕ) → length (row (page_lists lists) g) ≤ naming (map pages_in rows) g
-  few-pages g = let a = few-of (list_of_page g) g pages_in refl (named-page g) in let e = ap (λ (xs : List Item). length xs) (row-of-page lists g) in omega arith
+  few-pages g = let a = few-of (list_of_page g) g pages_in refl (named-page g) in let e =
+      ap (λ (xs : List Item). length xs) (row-of-page lists g) in omega arith
 
   pub few-ends : (l : ℕ) → length (row (end_lists lists) l) ≤ naming (map ends_in rows) l
   few-ends l = let a = few-of (list_of_end l) l ends_in refl (named-end l) in let e = ap (λ (xs : List Item). length xs) (row-of-end lists l) in omega arith
@@ -135,11 +142,15 @@ module _ (rows : List (List Use)) (lists : List (List Item)) (h : IsListed lists
       subst (λ (xs : List Item). IsOwner xs s) (row-of-end lists l) (in-list s (list_of_end l) there)
 
 -- the same lists, as rows that are read alike name them
-pub listed-as : (lists : List (List Item)) (rows : List (List Use)) (named : List (List ℕ)) → ((s : ℕ) → row named s ≡ lists_of_uses (row rows s)) → IsListed lists named → IsListed lists (map lists_of_uses rows)
+pub listed-as : (lists : List (List Item)) (rows : List (List Use)) (named : List (List ℕ)) → ((s : ℕ) → row named s ≡ lists_of_uses (row rows s))
+    → IsListed lists named → IsListed lists (map lists_of_uses rows)
 listed-as lists rows named each h = record {
-  owners = λ l i lt. (let P : List ℕ → Type 0 = λ ns. (k : ℕ) × (k < length ns) × (get_or ns k 0 ≡ l) in subst P (alike (item_at lists l i).owner) (h.owners l i lt));
-  found = λ s k lt. (let P : List ℕ → Type 0 = λ ns. k < length ns → (i : ℕ) × (i < length (row lists (get_or ns k 0))) × ((item_at lists (get_or ns k 0) i).owner ≡ s) in subst P (alike s) (h.found s k) lt);
-  few = λ l. (let a = h.few l in let b = rows-le (λ ns. sum_by (one_if l) ns) (λ ns. sum_by (one_if l) ns) named (map lists_of_uses rows) refl refl (λ r. ap (λ (ns : List ℕ). sum_by (one_if l) ns) (alike r)) in omega arith);
+  owners = λ l i lt. (let P : List ℕ → Type 0 = λ ns. (k : ℕ) × (k < length ns) × (get_or ns k 0 ≡ l) in subst P (alike (item_at lists l i).owner)
+      (h.owners l i lt));
+  found = λ s k lt. (let P : List ℕ → Type 0 = λ ns. k < length ns
+      → (i : ℕ) × (i < length (row lists (get_or ns k 0))) × ((item_at lists (get_or ns k 0) i).owner ≡ s) in subst P (alike s) (h.found s k) lt);
+  few = λ l. (let a = h.few l in let b = rows-le (λ ns. sum_by (one_if l) ns) (λ ns. sum_by (one_if l) ns) named (map lists_of_uses rows) refl refl
+      (λ r. ap (λ (ns : List ℕ). sum_by (one_if l) ns) (alike r)) in omega arith);
   apart = h.apart;
 }
   where

@@ -27,11 +27,13 @@ pub All-right : {X : Type 0} (P : X → Type 0) (xs ys : List X) → AllByRecurs
 All-right P [] ys h = h
 All-right P (x ∷ xs) ys h = All-right P xs ys h.1
 
-pub All-flat_map : {X Y : Type 0} (P : Y → Type 0) (f : X → List Y) (xs : List X) → AllByRecursion (λ x. AllByRecursion P (f x)) xs → AllByRecursion P (flat_map f xs)
+pub All-flat_map : {X Y : Type 0} (P : Y → Type 0) (f : X → List Y) (xs : List X) → AllByRecursion (λ x. AllByRecursion P (f x)) xs
+    → AllByRecursion P (flat_map f xs)
 All-flat_map P f [] h = tt
 All-flat_map P f (x ∷ xs) h = All-++ P (f x) (flat_map f xs) h.0 (All-flat_map P f xs h.1)
 
-pub All-from_flat_map : {X Y : Type 0} (P : Y → Type 0) (f : X → List Y) (xs : List X) → AllByRecursion P (flat_map f xs) → AllByRecursion (λ x. AllByRecursion P (f x)) xs
+pub All-from_flat_map : {X Y : Type 0} (P : Y → Type 0) (f : X → List Y) (xs : List X) → AllByRecursion P (flat_map f xs)
+    → AllByRecursion (λ x. AllByRecursion P (f x)) xs
 All-from_flat_map P f [] h = tt
 All-from_flat_map P f (x ∷ xs) h = (All-left P (f x) (flat_map f xs) h, All-from_flat_map P f xs (All-right P (f x) (flat_map f xs) h))
 

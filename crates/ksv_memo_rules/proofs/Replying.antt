@@ -36,6 +36,7 @@ module _ {V F : Type 0} (slots : List (Slot V F)) where
   all_kept [] e = tt
   all_kept (i ∷ is) e = by (is_some (answer_at slots i)) refl (all_kept is) e
     where
-      by : (b : Bool) → is_some (answer_at slots i) ≡ b → (list_all (λ i. is_some (answer_at slots i)) is ≡ true → AllByRecursion (HasAnswer slots) is) → (b && list_all (λ i. is_some (answer_at slots i)) is) ≡ true → HasAnswer slots i × AllByRecursion (HasAnswer slots) is
+      by : (b : Bool) → is_some (answer_at slots i) ≡ b → (list_all (λ i. is_some (answer_at slots i)) is ≡ true → AllByRecursion (HasAnswer slots) is)
+          → (b && list_all (λ i. is_some (answer_at slots i)) is) ≡ true → HasAnswer slots i × AllByRecursion (HasAnswer slots) is
       by true q ih h = (q, ih h)
       by false q ih h = absurd (cc)

@@ -1,5 +1,6 @@
 -- How many nodes rules ask, and that a run with as many replies has no open question.
-use Rattle.std.proofs.Common.{◌≡◌, ℕ, zero, suc, ◌+◌, ◌≤◌, Bool, true, false, if◌then◌else◌, List, [], ◌∷◌, ◌++◌, length, Option, Some, None, Result, Ok, Err, sym, subst, arith}
+use Rattle.std.proofs.Common.{◌≡◌, ℕ, zero, suc, ◌+◌, ◌≤◌, Bool, true, false, if◌then◌else◌, List, [], ◌∷◌, ◌++◌, length, Option, Some, None, Result, Ok, Err}
+use Rattle.std.proofs.Common.{sym, subst, arith}
 use Rattle.ksv_basics.specs.Plan.{Plan, Answer, Fail, Ask, bind, translate, AsksAtMost, next, run, IsEnded}
 use Rattle.ksv_expr_value.specs.Trail.{Trail, child}
 use Rattle.ksv_expr_value.specs.declared.fault.Fault.{Fault}
@@ -34,7 +35,8 @@ nodes_bind {B = B} (suc m) n (Ask (Of q) k) f b g =
     subst P (sym e) (λ r. nodes_bind m n (k r) f (b r) g)
 
 -- the same, within a given sum
-pub nodes_join : {A B : Type 0} (p : Rule A) (f : A → Rule B) (t m n : ℕ) → m + n ≤ t → NodesAtMost m p → ((a : A) → NodesAtMost n (f a)) → NodesAtMost t (bind p f)
+pub nodes_join : {A B : Type 0} (p : Rule A) (f : A → Rule B) (t m n : ℕ) → m + n ≤ t → NodesAtMost m p → ((a : A) → NodesAtMost n (f a))
+    → NodesAtMost t (bind p f)
 nodes_join p f t m n h b g = nodes_more (m + n) t (bind p f) h (nodes_bind m n p f b g)
 
 -- one of two rules
@@ -43,11 +45,13 @@ nodes_if true n p q f g = f
 nodes_if false n p q f g = g
 
 -- a plan whose questions each take one node at most asks no more nodes than it puts questions
-pub nodes_translate : {Q : Type 0} {R : Q → Type 0} {F A : Type 0} (t : (q : Q) → Rule (R q)) (raise : F → Raised) (m : ℕ) (p : Plan Q R F A) → ((q : Q) → NodesAtMost 1 (t q)) → AsksAtMost m p → NodesAtMost m (translate t raise p)
+pub nodes_translate : {Q : Type 0} {R : Q → Type 0} {F A : Type 0} (t : (q : Q) → Rule (R q)) (raise : F → Raised) (m : ℕ) (p : Plan Q R F A)
+    → ((q : Q) → NodesAtMost 1 (t q)) → AsksAtMost m p → NodesAtMost m (translate t raise p)
 nodes_translate t raise m (Answer a) each b = tt
 nodes_translate t raise m (Fail e) each b = tt
 nodes_translate t raise zero (Ask q k) each b = absurd b
-nodes_translate t raise (suc m) (Ask q k) each b = nodes_join (t q) (λ r. translate t raise (k r)) (suc m) 1 m (omega arith) (each q) (λ r. nodes_translate t raise m (k r) each (b r))
+nodes_translate t raise (suc m) (Ask q k) each b =
+    nodes_join (t q) (λ r. translate t raise (k r)) (suc m) 1 m (omega arith) (each q) (λ r. nodes_translate t raise m (k r) each (b r))
 
 -- what another node answers takes one node
 pub head_nodes : (p : Trail) → NodesAtMost 1 (ask_head p)
@@ -74,12 +78,14 @@ path_nodes (Some p) = tt
 pub part_nodes : (p : Trail) (step : Step) → NodesAtMost 0 (part p step)
 part_nodes p step = path_nodes (child p step)
 
-given_ended : {A : Type 0} (n : ℕ) (m : Node) (k : Given → Rule A) → ((g : Given) (s : State) → n ≤ length s.replies → IsEnded (run turns (k g) s)) → (replies : List (Result Given Fault)) (s : State) → suc n ≤ length replies → IsEnded (next (replied m replies s) (λ g t. run turns (k g) t))
+given_ended : {A : Type 0} (n : ℕ) (m : Node) (k : Given → Rule A) → ((g : Given) (s : State) → n ≤ length s.replies → IsEnded (run turns (k g) s))
+    → (replies : List (Result Given Fault)) (s : State) → suc n ≤ length replies → IsEnded (next (replied m replies s) (λ g t. run turns (k g) t))
 given_ended n m k rest [] s h = absurd (omega arith)
 given_ended n m k rest (Ok g ∷ replies) s h = rest g (record s { replies = replies }) (omega arith)
 given_ended n m k rest (Err f ∷ replies) s h = tt
 
-seen_ended : {A X : Type 0} (n : ℕ) (k : X → Rule A) → ((x : X) (s : State) → n ≤ length s.replies → IsEnded (run turns (k x) s)) → (o : Option X) (s : State) → n ≤ length s.replies → IsEnded (next (seen_in o s) (λ x t. run turns (k x) t))
+seen_ended : {A X : Type 0} (n : ℕ) (k : X → Rule A) → ((x : X) (s : State) → n ≤ length s.replies → IsEnded (run turns (k x) s)) → (o : Option X) (s : State)
+    → n ≤ length s.replies → IsEnded (next (seen_in o s) (λ x t. run turns (k x) t))
 seen_ended n k rest (Some x) s h = rest x s h
 seen_ended n k rest None s h = tt
 
@@ -87,6 +93,7 @@ seen_ended n k rest None s h = tt
 pub enough : {A : Type 0} (n : ℕ) (p : Rule A) (s : State) → NodesAtMost n p → n ≤ length s.replies → IsEnded (run turns p s)
 enough n (Answer a) s b h = tt
 enough n (Fail e) s b h = tt
-enough n (Ask (See r) k) s b h = seen_ended n k (λ x t h'. enough n (k x) t (b x) h') (look r s.bytes).seen (record s { uses = s.uses ++ (look r s.bytes).uses }) h
+enough n (Ask (See r) k) s b h = seen_ended n k (λ x t h'. enough n (k x) t (b x) h') (look r s.bytes).seen
+    (record s { uses = s.uses ++ (look r s.bytes).uses }) h
 enough zero (Ask (Of m) k) s b h = absurd b
 enough (suc n) (Ask (Of m) k) s b h = given_ended n m k (λ g t h'. enough n (k g) t (b g) h') s.replies s h

@@ -1,5 +1,6 @@
 -- The first byte of a value in a list that is cut in two.
-use Rattle.std.proofs.Common.{◌≡◌, ℕ, suc, ◌+◌, ◌<◌, List, [], ◌∷◌, ◌++◌, length, Option, Some, None, Bool, true, false, ◌==◌, if◌then◌else◌, option_map, min, ◌≤◌, ◌-◌, take, drop, refl, ap, ◌∙◌, arith, inl, inr}
+use Rattle.std.proofs.Common.{◌≡◌, ℕ, suc, ◌+◌, ◌<◌, List, [], ◌∷◌, ◌++◌, length, Option, Some, None, Bool, true, false, ◌==◌, if◌then◌else◌, option_map, min}
+use Rattle.std.proofs.Common.{◌≤◌, ◌-◌, take, drop, refl, ap, ◌∙◌, arith, inl, inr}
 use Rattle.std.proofs.lemmas.List.{length-drop, take_all, take_min, drop_all}
 use Rattle.std.proofs.lemmas.Bool.{cases_lt}
 use Rattle.std.specs.Prelude.{slice_range}
@@ -29,7 +30,8 @@ moved_on_zero : (o : Option ℕ) → o ≡ moved_on 0 o
 moved_on_zero None = refl
 moved_on_zero (Some k) = let e : k ≡ 0 + k = omega arith in ap Some e
 
-by_first : (c : Bool) (o p q : Option ℕ) (n : ℕ) → o ≡ or_behind n p q → (if c then Some 0 else option_map suc o) ≡ or_behind (suc n) (if c then Some 0 else option_map suc p) q
+by_first : (c : Bool) (o p q : Option ℕ) (n : ℕ) → o ≡ or_behind n p q
+    → (if c then Some 0 else option_map suc o) ≡ or_behind (suc n) (if c then Some 0 else option_map suc p) q
 by_first true o p q n e = refl
 by_first false o p q n e = ap (option_map suc) e ∙ or_behind_suc n p q
 
@@ -49,7 +51,8 @@ first_at_below b (x ∷ xs) i e = below (x == b) (first_at b xs) (length xs) i (
 
 -- a range whose end lies behind the bytes is that up to their end
 pub range_cut : (bytes : List ℕ) (from to : ℕ) → slice_range bytes from (min to (length bytes)) ≡ slice_range bytes from to
-range_cut bytes from to = let e : min to (length bytes) - from ≡ min (to - from) (length (drop from bytes)) = omega (arith, length-drop from bytes) in rw e (take_min (to - from) (drop from bytes))
+range_cut bytes from to = let e : min to (length bytes) - from ≡ min (to - from) (length (drop from bytes)) =
+    omega (arith, length-drop from bytes) in rw e (take_min (to - from) (drop from bytes))
 
 take_nil : (n : ℕ) → ◌≡◌ {A = List ℕ} (take n []) []
 take_nil n = take_all n [] (omega arith)

@@ -17,21 +17,24 @@ abbrev pub IsLocal : {A : Type 0} → List ℕ → Rule A → Type 0
 IsLocal others p = (s : State) → Agree s.bytes others (behind (run turns p s)).uses → run turns p (state_on others s) ≡ ran_on others (run turns p s)
 
 module _ (others : List ℕ) where
-  given_local : {A : Type 0} (n : Node) (k : Given → Rule A) → ((g : Given) → IsLocal others (k g)) → (s : State) (replies : List (Result Given Fault)) → Agree s.bytes others (behind (next (replied n replies s) (λ g t. run turns (k g) t))).uses
+  given_local : {A : Type 0} (n : Node) (k : Given → Rule A) → ((g : Given) → IsLocal others (k g)) → (s : State) (replies : List (Result Given Fault))
+      → Agree s.bytes others (behind (next (replied n replies s) (λ g t. run turns (k g) t))).uses
       → next (replied n replies (state_on others s)) (λ g t. run turns (k g) t) ≡ ran_on others (next (replied n replies s) (λ g t. run turns (k g) t))
   given_local n k same s [] h = refl
   given_local n k same s (Ok g ∷ replies) h = same g (record s { replies = replies }) h
   given_local n k same s (Err f ∷ replies) h = refl
 
   -- what was used before a run is among what was used in the end
-  used_before : {A X : Type 0} (k : X → Rule A) (s : State) (o : Option X) → Agree s.bytes others (behind (next (seen_in o s) (λ x t. run turns (k x) t))).uses → Agree s.bytes others s.uses
+  used_before : {A X : Type 0} (k : X → Rule A) (s : State) (o : Option X) → Agree s.bytes others (behind (next (seen_in o s) (λ x t. run turns (k x) t))).uses
+      → Agree s.bytes others s.uses
   used_before k s None h = h
   used_before k s (Some x) h =
       let g : Grows s (behind (run turns (k x) s)) = run_grows (k x) s in
       let P : List Use → Type 0 = λ us. Agree s.bytes others us in
       all_front (AgreeOn s.bytes others) s.uses g.added (subst P g.uses h)
 
-  seen_local : {A X : Type 0} (k : X → Rule A) → ((x : X) → IsLocal others (k x)) → (s : State) (o : Option X) → Agree s.bytes others (behind (next (seen_in o s) (λ x t. run turns (k x) t))).uses
+  seen_local : {A X : Type 0} (k : X → Rule A) → ((x : X) → IsLocal others (k x)) → (s : State) (o : Option X)
+      → Agree s.bytes others (behind (next (seen_in o s) (λ x t. run turns (k x) t))).uses
       → next (seen_in o (state_on others s)) (λ x t. run turns (k x) t) ≡ ran_on others (next (seen_in o s) (λ x t. run turns (k x) t))
   seen_local k same s None h = refl
   seen_local k same s (Some x) h = same x s h

@@ -1,5 +1,6 @@
 -- Readings on bytes that agree on what they rest on.
-use Rattle.std.proofs.Common.{◌≡◌, ℕ, ◌+◌, ◌-◌, ◌≤◌, ◌<◌, min, List, [], ◌∷◌, ◌++◌, length, take, drop, Option, Some, None, Bool, true, false, ◌&&◌, ◌==◌, nat_lt, nat_le, if◌then◌else◌, option_map, refl, sym, ap, ◌∙◌, arith}
+use Rattle.std.proofs.Common.{◌≡◌, ℕ, ◌+◌, ◌-◌, ◌≤◌, ◌<◌, min, List, [], ◌∷◌, ◌++◌, length, take, drop, Option, Some, None, Bool, true, false, ◌&&◌, ◌==◌}
+use Rattle.std.proofs.Common.{nat_lt, nat_le, if◌then◌else◌, option_map, refl, sym, ap, ◌∙◌, arith}
 use Rattle.std.specs.Prelude.{slice_range}
 use Rattle.std.specs.List.{AllByRecursion}
 use Rattle.std.proofs.lemmas.Bool.{le-leb, eqb-true}
@@ -11,7 +12,8 @@ use Rattle.ksv_bytes.specs.Uses.{AgreeOn}
 use Rattle.ksv_expr_value.specs.Places.{byte_in}
 use Rattle.ksv_nodes.specs.declared.turn.readings.Found.{Found}
 use Rattle.ksv_nodes.specs.declared.turn.readings.Found.TheVariants as founds
-use Rattle.ksv_nodes.specs.Reading.{Reading, Reach, Finish, Done, Peek, Find, Look, gives, ends_before, reach_file, reach_within, finish_of, done_at, cut_uses, peek_at, first_at, end_in, found_none, found_from, find_at, look}
+use Rattle.ksv_nodes.specs.Reading.{Reading, Reach, Finish, Done, Peek, Find, Look, gives, ends_before, reach_file, reach_within, finish_of, done_at, cut_uses}
+use Rattle.ksv_nodes.specs.Reading.{peek_at, first_at, end_in, found_none, found_from, find_at, look}
 use Rattle.ksv_nodes.proofs.First.{or_behind, first_at_append, first_at_below, range_cut, range_none}
 
 -- uses of a beginning, and of an end
@@ -34,7 +36,8 @@ found_alone x i None n None len e = absurd (cc)
 found_alone x i None n (Some k) len e = let same : n + k ≡ i = cc in absurd (omega arith)
 
 cut_range : (bytes : List ℕ) (from to n : ℕ) → n ≤ to - from → take n (slice_range bytes from to) ≡ slice_range bytes from (from + n)
-cut_range bytes from to n le = let e : from + n - from ≡ n = omega arith in take-take n (to - from) (drop from bytes) le ∙ ap (λ m. take m (drop from bytes)) (sym e)
+cut_range bytes from to n le = let e : from + n - from ≡ n = omega arith in take-take n (to - from) (drop from bytes) le
+    ∙ ap (λ m. take m (drop from bytes)) (sym e)
 
 range_length : (bytes : List ℕ) (from to : ℕ) → length (slice_range bytes from to) ≤ to - from
 range_length bytes from to = omega (arith, length-take (to - from) (drop from bytes))
@@ -43,16 +46,22 @@ range_length bytes from to = omega (arith, length-take (to - from) (drop from by
 pub range_reaches : (bytes : List ℕ) (from to i : ℕ) → i < length (slice_range bytes from to) → from + i + 1 ≤ length bytes
 range_reaches bytes from to i h = omega (arith, length-take (to - from) (drop from bytes), length-drop from bytes)
 
-found_cut : (bytes : List ℕ) (from to x i : ℕ) → first_at x (slice_range bytes from to) ≡ Some i → (i + 1 ≤ to - from) × (first_at x (slice_range bytes from (from + (i + 1))) ≡ Some i)
+found_cut : (bytes : List ℕ) (from to x i : ℕ) → first_at x (slice_range bytes from to) ≡ Some i
+    → (i + 1 ≤ to - from) × (first_at x (slice_range bytes from (from + (i + 1))) ≡ Some i)
 found_cut bytes from to x i e =
     let ys = slice_range bytes from to in
     let inside : i < length ys = first_at_below x ys i e in
     let le : i + 1 ≤ to - from = omega (arith, range_length bytes from to) in
     let len : length (take (i + 1) ys) ≡ i + 1 = omega (arith, length-take (i + 1) ys) in
-    let joined : or_behind (length (take (i + 1) ys)) (first_at x (take (i + 1) ys)) (first_at x (drop (i + 1) ys)) ≡ Some i = sym (first_at_append x (take (i + 1) ys) (drop (i + 1) ys)) ∙ ap (first_at x) (take-append-drop (i + 1) ys) ∙ e in
-    (le, ap (first_at x) (sym (cut_range bytes from to (i + 1) le)) ∙ found_alone x i (first_at x (take (i + 1) ys)) (length (take (i + 1) ys)) (first_at x (drop (i + 1) ys)) len joined)
+    let joined : or_behind (length (take (i + 1) ys)) (first_at x (take (i + 1) ys)) (first_at x (drop (i + 1) ys)) ≡ Some i =
+    sym (first_at_append x (take (i + 1) ys) (drop (i + 1) ys)) ∙ ap (first_at x) (take-append-drop (i + 1) ys) ∙ e in (
+      le,
+      ap (first_at x) (sym (cut_range bytes from to (i + 1) le))
+          ∙ found_alone x i (first_at x (take (i + 1) ys)) (length (take (i + 1) ys)) (first_at x (drop (i + 1) ys)) len joined,
+    )
 
-found_on : (bytes : List ℕ) (from to x i : ℕ) → i + 1 ≤ to - from → first_at x (slice_range bytes from (from + (i + 1))) ≡ Some i → first_at x (slice_range bytes from to) ≡ Some i
+found_on : (bytes : List ℕ) (from to x i : ℕ) → i + 1 ≤ to - from → first_at x (slice_range bytes from (from + (i + 1))) ≡ Some i
+    → first_at x (slice_range bytes from to) ≡ Some i
 found_on bytes from to x i le e =
     let ys = slice_range bytes from to in
     ap (first_at x) (sym (take-append-drop (i + 1) ys)) ∙ first_at_append x (take (i + 1) ys) (drop (i + 1) ys)
@@ -75,7 +84,8 @@ module _ (b b' : List ℕ) where
   unfolding reach_file reach_when
   reach_file_same t h = ap (λ d. reach_when d t) (reach_by (nat_le t (length b)) t refl h)
 
-  reach_if : (c : Bool) (t : ℕ) → Agree (if c then ends_before {A = Unit {0}} [] else reach_file b t).uses → (if c then ends_before {A = Unit {0}} [] else reach_file b' t) ≡ (if c then ends_before [] else reach_file b t)
+  reach_if : (c : Bool) (t : ℕ) → Agree (if c then ends_before {A = Unit {0}} [] else reach_file b t).uses
+      → (if c then ends_before {A = Unit {0}} [] else reach_file b' t) ≡ (if c then ends_before [] else reach_file b t)
   reach_if true t h = refl
   reach_if false t h = reach_file_same t h
 
@@ -136,7 +146,8 @@ module _ (b b' : List ℕ) where
   peek_same f t h = peek_by (f == t) (nat_le t (length b) && nat_lt f t) f t refl h
 
   range_by : (z x y c : Bool) (f t : ℕ) → (f == t) ≡ z → nat_le t (length b) ≡ x → nat_lt f t ≡ y → nat_lt f (length b) ≡ c
-      → Agree (peek_when z (x && y) f t (slice_range b f t) (if c then uses.Size ∷ uses.Bytes f (length b) ∷ [] else uses.Size ∷ [])).uses → slice_range b' f t ≡ slice_range b f t
+      → Agree (peek_when z (x && y) f t (slice_range b f t) (if c then uses.Size ∷ uses.Bytes f (length b) ∷ [] else uses.Size ∷ [])).uses
+      → slice_range b' f t ≡ slice_range b f t
   unfolding peek_when
   range_by true x y c f t e _ _ _ h = let same : f ≡ t = eqb-true f t e in range_none b' f t (omega arith) ∙ sym (range_none b f t (omega arith))
   range_by false true true c f t _ _ _ _ h = h.0.2
@@ -169,11 +180,13 @@ module _ (b b' : List ℕ) where
   none_by : Look ℕ → ℕ → Look (List ℕ) → Look Found
   none_by finish end look = record { seen = option_map (λ bs. founds.Missing end) look.seen; uses = finish.uses ++ look.uses }
 
-  none_same : (to : Option ℕ) (s end : ℕ) → Agree (finish_of b to).uses → Agree (peek_at b s end).uses → found_none b' to end (peek_at b' s end) ≡ found_none b to end (peek_at b s end)
+  none_same : (to : Option ℕ) (s end : ℕ) → Agree (finish_of b to).uses → Agree (peek_at b s end).uses
+      → found_none b' to end (peek_at b' s end) ≡ found_none b to end (peek_at b s end)
   unfolding found_none none_by
   none_same to s end hf hp = ap (λ l. none_by l end (peek_at b' s end)) (finish_same to hf) ∙ ap (λ l. none_by (finish_of b to) end l) (peek_same s end hp)
 
-  found_missing : (to : Option ℕ) (s x : ℕ) → first_at x (slice_range b s (end_in b to)) ≡ None → Agree (finish_of b to).uses → Agree (peek_at b s (end_in b to)).uses
+  found_missing : (to : Option ℕ) (s x : ℕ) → first_at x (slice_range b s (end_in b to)) ≡ None → Agree (finish_of b to).uses
+      → Agree (peek_at b s (end_in b to)).uses
       → found_from b' to s (end_in b' to) (first_at x (slice_range b' s (end_in b' to))) ≡ found_none b to (end_in b to) (peek_at b s (end_in b to))
   unfolding found_from
   found_missing to s x e hf hp =
@@ -191,7 +204,8 @@ module _ (b b' : List ℕ) where
       let held : s + i + 1 ≤ length b' = h.0.1 in
       let reaches = end_reaches to s (i + 1) (omega arith) cut.0 in
       ap (found_from b' to s (end_in b' to)) (found_on b' s (end_in b' to) x i reaches (ap (first_at x) same ∙ cut.1))
-  found_same to s x None e h = found_missing to s x e (all_front (AgreeOn b b') (finish_of b to).uses (peek_at b s (end_in b to)).uses h) (all_back (AgreeOn b b') (finish_of b to).uses (peek_at b s (end_in b to)).uses h)
+  found_same to s x None e h = found_missing to s x e (all_front (AgreeOn b b') (finish_of b to).uses (peek_at b s (end_in b to)).uses h)
+      (all_back (AgreeOn b b') (finish_of b to).uses (peek_at b s (end_in b to)).uses h)
 
   find_same : (to : Option ℕ) (s x : ℕ) → Agree (find_at b to s x).uses → find_at b' to s x ≡ find_at b to s x
   unfolding find_at

@@ -1,5 +1,6 @@
 -- What a run uses fits the bytes: a used range isn't empty, and the bytes reach each used place.
-use Rattle.std.proofs.Common.{◌≡◌, ℕ, ◌+◌, ◌<◌, List, [], ◌∷◌, ◌++◌, length, Option, Some, None, Result, Ok, Err, Bool, true, false, ◌&&◌, ◌==◌, nat_lt, nat_le, if◌then◌else◌, refl, arith}
+use Rattle.std.proofs.Common.{◌≡◌, ℕ, ◌+◌, ◌<◌, List, [], ◌∷◌, ◌++◌, length, Option, Some, None, Result, Ok, Err, Bool, true, false, ◌&&◌, ◌==◌, nat_lt, nat_le}
+use Rattle.std.proofs.Common.{if◌then◌else◌, refl, arith}
 use Rattle.std.specs.Prelude.{slice_range}
 use Rattle.std.specs.List.{AllByRecursion}
 use Rattle.std.proofs.lemmas.Bool.{leb-true, ltb-true}
@@ -11,7 +12,8 @@ use Rattle.ksv_expr_value.specs.declared.fault.Fault.{Fault}
 use Rattle.ksv_expr_value.specs.Places.{byte_in}
 use Rattle.ksv_nodes.specs.declared.given.Given.{Given}
 use Rattle.ksv_nodes.specs.declared.node.Node.{Node}
-use Rattle.ksv_nodes.specs.Reading.{Reading, Reach, Finish, Done, Peek, Find, gives, ends_before, reach_file, reach_within, finish_of, done_at, cut_uses, peek_at, first_at, end_in, found_none, found_from, find_at, look}
+use Rattle.ksv_nodes.specs.Reading.{Reading, Reach, Finish, Done, Peek, Find, gives, ends_before, reach_file, reach_within, finish_of, done_at, cut_uses}
+use Rattle.ksv_nodes.specs.Reading.{peek_at, first_at, end_in, found_none, found_from, find_at, look}
 use Rattle.ksv_nodes.specs.Rule.{Rule, Of, See}
 use Rattle.ksv_nodes.specs.Turning.{State, replied, seen_in, turns}
 use Rattle.ksv_nodes.proofs.First.{first_at_below}
@@ -69,7 +71,8 @@ module _ (b : List ℕ) where
   unfolding peek_at
   peek_fits f t = by (f == t) (nat_le t (length b)) (nat_lt f t) refl refl
     where
-      by : (z x y : Bool) → nat_le t (length b) ≡ x → nat_lt f t ≡ y → Fit (if z then gives [] [] else if x && y then gives (slice_range b f t) (uses.Bytes f t ∷ []) else ends_before (cut_uses b f)).uses
+      by : (z x y : Bool) → nat_le t (length b) ≡ x → nat_lt f t ≡ y
+          → Fit (if z then gives [] [] else if x && y then gives (slice_range b f t) (uses.Bytes f t ∷ []) else ends_before (cut_uses b f)).uses
       by true x y e d = tt
       by false true true e d = ((ltb-true f t d, leb-true t (length b) e), tt)
       by false true false e d = cut_fits f
@@ -96,12 +99,14 @@ module _ (b : List ℕ) where
 abbrev pub StaysWithin : {A : Type 0} → Rule A → Type 0
 StaysWithin p = (s : State) → Fit s.bytes s.uses → Fit s.bytes (behind (run turns p s)).uses
 
-given_within : {A : Type 0} (n : Node) (k : Given → Rule A) → ((g : Given) → StaysWithin (k g)) → (s : State) → Fit s.bytes s.uses → (replies : List (Result Given Fault)) → Fit s.bytes (behind (next (replied n replies s) (λ g t. run turns (k g) t))).uses
+given_within : {A : Type 0} (n : Node) (k : Given → Rule A) → ((g : Given) → StaysWithin (k g)) → (s : State) → Fit s.bytes s.uses
+    → (replies : List (Result Given Fault)) → Fit s.bytes (behind (next (replied n replies s) (λ g t. run turns (k g) t))).uses
 given_within n k stays s h [] = h
 given_within n k stays s h (Ok g ∷ rest) = stays g (record s { replies = rest }) h
 given_within n k stays s h (Err f ∷ rest) = h
 
-seen_within : {A X : Type 0} (k : X → Rule A) → ((x : X) → StaysWithin (k x)) → (s : State) → Fit s.bytes s.uses → (o : Option X) → Fit s.bytes (behind (next (seen_in o s) (λ x t. run turns (k x) t))).uses
+seen_within : {A X : Type 0} (k : X → Rule A) → ((x : X) → StaysWithin (k x)) → (s : State) → Fit s.bytes s.uses → (o : Option X)
+    → Fit s.bytes (behind (next (seen_in o s) (λ x t. run turns (k x) t))).uses
 seen_within k stays s h (Some x) = stays x s h
 seen_within k stays s h None = h
 
@@ -110,4 +115,5 @@ pub within : {A : Type 0} (p : Rule A) → StaysWithin p
 within (Answer a) s h = h
 within (Fail e) s h = h
 within (Ask (Of n) k) s h = given_within n k (λ g. within (k g)) s h s.replies
-within (Ask (See r) k) s h = seen_within k (λ x. within (k x)) (record s { uses = s.uses ++ (look r s.bytes).uses }) (all_append (CanUse s.bytes) s.uses (look r s.bytes).uses h (look_fits s.bytes r)) (look r s.bytes).seen
+within (Ask (See r) k) s h = seen_within k (λ x. within (k x)) (record s { uses = s.uses ++ (look r s.bytes).uses })
+    (all_append (CanUse s.bytes) s.uses (look r s.bytes).uses h (look_fits s.bytes r)) (look r s.bytes).seen

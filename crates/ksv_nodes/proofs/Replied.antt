@@ -24,7 +24,8 @@ left_suc (y ∷ ys) (suc k) x e = left_suc ys k x e
 left_some : {X : Type 0} (xs : List X) (k : ℕ) (x : X) → slice_get xs k ≡ Some x → drop k xs ≡ x ∷ drop (k + 1) xs
 left_some xs k x e = let one : suc k ≡ k + 1 = omega arith in left_suc xs k x e ∙ ap (λ n. x ∷ drop n xs) one
 
-given_first : (n : Node) (s : State) (reply : Result Given Fault) (rs : List (Result Given Fault)) → next (replied n (reply ∷ rs) s) (λ r t. Done r t) ≡ come reply (record s { replies = rs })
+given_first : (n : Node) (s : State) (reply : Result Given Fault) (rs : List (Result Given Fault))
+    → next (replied n (reply ∷ rs) s) (λ r t. Done r t) ≡ come reply (record s { replies = rs })
 given_first n s (Ok g) rs = refl
 given_first n s (Err f) rs = refl
 
@@ -37,7 +38,8 @@ module _ (n : Node) (here : Trail) (bytes : List ℕ) (us : List Use) (rs : List
   needed k [] s e = refl
   needed k (x ∷ xs) s e = absurd (cc)
 
-  given : (k : ℕ) (xs : List (Result Given Fault)) (s : State) (reply : Result Given Fault) → xs ≡ reply ∷ drop (k + 1) rs → next (replied n xs s) (λ r t. Done r t) ≡ come reply (record s { replies = drop (k + 1) rs })
+  given : (k : ℕ) (xs : List (Result Given Fault)) (s : State) (reply : Result Given Fault) → xs ≡ reply ∷ drop (k + 1) rs
+      → next (replied n xs s) (λ r t. Done r t) ≡ come reply (record s { replies = drop (k + 1) rs })
   given k xs s reply e = ap (λ ys. next (replied n ys s) (λ r t. Done r t)) e ∙ given_first n s reply (drop (k + 1) rs)
 
   -- a node whose reply isn't there is needed
@@ -45,5 +47,6 @@ module _ (n : Node) (here : Trail) (bytes : List ℕ) (us : List Use) (rs : List
   needed_next k none = needed k (drop k rs) (from k) (left_none rs k none)
 
   -- the reply that is there is given, and those behind it are left
-  pub given_next : (k : ℕ) (reply : Result Given Fault) → slice_get rs k ≡ Some reply → next (replied n (drop k rs) (from k)) (λ r t. Done r t) ≡ come reply (from (k + 1))
+  pub given_next : (k : ℕ) (reply : Result Given Fault) → slice_get rs k ≡ Some reply
+      → next (replied n (drop k rs) (from k)) (λ r t. Done r t) ≡ come reply (from (k + 1))
   given_next k reply some = given k (drop k rs) (from k) reply (left_some rs k reply some)

@@ -1,6 +1,7 @@
 -- With true replies a rule asks what it asks where each node has its answer, uses what it uses there, and answers what it
 -- answers there.
-use Rattle.std.proofs.Common.{◌≡◌, ℕ, zero, suc, ◌<◌, List, [], ◌∷◌, ◌++◌, length, map, take, slice_get, Result, Ok, Err, Option, Some, None, refl, sym, ap, ◌∙◌, arith, append_assoc, append-nil}
+use Rattle.std.proofs.Common.{◌≡◌, ℕ, zero, suc, ◌<◌, List, [], ◌∷◌, ◌++◌, length, map, take, slice_get, Result, Ok, Err, Option, Some, None, refl, sym, ap}
+use Rattle.std.proofs.Common.{◌∙◌, arith, append_assoc, append-nil}
 use Rattle.ksv_basics.specs.Plan.{Answer, Fail, Ask, Need, next, run}
 use Rattle.ksv_basics.specs.Asking.{ended}
 use Rattle.ksv_bytes.specs.declared.uses.Use.{Use}
@@ -25,11 +26,14 @@ module _ (met : Node → Result Given Fault) (here : Trail) (bytes : List ℕ) w
   Ends p = (more : List (Result Given Fault)) (us : List Use)
       → run turns p (at (map met (asks_of met here bytes p) ++ more) us) ≡ ended (plain_answer met here bytes p) (at more (us ++ uses_of met here bytes p))
 
-  ended_same : {A : Type 0} (a : Result A Fault) (more : List (Result Given Fault)) (us : List Use) → ended {N = Node} a (at more us) ≡ ended a (at more (us ++ []))
+  ended_same : {A : Type 0} (a : Result A Fault) (more : List (Result Given Fault)) (us : List Use)
+      → ended {N = Node} a (at more us) ≡ ended a (at more (us ++ []))
   ended_same a more us = ap (λ vs. ended {N = Node} a (at more vs)) (sym (append-nil us))
 
-  given_ends : {A : Type 0} (n : Node) (k : Given → Rule A) → ((g : Given) → Ends (k g)) → (more : List (Result Given Fault)) (us : List Use) (x : Result Given Fault)
-      → next (replied n (x ∷ (map met (behind_given x (λ g. asks_of met here bytes (k g))) ++ more)) (at (x ∷ (map met (behind_given x (λ g. asks_of met here bytes (k g))) ++ more)) us)) (λ g s. run turns (k g) s)
+  given_ends : {A : Type 0} (n : Node) (k : Given → Rule A) → ((g : Given) → Ends (k g))
+      → (more : List (Result Given Fault)) (us : List Use) (x : Result Given Fault)
+      → next (replied n (x ∷ (map met (behind_given x (λ g. asks_of met here bytes (k g))) ++ more))
+      (at (x ∷ (map met (behind_given x (λ g. asks_of met here bytes (k g))) ++ more)) us)) (λ g s. run turns (k g) s)
       ≡ ended (with_given x (λ g. plain_answer met here bytes (k g))) (at more (us ++ behind_given x (λ g. uses_of met here bytes (k g))))
   given_ends n k rest more us (Ok g) = rest g more us
   given_ends n k rest more us (Err f) = ended_same (Err f) more us
@@ -39,7 +43,8 @@ module _ (met : Node → Result Given Fault) (here : Trail) (bytes : List ℕ) w
       ≡ ended (plain_seen here o (λ x. plain_answer met here bytes (k x))) (at more (us ++ (vs ++ behind_seen o (λ x. uses_of met here bytes (k x)))))
   seen_ends k rest more us vs (Some x) = rest x more (us ++ vs)
       ∙ ap (λ ws. ended {N = Node} (plain_answer met here bytes (k x)) (at more ws)) (append_assoc us vs (uses_of met here bytes (k x)))
-  seen_ends {A = A} k rest more us vs None = ap (λ ws. ended {N = Node} {A = A} (Err (fault_at here kinds.EndOfBytes)) (at more (us ++ ws))) (sym (append-nil vs))
+  seen_ends {A = A} k rest more us vs None = ap (λ ws. ended {N = Node} {A = A} (Err (fault_at here kinds.EndOfBytes)) (at more (us ++ ws)))
+      (sym (append-nil vs))
 
   pub ends : {A : Type 0} (p : Rule A) → Ends p
   ends (Answer a) more us = ended_same (Ok a) more us
@@ -85,7 +90,8 @@ module _ (met : Node → Result Given Fault) (here : Trail) (bytes : List ℕ) w
     seen_uses : uses_of met here bytes (Ask (See r) k) ≡ (look r bytes).uses ++ uses_of met here bytes (k x)
     seen_uses = ap (λ o. (look r bytes).uses ++ behind_seen o (λ y. uses_of met here bytes (k y))) e
 
-    seen_run : (replies : List (Result Given Fault)) (us : List Use) → run turns (Ask (See r) k) (at replies us) ≡ run turns (k x) (at replies (us ++ (look r bytes).uses))
+    seen_run : (replies : List (Result Given Fault)) (us : List Use)
+        → run turns (Ask (See r) k) (at replies us) ≡ run turns (k x) (at replies (us ++ (look r bytes).uses))
     seen_run replies us = ap (λ o. next (seen_in o (at replies (us ++ (look r bytes).uses))) (λ y s. run turns (k y) s)) e
 
     seen_needs : (i : ℕ) (us : List Use) → NeedsNext (k x) i (us ++ (look r bytes).uses) → NeedsNext (Ask (See r) k) i us
@@ -94,18 +100,21 @@ module _ (met : Node → Result Given Fault) (here : Trail) (bytes : List ℕ) w
       is_next = ap (λ l. slice_get l i) seen_asks ∙ q.is_next;
       used = (look r bytes).uses ++ q.used;
       more = q.more;
-      ran = ap (λ l. run turns (Ask (See r) k) (at (map met (take i l)) us)) seen_asks ∙ seen_run (map met (take i (asks_of met here bytes (k x)))) us ∙ q.ran ∙ ap (λ vs. Need q.node (at [] vs)) (append_assoc us (look r bytes).uses q.used);
+      ran = ap (λ l. run turns (Ask (See r) k) (at (map met (take i l)) us)) seen_asks ∙ seen_run (map met (take i (asks_of met here bytes (k x)))) us ∙ q.ran
+          ∙ ap (λ vs. Need q.node (at [] vs)) (append_assoc us (look r bytes).uses q.used);
       begins = seen_uses ∙ ap (λ vs. (look r bytes).uses ++ vs) q.begins ∙ sym (append_assoc (look r bytes).uses q.used q.more);
     }
 
-  needs_given : {A : Type 0} (n : Node) (k : Given → Rule A) (i : ℕ) (us : List Use) → ((g : Given) (j : ℕ) (vs : List Use) → j < length (asks_of met here bytes (k g)) → NeedsNext (k g) j vs)
+  needs_given : {A : Type 0} (n : Node) (k : Given → Rule A) (i : ℕ) (us : List Use)
+      → ((g : Given) (j : ℕ) (vs : List Use) → j < length (asks_of met here bytes (k g)) → NeedsNext (k g) j vs)
       → (x : Result Given Fault) → met n ≡ x → suc i < length (asks_of met here bytes (Ask (Of n) k)) → NeedsNext (Ask (Of n) k) (suc i) us
   needs_given n k i us rest (Ok g) e h = given_needs n k g e i us (rest g i us (omega (arith, ap length (given_asks n k g e))))
   needs_given n k i us rest (Err f) e h =
       let alone : asks_of met here bytes (Ask (Of n) k) ≡ n ∷ [] = ap (λ x. n ∷ behind_given x (λ g. asks_of met here bytes (k g))) e in
       absurd (omega (arith, ap length alone))
 
-  needs_seen : {A : Type 0} (r : Reading) (k : Seen r → Rule A) (i : ℕ) (us : List Use) → ((x : Seen r) (j : ℕ) (vs : List Use) → j < length (asks_of met here bytes (k x)) → NeedsNext (k x) j vs)
+  needs_seen : {A : Type 0} (r : Reading) (k : Seen r → Rule A) (i : ℕ) (us : List Use)
+      → ((x : Seen r) (j : ℕ) (vs : List Use) → j < length (asks_of met here bytes (k x)) → NeedsNext (k x) j vs)
       → (o : Option (Seen r)) → (look r bytes).seen ≡ o → i < length (asks_of met here bytes (Ask (See r) k)) → NeedsNext (Ask (See r) k) i us
   needs_seen r k i us rest (Some x) e h = seen_needs r k x e i us (rest x i (us ++ (look r bytes).uses) (omega (arith, ap length (seen_asks r k x e))))
   needs_seen r k i us rest None e h =
@@ -115,6 +124,14 @@ module _ (met : Node → Result Given Fault) (here : Trail) (bytes : List ℕ) w
   pub needs : {A : Type 0} (p : Rule A) (i : ℕ) (us : List Use) → i < length (asks_of met here bytes p) → NeedsNext p i us
   needs (Answer a) i us h = absurd (omega arith)
   needs (Fail e) i us h = absurd (omega arith)
-  needs (Ask (Of n) k) zero us h = record { node = n; is_next = refl; used = []; more = uses_of met here bytes (Ask (Of n) k); ran = ap (λ vs. Need n (at [] vs)) (sym (append-nil us)); begins = refl }
+  needs (Ask (Of n) k) zero us h =
+      record {
+        node = n;
+        is_next = refl;
+        used = [];
+        more = uses_of met here bytes (Ask (Of n) k);
+        ran = ap (λ vs. Need n (at [] vs)) (sym (append-nil us));
+        begins = refl;
+      }
   needs (Ask (Of n) k) (suc i) us h = needs_given n k i us (λ g. needs (k g)) (met n) refl h
   needs (Ask (See r) k) i us h = needs_seen r k i us (λ x. needs (k x)) (look r bytes).seen refl h

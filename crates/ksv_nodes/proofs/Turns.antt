@@ -40,7 +40,8 @@ pub reply_grows : (q : Query) (s : State) → Grows s (behind (reply q s))
 reply_grows (Of n) s = replied_grows n s.replies s
 reply_grows (See r) s = seen_grows (look r s.bytes).seen (look r s.bytes).uses s
 
-next_grows : {A B : Type 0} (s : State) (o : Ran Node Fault State A) (f : A → State → Ran Node Fault State B) → Grows s (behind o) → ((a : A) (t : State) → Grows t (behind (f a t))) → Grows s (behind (next o f))
+next_grows : {A B : Type 0} (s : State) (o : Ran Node Fault State A) (f : A → State → Ran Node Fault State B) → Grows s (behind o)
+    → ((a : A) (t : State) → Grows t (behind (f a t))) → Grows s (behind (next o f))
 next_grows s (Need n t) f g h = g
 next_grows s (Failed e t) f g h = g
 next_grows s (Done a t) f g h = grows_on g (h a t)

@@ -1,5 +1,6 @@
 -- Where the first part of a text ends that is cut at certain bytes.
-use Rattle.std.proofs.Common.{◌≡◌, ◌∙◌, ◌+◌, ◌<◌, ◌≤◌, length, take, drop, Some, None, arith, inl, inr, ℕ, Bool, cond, List, [], ◌∷◌, true, false, ap, sym, refl}
+use Rattle.std.proofs.Common.{◌≡◌, ◌∙◌, ◌+◌, ◌<◌, ◌≤◌, length, take, drop, Some, None, arith, inl, inr, ℕ, Bool, cond, List, [], ◌∷◌, true, false, ap, sym}
+use Rattle.std.proofs.Common.{refl}
 use Rattle.std.specs.Prelude.{nat_lt, position}
 use Rattle.std.specs.List.{onto_first, position_or_len, slice_split}
 use Rattle.std.proofs.lemmas.Bool.{cases_lt, lt-ltb}

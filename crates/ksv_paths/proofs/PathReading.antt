@@ -1,5 +1,6 @@
 -- The text of a path whose names are those of members, read, gives the path again.
-use Rattle.std.proofs.Common.{◌≡◌, ◌∙◌, ℕ, zero, suc, ◌+◌, ◌^◌, ◌<◌, ◌≤◌, Bool, true, false, cond, if◌then◌else◌, List, [], ◌∷◌, ◌++◌, length, get_or, map, reverse, take, Some, None, refl, sym, ap, subst, arith, rules, inl, inr, append-nil, length-append}
+use Rattle.std.proofs.Common.{◌≡◌, ◌∙◌, ℕ, zero, suc, ◌+◌, ◌^◌, ◌<◌, ◌≤◌, Bool, true, false, cond, if◌then◌else◌, List, [], ◌∷◌, ◌++◌, length, get_or, map}
+use Rattle.std.proofs.Common.{reverse, take, Some, None, refl, sym, ap, subst, arith, rules, inl, inr, append-nil, length-append}
 use Rattle.std.specs.Prelude.{◌==◌, ◌||◌, not, decimal, slice_get, slice_index, unwrap_or, option_map, option_and_then}
 use Rattle.std.specs.Char.{is_ascii_digit}
 use Rattle.std.specs.Cmp.{first_so, second_so}
@@ -23,7 +24,8 @@ use Rattle.ksv_expr_value.specs.declared.step.Step.TheVariants.{Index, Name}
 use Rattle.ksv_desc.specs.Names.{number_in}
 use Rattle.ksv_desc.specs.Description.{Description, as_text, name, number_of_name}
 use Rattle.ksv_desc.proofs.Readers.{found_in_front}
-use Rattle.ksv_paths.specs.PathTexts.{step_text, steps_text, or_slash, decimal_of, below_limit, index_of, name_of, name_or_index, step_of, in_front, behind_step, steps_of, is_slash, path_of_steps, path_named}
+use Rattle.ksv_paths.specs.PathTexts.{step_text, steps_text, or_slash, decimal_of, below_limit, index_of, name_of, name_or_index, step_of, in_front}
+use Rattle.ksv_paths.specs.PathTexts.{behind_step, steps_of, is_slash, path_of_steps, path_named}
 use Rattle.ksv_paths.specs.Laws.{is_letter, is_id_byte, is_id, HasIds, IsKnown, PathsAreRead}
 use Rattle.ksv_paths.proofs.PathTexts.{path_is}
 
@@ -81,7 +83,9 @@ id_whole : (text : List ℕ) → is_id text ≡ true → All (λ c. is_slash c �
 id_whole text h = λ k e lt. not_slash (get_or text k e) (id_byte (get_or text k e) (AllPass-from_list_all is_id_byte text (id_bytes text h) k e lt)).0
 
 id_is_text : (text : List ℕ) → is_id text ≡ true → is_utf8 text ≡ true
-id_is_text text h = is_utf8-from_IsUtf8 text (IsUtf8-from_ascii text (IsAscii-from_all text (λ k e lt. (id_byte (get_or text k e) (AllPass-from_list_all is_id_byte text (id_bytes text h) k e lt)).1)))
+id_is_text text h = is_utf8-from_IsUtf8 text
+    (IsUtf8-from_ascii text
+    (IsAscii-from_all text (λ k e lt. (id_byte (get_or text k e) (AllPass-from_list_all is_id_byte text (id_bytes text h) k e lt)).1)))
 
 module _ (d : Description) (table : HasIds d) where
   number_is : (n : ℕ) → n < d.known → number_of_name d (name d n) ≡ Some n
@@ -106,12 +110,14 @@ module _ (d : Description) (table : HasIds d) where
   -- ---- an index
 
   -- digits are no name
-  no_place : (text : List ℕ) (xs : List (List ℕ)) (m i : ℕ) → ((k : ℕ) → k < m → unwrap_or (slice_get xs k) [] ≡ text → ⊥) → position_from (bytes_eq text) i (take m xs) ≡ None
+  no_place : (text : List ℕ) (xs : List (List ℕ)) (m i : ℕ) → ((k : ℕ) → k < m → unwrap_or (slice_get xs k) [] ≡ text → ⊥)
+      → position_from (bytes_eq text) i (take m xs) ≡ None
   no_place text xs zero i apart = refl
   no_place text [] (suc m) i apart = refl
   no_place text (x ∷ xs) (suc m) i apart = by_test (bytes_eq text x) refl (no_place text xs m (i + 1) (λ k lt. apart (suc k) (omega arith)))
     where
-      by_test : (b : Bool) → bytes_eq text x ≡ b → position_from (bytes_eq text) (i + 1) (take m xs) ≡ None → cond b (Some i) (position_from (bytes_eq text) (i + 1) (take m xs)) ≡ None
+      by_test : (b : Bool) → bytes_eq text x ≡ b → position_from (bytes_eq text) (i + 1) (take m xs) ≡ None
+          → cond b (Some i) (position_from (bytes_eq text) (i + 1) (take m xs)) ≡ None
       by_test true e later = absurd (apart 0 (omega arith) (sym ((bytes_eq-Decides text x).0 e)))
       by_test false e later = later
 
@@ -132,7 +138,8 @@ digits = numerals_by_value _ (search rules)
 -- a number has no zero in front, unless it is 0
 plain : (i : ℕ) → i < 2 ^ 64 → (length (decimal i) == 1 || not (slice_index (decimal i) 0 == 48)) ≡ true
 plain i small = elim (cases_lt 0 i) [
-  | inl some ↦ (let first = first_decimal i some small in let other : (slice_index (decimal i) 0 == 48) ≡ false = grind (arith, nat_tests) in rw other (or_true (length (decimal i) == 1)))
+  | inl some ↦ (let first = first_decimal i some small in let other : (slice_index (decimal i) 0 == 48)
+      ≡ false = grind (arith, nat_tests) in rw other (or_true (length (decimal i) == 1)))
   | inr none ↦ (let is : i ≡ 0 = omega arith in let one : decimal i ≡ 48 ∷ [] = ap decimal is ∙ decimal_digit 0 (omega arith) in rw one refl)
 ]
   where
@@ -151,7 +158,8 @@ index_small i fit = grind (arith, nat_tests)
 index_is_read : (i : ℕ) → step_fits (Index i) ≡ true → index_of (decimal i) ≡ Some i
 index_is_read i fit =
     let small = index_small i fit in
-    let is : decimal_of (decimal i) ≡ Some i = decimal_is (decimal i) i (digits_decimal digits i small) (decimal_nonempty i small) (digits_value-decimal digits i small) small in
+    let is : decimal_of (decimal i) ≡ Some i = decimal_is (decimal i) i (digits_decimal digits i small) (decimal_nonempty i small)
+    (digits_value-decimal digits i small) small in
     ap (λ b. if b then below_limit (decimal_of (decimal i)) else None) (plain i small) ∙ ap below_limit is ∙ ap (λ b. if b then Some i else None) fit
 
 index_piece : (d : Description) → HasIds d → (i : ℕ) → step_fits (Index i) ≡ true → IsPiece d (Index i)
@@ -166,9 +174,14 @@ index_piece d table i fit =
 
 -- ---- the pieces of a path
 
-pieces : (d : Description) → HasIds d → (steps : List Step) → AllByRecursion (IsKnown d) steps → list_all step_fits steps ≡ true → AllByRecursion (IsPiece d) steps
+pieces : (d : Description) → HasIds d → (steps : List Step) → AllByRecursion (IsKnown d) steps → list_all step_fits steps ≡ true
+    → AllByRecursion (IsPiece d) steps
 pieces d table [] known fit = tt
-pieces d table (step ∷ steps) known fit = (one step known.0 (first_so (step_fits step) (list_all step_fits steps) fit), pieces d table steps known.1 (second_so (step_fits step) (list_all step_fits steps) fit))
+pieces d table (step ∷ steps) known fit = (
+  one step known.0 (first_so (step_fits step) (list_all step_fits steps) fit),
+  pieces d table steps known.1
+      (second_so (step_fits step) (list_all step_fits steps) fit),
+)
   where
     one : (s : Step) → IsKnown d s → step_fits s ≡ true → IsPiece d s
     one (Name n) lt e = name_piece d table n lt
@@ -183,7 +196,8 @@ all_reverse P [] h = tt
 all_reverse P (x ∷ xs) h = subst (AllByRecursion P) (sym (reverse-append (x ∷ []) xs)) (all_push P (reverse xs) x (all_reverse P xs h.1) h.0)
 
 -- the text is cut where it was joined
-split_steps : (d : Description) (step : Step) (steps : List Step) → AllByRecursion (IsPiece d) (step ∷ steps) → slice_split is_slash (piece d step ++ steps_text d steps) ≡ map (piece d) (step ∷ steps)
+split_steps : (d : Description) (step : Step) (steps : List Step) → AllByRecursion (IsPiece d) (step ∷ steps)
+    → slice_split is_slash (piece d step ++ steps_text d steps) ≡ map (piece d) (step ∷ steps)
 split_steps d step [] h = ap (slice_split is_slash) (append-nil (piece d step)) ∙ slice_split_none is_slash (piece d step) h.0.whole
 split_steps d step (next ∷ rest) h =
     ap (λ t. slice_split is_slash (piece d step ++ (t ++ steps_text d rest))) (step_text_is d next)

@@ -1,5 +1,6 @@
 -- A text that names a path is the text of that path.
-use Rattle.std.proofs.Common.{◌≡◌, ◌∙◌, ℕ, suc, zero, ◌+◌, ◌^◌, ◌<◌, Bool, true, false, cond, List, [], ◌∷◌, ◌++◌, length, get_or, reverse, take, Option, Some, None, refl, sym, ap, arith, rules}
+use Rattle.std.proofs.Common.{◌≡◌, ◌∙◌, ℕ, suc, zero, ◌+◌, ◌^◌, ◌<◌, Bool, true, false, cond, List, [], ◌∷◌, ◌++◌, length, get_or, reverse, take, Option, Some}
+use Rattle.std.proofs.Common.{None, refl, sym, ap, arith, rules}
 use Rattle.std.specs.Prelude.{◌&&◌, ◌||◌, ◌==◌, not, nat_lt, decimal, slice_get, slice_index, option_map, option_and_then, unwrap_or}
 use Rattle.std.specs.Char.{is_ascii_digit}
 use Rattle.std.specs.List.{list_all, flat_map, onto_first, position_from, slice_split}
@@ -15,7 +16,8 @@ use Rattle.ksv_expr_value.specs.Trail.{Trail, trail_of-steps, root}
 use Rattle.ksv_expr_value.specs.declared.step.Step.{Step}
 use Rattle.ksv_expr_value.specs.declared.step.Step.TheVariants.{Index, Name}
 use Rattle.ksv_desc.specs.Description.{Description, as_text, name, number_of_name}
-use Rattle.ksv_paths.specs.PathTexts.{step_text, steps_text, or_slash, path_text, decimal_of, below_limit, index_of, name_of, name_or_index, step_of, behind_step, steps_of, is_slash, path_of_steps, path_behind, TextsAreWritten}
+use Rattle.ksv_paths.specs.PathTexts.{step_text, steps_text, or_slash, path_text, decimal_of, below_limit, index_of, name_of, name_or_index, step_of}
+use Rattle.ksv_paths.specs.PathTexts.{behind_step, steps_of, is_slash, path_of_steps, path_behind, TextsAreWritten}
 use Rattle.ksv_paths.proofs.Cuts.{HasFirst, split_has_first}
 
 is_empty : {A : Type 0} (xs : List A) → (length xs == 0) ≡ true → xs ≡ []
@@ -40,8 +42,10 @@ record IsDecimal (text : List ℕ) (i : ℕ) : Type 0 where
 decimal_is : (text : List ℕ) (i : ℕ) → decimal_of text ≡ Some i → IsDecimal text i
 decimal_is text i h = by_test (list_all is_ascii_digit text) (nat_lt 0 (length text)) (nat_lt (digits_value 10 text) (2 ^ 64)) refl refl refl h
   where
-    by_test : (a b c : Bool) → list_all is_ascii_digit text ≡ a → nat_lt 0 (length text) ≡ b → nat_lt (digits_value 10 text) (2 ^ 64) ≡ c → cond (a && (b && c)) (Some (digits_value 10 text)) None ≡ Some i → IsDecimal text i
-    by_test true true true p q r e = record { digits = p; some = ltb-true 0 (length text) q; small = ltb-true (digits_value 10 text) (2 ^ 64) r; value = some_is _ _ e }
+    by_test : (a b c : Bool) → list_all is_ascii_digit text ≡ a → nat_lt 0 (length text) ≡ b → nat_lt (digits_value 10 text) (2 ^ 64) ≡ c
+        → cond (a && (b && c)) (Some (digits_value 10 text)) None ≡ Some i → IsDecimal text i
+    by_test true true true p q r e =
+        record { digits = p; some = ltb-true 0 (length text) q; small = ltb-true (digits_value 10 text) (2 ^ 64) r; value = some_is _ _ e }
     by_test true true false p q r e = absurd (cc)
     by_test true false c p q r e = absurd (cc)
     by_test false b c p q r e = absurd (cc)
@@ -60,7 +64,8 @@ index_is text i h = by_test (length text == 1) (slice_index text 0 == 48) refl r
     told : (get_or text 0 0 ≡ 48 → length text ≡ 1) → IsDecimal text i → text ≡ decimal i
     told plain t = sym (decimal-digits_value digits text t.digits t.some plain t.small) ∙ ap decimal t.value
 
-    by_test : (a b : Bool) → (length text == 1) ≡ a → (slice_index text 0 == 48) ≡ b → cond (a || not b) (below_limit (decimal_of text)) None ≡ Some i → text ≡ decimal i
+    by_test : (a b : Bool) → (length text == 1) ≡ a → (slice_index text 0 == 48) ≡ b → cond (a || not b) (below_limit (decimal_of text)) None ≡ Some i
+        → text ≡ decimal i
     by_test true b p q e = told (λ z. grind (arith, nat_tests)) (decimal_is text i (limited_is (decimal_of text) i e))
     by_test false false p q e = told (λ z. absurd (grind (arith, nat_tests))) (decimal_is text i (limited_is (decimal_of text) i e))
     by_test false true p q e = absurd (cc)
@@ -78,7 +83,8 @@ place_is text xs zero i k h = absurd (cc)
 place_is text [] (suc m) i k h = absurd (cc)
 place_is text (x ∷ xs) (suc m) i k h = by_test (bytes_eq text x) refl h (place_is text xs m (i + 1) k)
   where
-    by_test : (b : Bool) → bytes_eq text x ≡ b → cond b (Some i) (position_from (bytes_eq text) (i + 1) (take m xs)) ≡ Some k → (position_from (bytes_eq text) (i + 1) (take m xs) ≡ Some k → IsPlace text xs (i + 1) k) → IsPlace text (x ∷ xs) i k
+    by_test : (b : Bool) → bytes_eq text x ≡ b → cond b (Some i) (position_from (bytes_eq text) (i + 1) (take m xs)) ≡ Some k
+        → (position_from (bytes_eq text) (i + 1) (take m xs) ≡ Some k → IsPlace text xs (i + 1) k) → IsPlace text (x ∷ xs) i k
     by_test true e found later = let same : i ≡ k = some_is i k found in record { offset = 0; is = omega arith; there = sym ((bytes_eq-Decides text x).0 e) }
     by_test false e found later = let p = later found in record { offset = suc p.offset; is = omega (arith, p.is); there = p.there }
 
@@ -114,7 +120,8 @@ steps_are : (d : Description) (pieces : List (List ℕ)) (steps : List Step) →
 steps_are d [] steps h = let same : ◌≡◌ {A = List Step} [] steps = some_is [] steps h in rw (← same) refl
 steps_are d (piece ∷ rest) steps h = by_step (step_of d piece) (steps_of d rest) refl refl h (steps_are d rest)
   where
-    by_step : (o : Option Step) (q : Option (List Step)) → step_of d piece ≡ o → steps_of d rest ≡ q → behind_step o q ≡ Some steps → ((others : List Step) → steps_of d rest ≡ Some others → steps_text d others ≡ joined rest) → steps_text d steps ≡ joined (piece ∷ rest)
+    by_step : (o : Option Step) (q : Option (List Step)) → step_of d piece ≡ o → steps_of d rest ≡ q → behind_step o q ≡ Some steps
+        → ((others : List Step) → steps_of d rest ≡ Some others → steps_text d others ≡ joined rest) → steps_text d steps ≡ joined (piece ∷ rest)
     by_step None q is are e later = absurd (cc)
     by_step (Some step) None is are e later = absurd (cc)
     by_step (Some step) (Some others) is are e later =
@@ -138,7 +145,8 @@ split_joined : (text : List ℕ) → joined (slice_split is_slash text) ≡ 47 �
 split_joined [] = refl
 split_joined (x ∷ xs) = by_test (is_slash x) refl (split_joined xs)
   where
-    by_test : (b : Bool) → is_slash x ≡ b → joined (slice_split is_slash xs) ≡ 47 ∷ xs → joined (cond b ([] ∷ slice_split is_slash xs) (onto_first x (slice_split is_slash xs))) ≡ 47 ∷ x ∷ xs
+    by_test : (b : Bool) → is_slash x ≡ b → joined (slice_split is_slash xs) ≡ 47 ∷ xs
+        → joined (cond b ([] ∷ slice_split is_slash xs) (onto_first x (slice_split is_slash xs))) ≡ 47 ∷ x ∷ xs
     by_test true e later = let slash : x ≡ 47 = grind (arith, nat_tests) in rw slash (ap (λ t. 47 ∷ t) later)
     by_test false e later = onto_joined x xs (slice_split is_slash xs) (split_has_first is_slash xs) later
 
@@ -158,7 +166,8 @@ pub texts_are_written : TextsAreWritten
 texts_are_written d [] p h = absurd (cc)
 texts_are_written d (c ∷ text) p h = by_slash (is_slash c) refl h
   where
-    by_end : (b : Bool) → (length text == 0) ≡ b → cond b (Some root) (path_of_steps (steps_of d (slice_split is_slash text))) ≡ Some p → 47 ∷ text ≡ path_text d p
+    by_end : (b : Bool) → (length text == 0) ≡ b → cond b (Some root) (path_of_steps (steps_of d (slice_split is_slash text))) ≡ Some p
+        → 47 ∷ text ≡ path_text d p
     by_end true e h' =
         let same : root ≡ p = some_is root p h' in
         let none : text ≡ [] = is_empty text e in

@@ -1,5 +1,6 @@
 -- Paths that are read step by step from their text.
-use Rattle.std.proofs.Common.{◌≡◌, ◌∙◌, ℕ, suc, ◌<◌, ◌≤◌, Bool, true, false, List, [], ◌∷◌, ◌++◌, length, reverse, Option, Some, None, ap, sym, refl, arith, inl, inr}
+use Rattle.std.proofs.Common.{◌≡◌, ◌∙◌, ℕ, suc, ◌<◌, ◌≤◌, Bool, true, false, List, [], ◌∷◌, ◌++◌, length, reverse, Option, Some, None, ap, sym, refl, arith}
+use Rattle.std.proofs.Common.{inl, inr}
 use Rattle.std.specs.Prelude.{◌==◌, is_some, IsSome, MatchOption, option_copied, IsTrue}
 use Rattle.std.proofs.lemmas.Bool.{cases_lt}
 use Rattle.std.specs.Borrow.{Bor}
@@ -62,8 +63,10 @@ steps_full d front piece rest step is full = rw is (by_rest (steps_of d rest))
     by_rest None = refl
 
 -- one step more
-pub fits_pushed : (steps : List Step) (step : Step) → fits (reverse steps) ≡ true → step_fits step ≡ true → length steps < 64 → fits (reverse (steps ++ step ∷ [])) ≡ true
-fits_pushed steps step h in_range few = fits-push steps step (steps ++ step ∷ []) refl (fits-more step (reverse steps) in_range h (omega (arith, length-reverse steps)))
+pub fits_pushed : (steps : List Step) (step : Step) → fits (reverse steps) ≡ true → step_fits step ≡ true → length steps < 64
+    → fits (reverse (steps ++ step ∷ [])) ≡ true
+fits_pushed steps step h in_range few = fits-push steps step (steps ++ step ∷ []) refl
+    (fits-more step (reverse steps) in_range h (omega (arith, length-reverse steps)))
 
 pub steps_end : (front : List Step) → behind_steps front (Some []) ≡ Some front
 steps_end front = ap Some (append-nil front)
@@ -73,26 +76,36 @@ pub path_is : (steps : List Step) (p : Trail) → p.upward ≡ reverse steps →
 path_is steps p e = ap trail_of (sym e) ∙ trail_of-true p
 
 -- what a text behind a slash names
-pub behind_is : (d : Description) (text : List ℕ) (steps : List Step) (p : Trail) → (length text == 0) ≡ false → steps_of d (slice_split is_slash text) ≡ Some steps → p.upward ≡ reverse steps → Some p ≡ path_behind d text
+pub behind_is : (d : Description) (text : List ℕ) (steps : List Step) (p : Trail) → (length text == 0) ≡ false
+    → steps_of d (slice_split is_slash text) ≡ Some steps → p.upward ≡ reverse steps → Some p ≡ path_behind d text
 behind_is d text steps p some named e = sym (rw (some, named) (path_is steps p e))
 
-pub behind_some : (d : Description) (text : List ℕ) (steps : List Step) → (length text == 0) ≡ false → steps_of d (slice_split is_slash text) ≡ Some steps → fits (reverse steps) ≡ true → IsSome (path_behind d text)
-behind_some d text steps some named h = let p : Trail = record { upward = reverse steps; valid = h } in ap is_some (sym (behind_is d text steps p some named refl))
+pub behind_some : (d : Description) (text : List ℕ) (steps : List Step) → (length text == 0) ≡ false → steps_of d (slice_split is_slash text) ≡ Some steps
+    → fits (reverse steps) ≡ true → IsSome (path_behind d text)
+behind_some d text steps some named h = let p : Trail =
+    record { upward = reverse steps; valid = h } in ap is_some (sym (behind_is d text steps p some named refl))
 
 -- the first piece and what is left behind it
-pub pieces_seen : (text piece : List ℕ) (rest : Option (Bor (List ℕ))) → MatchOption rest (slice_split is_slash text ≡ piece ∷ []) (λ r. slice_split is_slash text ≡ piece ∷ slice_split is_slash r.now) → slice_split is_slash text ≡ piece ∷ pieces_left (option_copied rest)
+pub pieces_seen : (text piece : List ℕ) (rest : Option (Bor (List ℕ)))
+    → MatchOption rest (slice_split is_slash text ≡ piece ∷ []) (λ r. slice_split is_slash text ≡ piece ∷ slice_split is_slash r.now)
+    → slice_split is_slash text ≡ piece ∷ pieces_left (option_copied rest)
 pieces_seen text piece (Some r) h = h
 pieces_seen text piece None h = h
 
 -- what is left where a piece is left
-pub left_seen : (d : Description) (all : Option (List Step)) (front : List Step) (rest : Option (Bor (List ℕ))) (pieces : Bor (List ℕ)) (piece : List ℕ) (others : List (List ℕ)) → all ≡ behind_steps front (steps_of d (pieces_left (option_copied rest))) → rest ≡ Some pieces → slice_split is_slash pieces.now ≡ piece ∷ others → all ≡ behind_steps front (steps_of d (piece ∷ others))
-left_seen d all front rest pieces piece others h is split = h ∙ ap (λ o. behind_steps front (steps_of d (pieces_left (option_copied o)))) is ∙ ap (λ ps. behind_steps front (steps_of d ps)) split
+pub left_seen : (d : Description) (all : Option (List Step)) (front : List Step) (rest : Option (Bor (List ℕ))) (pieces : Bor (List ℕ)) (piece : List ℕ)
+    (others : List (List ℕ)) → all ≡ behind_steps front (steps_of d (pieces_left (option_copied rest))) → rest ≡ Some pieces
+    → slice_split is_slash pieces.now ≡ piece ∷ others → all ≡ behind_steps front (steps_of d (piece ∷ others))
+left_seen d all front rest pieces piece others h is split = h ∙ ap (λ o. behind_steps front (steps_of d (pieces_left (option_copied o)))) is
+    ∙ ap (λ ps. behind_steps front (steps_of d ps)) split
 
 -- the facts of the loop, one step later
 pub step_read : (d : Description) (all : Option (List Step)) (front now : List Step) (piece : List ℕ) (others : List (List ℕ)) (step : Step)
-    → all ≡ behind_steps front (steps_of d (piece ∷ others)) → Some step ≡ step_of d piece → step_fits step ≡ true → fits (reverse front) ≡ true → length front < 64 → now ≡ front ++ step ∷ []
+    → all ≡ behind_steps front (steps_of d (piece ∷ others)) → Some step ≡ step_of d piece → step_fits step ≡ true → fits (reverse front) ≡ true
+    → length front < 64 → now ≡ front ++ step ∷ []
     → (all ≡ behind_steps now (steps_of d others)) × (length now ≤ 64) × (fits (reverse now) ≡ true)
-step_read d all front now piece others step h is in_range fit few e = rw e (h ∙ steps_more d front piece others step (sym is), omega (arith, length-append front (step ∷ [])), fits_pushed front step fit in_range few)
+step_read d all front now piece others step h is in_range fit few e =
+    rw e (h ∙ steps_more d front piece others step (sym is), omega (arith, length-append front (step ∷ [])), fits_pushed front step fit in_range few)
 
 -- steps that are not full are fewer than 64
 pub not_full : (n : ℕ) (b : Bool) → (n ≡ 64 → IsTrue b) → b ≡ false → n ≤ 64 → n < 64

@@ -25,18 +25,22 @@ more_links links new x h (suc f) zero l = refl
 more_links links new x h (suc f) (suc c) l =
     let same : link_at (links ++ new) (suc c) ≡ link_at links (suc c) = get_or_append_left links new _ (suc c) l in
     let less : (link_at links (suc c)).next < suc c = h (suc c) (omega arith) l in
-    (λ i. cond (is_name (same i).step x) (suc c) (chain (links ++ new) f (same i).next x)) ∙ ap (λ k. cond (is_name (link_at links (suc c)).step x) (suc c) k) (more_links links new x h f (link_at links (suc c)).next (omega arith))
+    (λ i. cond (is_name (same i).step x) (suc c) (chain (links ++ new) f (same i).next x))
+    ∙ ap (λ k. cond (is_name (link_at links (suc c)).step x) (suc c) k) (more_links links new x h f (link_at links (suc c)).next (omega arith))
 
 -- a step along the chain
-pub step_on : (links : List Link) (x : ℕ) → Falls links → (c : ℕ) → 0 < c → c < length links → is_name (link_at links c).step x ≡ false → chain links (length links) c x ≡ chain links (length links) (link_at links c).next x
+pub step_on : (links : List Link) (x : ℕ) → Falls links → (c : ℕ) → 0 < c → c < length links → is_name (link_at links c).step x ≡ false
+    → chain links (length links) c x ≡ chain links (length links) (link_at links c).next x
 step_on links x h c p l e = by (length links) refl c p l e
   where
-    by : (n : ℕ) → n ≡ length links → (c : ℕ) → 0 < c → c < length links → is_name (link_at links c).step x ≡ false → chain links n c x ≡ chain links n (link_at links c).next x
+    by : (n : ℕ) → n ≡ length links → (c : ℕ) → 0 < c → c < length links → is_name (link_at links c).step x ≡ false
+        → chain links n c x ≡ chain links n (link_at links c).next x
     by zero e c p l f = absurd (omega arith)
     by (suc n) e zero p l f = absurd (omega arith)
     by (suc n) e (suc c) p l f =
         let less : (link_at links (suc c)).next < suc c = h (suc c) (omega arith) l in
-        ap (λ b. cond b (suc c) (chain links n (link_at links (suc c)).next x)) f ∙ any_fuel links x h n (suc n) (link_at links (suc c)).next (omega arith) (omega arith) (omega arith)
+        ap (λ b. cond b (suc c) (chain links n (link_at links (suc c)).next x)) f
+        ∙ any_fuel links x h n (suc n) (link_at links (suc c)).next (omega arith) (omega arith) (omega arith)
 
 pub found_at : (links : List Link) (x c : ℕ) → 0 < c → c < length links → is_name (link_at links c).step x ≡ true → chain links (length links) c x ≡ c
 found_at links x c p l e = by (length links) refl c p l e
@@ -60,7 +64,8 @@ any_fuel_length links h (suc f) (suc g) (suc c) a b l =
     let less : n < suc c = h (suc c) (omega arith) l in
     ap (λ k. 1 + k) (any_fuel_length links h f g n (omega arith) (omega arith) (omega arith))
 
-pub length_on : (links : List Link) → Falls links → (c : ℕ) → 0 < c → c < length links → chain_length links (length links) c ≡ 1 + chain_length links (length links) (link_at links c).next
+pub length_on : (links : List Link) → Falls links → (c : ℕ) → 0 < c → c < length links
+    → chain_length links (length links) c ≡ 1 + chain_length links (length links) (link_at links c).next
 length_on links h c p l = by (length links) refl c p l
   where
     by : (n : ℕ) → n ≡ length links → (c : ℕ) → 0 < c → c < length links → chain_length links n c ≡ 1 + chain_length links n (link_at links c).next

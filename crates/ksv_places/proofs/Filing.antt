@@ -1,7 +1,9 @@
 -- Nodes by their paths' rows.
-use Rattle.std.proofs.Common.{◌≡◌, ℕ, ◌+◌, ◌-◌, ◌<◌, ◌≤◌, ◌⊎◌, inl, inr, ◌≢◌, true, false, eqb, set, List, [], ◌∷◌, ◌++◌, length, get_or, Some, refl, sym, ◌∙◌, ap, subst, arith, slice_get}
+use Rattle.std.proofs.Common.{◌≡◌, ℕ, ◌+◌, ◌-◌, ◌<◌, ◌≤◌, ◌⊎◌, inl, inr, ◌≢◌, true, false, eqb, set, List, [], ◌∷◌, ◌++◌, length, get_or, Some, refl, sym, ◌∙◌}
+use Rattle.std.proofs.Common.{ap, subst, arith, slice_get}
 use Rattle.std.specs.Option.{option_map}
-use Rattle.std.proofs.lemmas.List.{get_or_past, length-map, get_or-map, same_lists, get_or_append_left, length_push, length-set, get_or-set_same, get_or-set_other, map-append, map-set}
+use Rattle.std.proofs.lemmas.List.{get_or_past, length-map, get_or-map, same_lists, get_or_append_left, length_push, length-set, get_or-set_same}
+use Rattle.std.proofs.lemmas.List.{get_or-set_other, map-append, map-set}
 use Rattle.std.proofs.lemmas.Bool.Decides.{eqb_tells}
 use Rattle.ksv_places.proofs.Growing.{get_last}
 use Rattle.std.proofs.lemmas.Bool.{cases_lt}
@@ -26,7 +28,8 @@ module _ (paths : List (List Step)) (rows : List Row) (spots : List Spot) (filed
     where
       by : ((spot_at spots i).path < length rows) ⊎ (length rows ≤ (spot_at spots i).path) → (spot_at spots i).path < length rows
       by (inl h) = h
-      by (inr h) = let zero_is = sym (filed.rowed i lt) ∙ ap (λ (r : Row). mark_in r (spot_at spots i).kind) (get_or_past rows (spot_at spots i).path no_row h) ∙ mark_none (spot_at spots i).kind in absurd (omega arith)
+      by (inr h) = let zero_is = sym (filed.rowed i lt) ∙ ap (λ (r : Row). mark_in r (spot_at spots i).kind) (get_or_past rows (spot_at spots i).path no_row h)
+          ∙ mark_none (spot_at spots i).kind in absurd (omega arith)
 
   record Has (i : ℕ) (k : NodeKind) (q : List Step) : Type 0 where
     pub inside : i < length spots
@@ -37,35 +40,50 @@ module _ (paths : List (List Step)) (rows : List Row) (spots : List Spot) (filed
   has : (i : ℕ) (k : NodeKind) (q : List Step) → slice_get (nodes_of paths spots) i ≡ Some (k, q) → Has i k q
   has i k q e =
       let lt : i < length spots = (let n = length-map spots (node_of paths) in let w = slice_get_within (nodes_of paths spots) i (k, q) e in omega arith) in
-      let is : Some (node_of paths (spot_at spots i)) ≡ Some (k, q) = sym (slice_get-map (node_of paths) spots i ∙ ap (option_map (node_of paths)) (slice_get-get_or spots i _ lt)) ∙ e in
+      let is : Some (node_of paths (spot_at spots i)) ≡ Some (k, q) =
+      sym (slice_get-map (node_of paths) spots i ∙ ap (option_map (node_of paths)) (slice_get-get_or spots i _ lt)) ∙ e in
       let both : node_of paths (spot_at spots i) ≡ (k, q) = cc in
-      record { inside = lt; kind = ap (λ (p : NodeKind × List Step). p.0) both; path = ap (λ (p : NodeKind × List Step). p.1) both; there = (let p = path_in i lt in let f = filed.few in omega arith) }
+      record {
+        inside = lt;
+        kind = ap (λ (p : NodeKind × List Step). p.0) both;
+        path = ap (λ (p : NodeKind × List Step). p.1) both;
+        there =
+            (let p = path_in i lt in let f = filed.few in omega arith);
+      }
 
   -- without a path there is no node
-  pub no_path_node : (k : NodeKind) (q : List Step) → ((i : ℕ) → i < length paths → get_or paths i [] ≡ q → ⊥) → (i : ℕ) → slice_get (nodes_of paths spots) i ≡ Some (k, q) → ⊥
+  pub no_path_node : (k : NodeKind) (q : List Step) → ((i : ℕ) → i < length paths → get_or paths i [] ≡ q → ⊥) → (i : ℕ)
+      → slice_get (nodes_of paths spots) i ≡ Some (k, q) → ⊥
   no_path_node k q h i e = let n = has i k q e in h (spot_at spots i).path n.there n.path
 
   -- without a mark in the path's row neither
-  pub no_mark_node : (k : NodeKind) (q : List Step) (r : ℕ) → ((i j : ℕ) → i < length paths → j < length paths → get_or paths i [] ≡ get_or paths j [] → i ≡ j) → slice_get paths r ≡ Some q → mark_in (row_at rows r) k ≡ 0 → (i : ℕ) → slice_get (nodes_of paths spots) i ≡ Some (k, q) → ⊥
+  pub no_mark_node : (k : NodeKind) (q : List Step) (r : ℕ) → ((i j : ℕ) → i < length paths → j < length paths → get_or paths i [] ≡ get_or paths j [] → i ≡ j)
+      → slice_get paths r ≡ Some q → mark_in (row_at rows r) k ≡ 0 → (i : ℕ) → slice_get (nodes_of paths spots) i ≡ Some (k, q) → ⊥
   no_mark_node k q r unique at e i f =
       let n = has i k q f in
-      let same : (spot_at spots i).path ≡ r = unique (spot_at spots i).path r n.there (slice_get_within paths r q at) (n.path ∙ sym (get_or_from_slice_get paths r q [] at)) in
+      let same : (spot_at spots i).path ≡ r = unique (spot_at spots i).path r n.there (slice_get_within paths r q at)
+      (n.path ∙ sym (get_or_from_slice_get paths r q [] at)) in
       let zero_is : i + 1 ≡ 0 = sym (filed.rowed i n.inside) ∙ (λ j. mark_in (row_at rows (same j)) (n.kind j)) ∙ e in
       absurd (omega arith)
 
   -- with one, it is the node's
-  pub marked : (k : NodeKind) (q : List Step) (r : ℕ) → slice_get paths r ≡ Some q → 0 < mark_in (row_at rows r) k → slice_get (nodes_of paths spots) (mark_in (row_at rows r) k - 1) ≡ Some (k, q)
+  pub marked : (k : NodeKind) (q : List Step) (r : ℕ) → slice_get paths r ≡ Some q → 0 < mark_in (row_at rows r) k
+      → slice_get (nodes_of paths spots) (mark_in (row_at rows r) k - 1) ≡ Some (k, q)
   marked k q r at some =
       let n = mark_in (row_at rows r) k in
       let s : IsSpotted spots r k n = filed.spotted r k some in
-      slice_get-map (node_of paths) spots (n - 1) ∙ ap (option_map (node_of paths)) (slice_get-get_or spots (n - 1) _ (let i = s.inside in omega arith)) ∙ (λ j. Some (s.kind j, get_or paths (s.path j) [])) ∙ ap (λ (p : List Step). Some (k, p)) (get_or_from_slice_get paths r q [] at)
+      slice_get-map (node_of paths) spots (n - 1) ∙ ap (option_map (node_of paths)) (slice_get-get_or spots (n - 1) _ (let i = s.inside in omega arith))
+      ∙ (λ j. Some (s.kind j, get_or paths (s.path j) [])) ∙ ap (λ (p : List Step). Some (k, p)) (get_or_from_slice_get paths r q [] at)
 
   -- no two places have one node
-  pub one_place : ((i j : ℕ) → i < length paths → j < length paths → get_or paths i [] ≡ get_or paths j [] → i ≡ j) → (i j : ℕ) → i < length (nodes_of paths spots) → j < length (nodes_of paths spots) → slice_get (nodes_of paths spots) i ≡ slice_get (nodes_of paths spots) j → i ≡ j
+  pub one_place : ((i j : ℕ) → i < length paths → j < length paths → get_or paths i [] ≡ get_or paths j [] → i ≡ j) → (i j : ℕ)
+      → i < length (nodes_of paths spots) → j < length (nodes_of paths spots) → slice_get (nodes_of paths spots) i ≡ slice_get (nodes_of paths spots) j
+      → i ≡ j
   one_place unique i j li lj e =
       let count = length-map spots (node_of paths) in
       let other = spot_at spots j in
-      let at : slice_get (nodes_of paths spots) j ≡ Some (node_of paths other) = slice_get-map (node_of paths) spots j ∙ ap (option_map (node_of paths)) (slice_get-get_or spots j _ (omega arith)) in
+      let at : slice_get (nodes_of paths spots) j ≡ Some (node_of paths other) =
+      slice_get-map (node_of paths) spots j ∙ ap (option_map (node_of paths)) (slice_get-get_or spots j _ (omega arith)) in
       let a : Has i other.kind (get_or paths other.path []) = has i other.kind (get_or paths other.path []) (e ∙ at) in
       let b : Has j other.kind (get_or paths other.path []) = has j other.kind (get_or paths other.path []) at in
       let same : (spot_at spots i).path ≡ other.path = unique (spot_at spots i).path other.path a.there b.there a.path in
@@ -97,12 +115,14 @@ mark_now r Value n = refl
 mark_now r End n = refl
 mark_now r Rest n = refl
 
-module _ (paths paths2 : List (List Step)) (rows rows2 : List Row) (spots : List Spot) (filed : IsFiled paths rows spots) (roomed : IsRoomed paths paths2 rows rows2) where
+module _ (paths paths2 : List (List Step)) (rows rows2 : List Row) (spots : List Spot) (filed : IsFiled paths rows spots)
+    (roomed : IsRoomed paths paths2 rows rows2) where
   pub filed_more : IsFiled paths2 rows2 spots
   filed_more = record {
     few = roomed.few;
     rowed = λ i lt. ap (λ (r : Row). mark_in r (spot_at spots i).kind) (roomed.same (spot_at spots i).path) ∙ filed.rowed i lt;
-    spotted = λ r k some. subst (λ (x : Row). IsSpotted spots r k (mark_in x k)) (sym (roomed.same r)) (filed.spotted r k (subst (λ (x : Row). 0 < mark_in x k) (roomed.same r) some));
+    spotted = λ r k some. subst (λ (x : Row). IsSpotted spots r k (mark_in x k)) (sym (roomed.same r))
+        (filed.spotted r k (subst (λ (x : Row). 0 < mark_in x k) (roomed.same r) some));
   }
 
   pub nodes_same : nodes_of paths2 spots ≡ nodes_of paths spots
@@ -113,8 +133,11 @@ module _ (paths paths2 : List (List Step)) (rows rows2 : List Row) (spots : List
           let n = length-map spots (node_of paths2) in
           let lt : k < length spots = omega arith in
           let there : (spot_at spots k).path < length paths = (let a = path_in paths rows spots filed k lt in let b = filed.few in omega arith) in
-          let same : get_or paths2 (spot_at spots k).path [] ≡ get_or paths (spot_at spots k).path [] = ap (λ (ps : List (List Step)). get_or ps (spot_at spots k).path []) roomed.more.grown ∙ get_or_append_left paths roomed.more.more [] (spot_at spots k).path there in
-          get_or-map (node_of paths2) spots k _ d lt ∙ ap (λ (q : List Step). ((spot_at spots k).kind, q)) same ∙ sym (get_or-map (node_of paths) spots k _ d lt)
+          let same : get_or paths2 (spot_at spots k).path [] ≡ get_or paths (spot_at spots k).path [] =
+          ap (λ (ps : List (List Step)). get_or ps (spot_at spots k).path []) roomed.more.grown
+          ∙ get_or_append_left paths roomed.more.more [] (spot_at spots k).path there in
+          get_or-map (node_of paths2) spots k _ d lt ∙ ap (λ (q : List Step). ((spot_at spots k).kind, q)) same
+          ∙ sym (get_or-map (node_of paths) spots k _ d lt)
 
 -- a mark written into a row
 module _ (rows : List Row) (path : ℕ) (kind : NodeKind) (n : ℕ) (inside : path < length rows) where
@@ -131,10 +154,14 @@ module _ (rows : List Row) (path : ℕ) (kind : NodeKind) (n : ℕ) (inside : pa
   pub other_marks : (r : ℕ) (k : NodeKind) → (mark_in (row_at written r) k ≡ mark_in (row_at rows r) k) ⊎ ((r ≡ path) × (k ≡ kind))
   other_marks r k = by (eqb_tells r path) (kinds k kind)
     where
-      by : ((eqb r path ≡ true) × (r ≡ path)) ⊎ ((eqb r path ≡ false) × (r ≢ path)) → (k ≡ kind) ⊎ ((x : Row) (m : ℕ) → mark_in (with_mark x kind m) k ≡ mark_in x k) → (mark_in (row_at written r) k ≡ mark_in (row_at rows r) k) ⊎ ((r ≡ path) × (k ≡ kind))
+      by : ((eqb r path ≡ true) × (r ≡ path)) ⊎ ((eqb r path ≡ false) × (r ≢ path))
+          → (k ≡ kind) ⊎ ((x : Row) (m : ℕ) → mark_in (with_mark x kind m) k ≡ mark_in x k)
+          → (mark_in (row_at written r) k ≡ mark_in (row_at rows r) k) ⊎ ((r ≡ path) × (k ≡ kind))
       by (inr e) f = inl (ap (λ (x : Row). mark_in x k) (get_or-set_other rows path r _ no_row e.1))
       by (inl e) (inl f) = inr (e.1, f)
-      by (inl e) (inr f) = inl (ap (λ m. mark_in (row_at written m) k) e.1 ∙ ap (λ (x : Row). mark_in x k) now_row ∙ f (row_at rows path) n ∙ ap (λ m. mark_in (row_at rows m) k) (sym e.1))
+      by (inl e) (inr f) =
+          inl (ap (λ m. mark_in (row_at written m) k) e.1 ∙ ap (λ (x : Row). mark_in x k) now_row ∙ f (row_at rows path) n
+          ∙ ap (λ m. mark_in (row_at rows m) k) (sym e.1))
 
 -- behind the last place there is none
 pub open_behind : (paths : List (List Step)) (rows : List Row) (spots : List Spot) → IsFiled paths rows spots → IsOpen rows spots (length spots)
@@ -164,9 +191,12 @@ module _ (paths : List (List Step)) (rows : List Row) (spots : List Spot) (filed
   rowed1 : (i : ℕ) → i < length spots → i ≢ place → mark_in (row_at cleared (spot_at spots i).path) (spot_at spots i).kind ≡ i + 1
   rowed1 i lt ne = by (others (spot_at spots i).path (spot_at spots i).kind)
     where
-      by : (mark_in (row_at cleared (spot_at spots i).path) (spot_at spots i).kind ≡ mark_in (row_at rows (spot_at spots i).path) (spot_at spots i).kind) ⊎ (((spot_at spots i).path ≡ spot.path) × ((spot_at spots i).kind ≡ spot.kind)) → mark_in (row_at cleared (spot_at spots i).path) (spot_at spots i).kind ≡ i + 1
+      by : (mark_in (row_at cleared (spot_at spots i).path) (spot_at spots i).kind ≡ mark_in (row_at rows (spot_at spots i).path) (spot_at spots i).kind) ⊎
+          (((spot_at spots i).path ≡ spot.path) × ((spot_at spots i).kind ≡ spot.kind))
+          → mark_in (row_at cleared (spot_at spots i).path) (spot_at spots i).kind ≡ i + 1
       by (inl e) = e ∙ filed.rowed i lt
-      by (inr e) = let same : i + 1 ≡ place + 1 = sym (filed.rowed i lt) ∙ (λ j. mark_in (row_at rows (e.0 j)) (e.1 j)) ∙ filed.rowed place there in absurd (ne (omega arith))
+      by (inr e) = let same : i + 1 ≡ place + 1 = sym (filed.rowed i lt) ∙ (λ j. mark_in (row_at rows (e.0 j)) (e.1 j))
+          ∙ filed.rowed place there in absurd (ne (omega arith))
 
   spotted1 : (r : ℕ) (k : NodeKind) → 0 < mark_in (row_at cleared r) k → IsSpotted spots r k (mark_in (row_at cleared r) k)
   spotted1 r k some = by (others r k)
@@ -202,7 +232,8 @@ module _ (paths : List (List Step)) (rows : List Row) (spots : List Spot) (filed
       by (inr e) = gone r k e
 
 -- an open place is given to a node whose path's row has no mark of its kind
-module _ (paths : List (List Step)) (rows : List Row) (spots : List Spot) (place : ℕ) (open_place : IsOpen rows spots place) (path : ℕ) (kind : NodeKind) (inside : path < length rows) (no_mark : mark_in (row_at rows path) kind ≡ 0) (few : length rows ≤ length paths) where
+module _ (paths : List (List Step)) (rows : List Row) (spots : List Spot) (place : ℕ) (open_place : IsOpen rows spots place) (path : ℕ) (kind : NodeKind)
+    (inside : path < length rows) (no_mark : mark_in (row_at rows path) kind ≡ 0) (few : length rows ≤ length paths) where
   abbrev filled : List Row
   filled = set rows path (with_mark (row_at rows path) kind (place + 1))
 
@@ -212,17 +243,26 @@ module _ (paths : List (List Step)) (rows : List Row) (spots : List Spot) (place
   here : (r : ℕ) (k : NodeKind) → (r ≡ path) × (k ≡ kind) → mark_in (row_at filled r) k ≡ place + 1
   here r k e = (λ i. mark_in (row_at filled (e.0 i)) (e.1 i)) ∙ now_mark rows path kind (place + 1) inside
 
-  module _ (spots2 : List Spot) (now_spot : spot_at spots2 place ≡ record { path = path; kind = kind }) (there : place < length spots2) (more : length spots ≤ length spots2) (old_in : (i : ℕ) → i < length spots2 → i ≢ place → i < length spots) (old_spot : (i : ℕ) → i < length spots → i ≢ place → spot_at spots2 i ≡ spot_at spots i) where
+  module _ (spots2 : List Spot) (now_spot : spot_at spots2 place ≡ record { path = path; kind = kind }) (there : place < length spots2)
+      (more : length spots ≤ length spots2) (old_in : (i : ℕ) → i < length spots2 → i ≢ place → i < length spots)
+      (old_spot : (i : ℕ) → i < length spots → i ≢ place → spot_at spots2 i ≡ spot_at spots i) where
     rowed2 : (i : ℕ) → i < length spots2 → mark_in (row_at filled (spot_at spots2 i).path) (spot_at spots2 i).kind ≡ i + 1
     rowed2 i lt = by (eqb_tells i place)
       where
-        old : (l : i < length spots) → i ≢ place → (mark_in (row_at filled (spot_at spots i).path) (spot_at spots i).kind ≡ mark_in (row_at rows (spot_at spots i).path) (spot_at spots i).kind) ⊎ (((spot_at spots i).path ≡ path) × ((spot_at spots i).kind ≡ kind)) → mark_in (row_at filled (spot_at spots i).path) (spot_at spots i).kind ≡ i + 1
+        old : (l : i < length spots) → i ≢ place
+            → (mark_in (row_at filled (spot_at spots i).path) (spot_at spots i).kind ≡ mark_in (row_at rows (spot_at spots i).path) (spot_at spots i).kind) ⊎
+            (((spot_at spots i).path ≡ path) × ((spot_at spots i).kind ≡ kind))
+            → mark_in (row_at filled (spot_at spots i).path) (spot_at spots i).kind ≡ i + 1
         old l ne (inl e) = e ∙ open_place.rowed i l ne
-        old l ne (inr e) = let zero_is : i + 1 ≡ 0 = sym (open_place.rowed i l ne) ∙ (λ j. mark_in (row_at rows (e.0 j)) (e.1 j)) ∙ no_mark in absurd (omega arith)
+        old l ne (inr e) = let zero_is : i + 1 ≡ 0 = sym (open_place.rowed i l ne) ∙ (λ j. mark_in (row_at rows (e.0 j)) (e.1 j))
+            ∙ no_mark in absurd (omega arith)
 
-        by : ((eqb i place ≡ true) × (i ≡ place)) ⊎ ((eqb i place ≡ false) × (i ≢ place)) → mark_in (row_at filled (spot_at spots2 i).path) (spot_at spots2 i).kind ≡ i + 1
-        by (inl e) = let at : spot_at spots2 i ≡ record { path = path; kind = kind } = ap (λ k. spot_at spots2 k) e.1 ∙ now_spot in here _ _ (ap (λ (x : Spot). x.path) at, ap (λ (x : Spot). x.kind) at) ∙ ap (λ k. k + 1) (sym e.1)
-        by (inr e) = let l = old_in i lt e.1 in ap (λ (x : Spot). mark_in (row_at filled x.path) x.kind) (old_spot i l e.1) ∙ old l e.1 (changed (spot_at spots i).path (spot_at spots i).kind)
+        by : ((eqb i place ≡ true) × (i ≡ place)) ⊎ ((eqb i place ≡ false) × (i ≢ place))
+            → mark_in (row_at filled (spot_at spots2 i).path) (spot_at spots2 i).kind ≡ i + 1
+        by (inl e) = let at : spot_at spots2 i ≡ record { path = path; kind = kind } =
+            ap (λ k. spot_at spots2 k) e.1 ∙ now_spot in here _ _ (ap (λ (x : Spot). x.path) at, ap (λ (x : Spot). x.kind) at) ∙ ap (λ k. k + 1) (sym e.1)
+        by (inr e) = let l = old_in i lt e.1 in ap (λ (x : Spot). mark_in (row_at filled x.path) x.kind) (old_spot i l e.1)
+            ∙ old l e.1 (changed (spot_at spots i).path (spot_at spots i).kind)
 
     spotted2 : (r : ℕ) (k : NodeKind) → 0 < mark_in (row_at filled r) k → IsSpotted spots2 r k (mark_in (row_at filled r) k)
     spotted2 r k some = by (changed r k)
@@ -235,35 +275,50 @@ module _ (paths : List (List Step)) (rows : List Row) (spots : List Spot) (place
             let not_here : m ≢ place + 1 = open_place.unused r k in
             let i = s.inside in
             let o : spot_at spots2 (m - 1) ≡ spot_at spots (m - 1) = old_spot (m - 1) (omega arith) (λ f. not_here (omega arith)) in
-            subst (IsSpotted spots2 r k) (sym e) (record { inside = omega arith; path = ap (λ (x : Spot). x.path) o ∙ s.path; kind = ap (λ (x : Spot). x.kind) o ∙ s.kind })
+            subst (IsSpotted spots2 r k) (sym e)
+            (record { inside = omega arith; path = ap (λ (x : Spot). x.path) o ∙ s.path; kind = ap (λ (x : Spot). x.kind) o ∙ s.kind })
         by (inr e) =
-            let o : spot_at spots2 (place + 1 - 1) ≡ record { path = path; kind = kind } = ap (λ n. spot_at spots2 n) (let m : place + 1 - 1 ≡ place = omega arith in m) ∙ now_spot in
-            subst (IsSpotted spots2 r k) (sym (here r k e)) (record { inside = omega arith; path = ap (λ (x : Spot). x.path) o ∙ sym e.0; kind = ap (λ (x : Spot). x.kind) o ∙ sym e.1 })
+            let o : spot_at spots2 (place + 1 - 1) ≡ record { path = path; kind = kind } =
+            ap (λ n. spot_at spots2 n) (let m : place + 1 - 1 ≡ place = omega arith in m) ∙ now_spot in
+            subst (IsSpotted spots2 r k) (sym (here r k e))
+            (record { inside = omega arith; path = ap (λ (x : Spot). x.path) o ∙ sym e.0; kind = ap (λ (x : Spot). x.kind) o ∙ sym e.1 })
 
     filed_then : IsFiled paths filled spots2
-    filed_then = record { few = (let n = length-set rows path (with_mark (row_at rows path) kind (place + 1)) in omega arith); rowed = rowed2; spotted = spotted2 }
+    filed_then = record {
+      few = (let n = length-set rows path (with_mark (row_at rows path) kind (place + 1)) in omega arith);
+      rowed = rowed2;
+      spotted =
+          spotted2;
+    }
 
   pub filed_push : place ≡ length spots → IsFiled paths filled (spots ++ record { path = path; kind = kind } ∷ [])
   filed_push e =
       let s : Spot = record { path = path; kind = kind } in
       let n = length_push spots s in
-      filed_then (spots ++ s ∷ []) (get_last spots s _ place (sym e)) (omega arith) (omega arith) (λ i l ne. omega arith) (λ i l ne. get_or_append_left spots (s ∷ []) _ i l)
+      filed_then (spots ++ s ∷ []) (get_last spots s _ place (sym e)) (omega arith) (omega arith) (λ i l ne. omega arith)
+      (λ i l ne. get_or_append_left spots (s ∷ []) _ i l)
 
   pub filed_set : place < length spots → IsFiled paths filled (set spots place (record { path = path; kind = kind }))
   filed_set l =
       let s : Spot = record { path = path; kind = kind } in
       let n = length-set spots place s in
-      filed_then (set spots place s) (get_or-set_same spots place s _ l) (omega arith) (omega arith) (λ i l ne. omega arith) (λ i l ne. get_or-set_other spots place i s _ ne)
+      filed_then (set spots place s) (get_or-set_same spots place s _ l) (omega arith) (omega arith) (λ i l ne. omega arith)
+      (λ i l ne. get_or-set_other spots place i s _ ne)
 
 -- the nodes then
-pub nodes_push : (paths : List (List Step)) (spots : List Spot) (kind : NodeKind) (q : List Step) (path : ℕ) → slice_get paths path ≡ Some q → nodes_of paths (spots ++ record { path = path; kind = kind } ∷ []) ≡ nodes_of paths spots ++ (kind, q) ∷ []
-nodes_push paths spots kind q path at = map-append (node_of paths) spots (record { path = path; kind = kind } ∷ []) ∙ ap (λ (p : List Step). nodes_of paths spots ++ (kind, p) ∷ []) (get_or_from_slice_get paths path q [] at)
+pub nodes_push : (paths : List (List Step)) (spots : List Spot) (kind : NodeKind) (q : List Step) (path : ℕ) → slice_get paths path ≡ Some q
+    → nodes_of paths (spots ++ record { path = path; kind = kind } ∷ []) ≡ nodes_of paths spots ++ (kind, q) ∷ []
+nodes_push paths spots kind q path at = map-append (node_of paths) spots (record { path = path; kind = kind } ∷ [])
+    ∙ ap (λ (p : List Step). nodes_of paths spots ++ (kind, p) ∷ []) (get_or_from_slice_get paths path q [] at)
 
-pub nodes_set : (paths : List (List Step)) (spots : List Spot) (place : ℕ) (kind : NodeKind) (q : List Step) (path : ℕ) → slice_get paths path ≡ Some q → nodes_of paths (set spots place (record { path = path; kind = kind })) ≡ set (nodes_of paths spots) place (kind, q)
-nodes_set paths spots place kind q path at = map-set (node_of paths) spots place (record { path = path; kind = kind }) ∙ ap (λ (p : List Step). set (nodes_of paths spots) place (kind, p)) (get_or_from_slice_get paths path q [] at)
+pub nodes_set : (paths : List (List Step)) (spots : List Spot) (place : ℕ) (kind : NodeKind) (q : List Step) (path : ℕ) → slice_get paths path ≡ Some q
+    → nodes_of paths (set spots place (record { path = path; kind = kind })) ≡ set (nodes_of paths spots) place (kind, q)
+nodes_set paths spots place kind q path at = map-set (node_of paths) spots place (record { path = path; kind = kind })
+    ∙ ap (λ (p : List Step). set (nodes_of paths spots) place (kind, p)) (get_or_from_slice_get paths path q [] at)
 
 -- a node that has no place has no mark in its path's row
-pub no_mark : (paths : List (List Step)) (rows : List Row) (spots : List Spot) → IsFiled paths rows spots → (kind : NodeKind) (q : List Step) (path : ℕ) → slice_get paths path ≡ Some q → ((i : ℕ) → slice_get (nodes_of paths spots) i ≡ Some (kind, q) → ⊥) → mark_in (row_at rows path) kind ≡ 0
+pub no_mark : (paths : List (List Step)) (rows : List Row) (spots : List Spot) → IsFiled paths rows spots → (kind : NodeKind) (q : List Step) (path : ℕ)
+    → slice_get paths path ≡ Some q → ((i : ℕ) → slice_get (nodes_of paths spots) i ≡ Some (kind, q) → ⊥) → mark_in (row_at rows path) kind ≡ 0
 no_mark paths rows spots filed kind q path at free = by (cases_lt 0 (mark_in (row_at rows path) kind))
   where
     by : (0 < mark_in (row_at rows path) kind) ⊎ (mark_in (row_at rows path) kind ≤ 0) → mark_in (row_at rows path) kind ≡ 0

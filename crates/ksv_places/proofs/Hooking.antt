@@ -22,7 +22,8 @@ none_second : (a b : ℕ) → a ≡ 0 → first_of_both a b ≡ b
 none_second zero b e = refl
 none_second (suc a) b e = absurd (omega arith)
 
-module _ (links : List Link) (firsts : ℕ → ℕ) (members elements : ℕ → ℕ → ℕ) (tree : IsTree links firsts members elements) (r : ℕ) (there : r < length links) (link : Link) (parent : link.parent ≡ r) where
+module _ (links : List Link) (firsts : ℕ → ℕ) (members elements : ℕ → ℕ → ℕ) (tree : IsTree links firsts members elements) (r : ℕ) (there : r < length links)
+    (link : Link) (parent : link.parent ≡ r) where
   abbrev links2 : List Link
   links2 = links ++ link ∷ []
 
@@ -43,7 +44,8 @@ module _ (links : List Link) (firsts : ℕ → ℕ) (members elements : ℕ → 
   same_firsts q p = let h = tree.heads q p in let n = count2 in omega arith
 
   -- a member at the front of the chain
-  module _ (x : ℕ) (step : link.step ≡ Name x) (firsts2 : ℕ → ℕ) (next : link.next ≡ firsts r) (put : IsPut firsts firsts2 r (length links)) (free : look links firsts members elements r (Name x) ≡ 0) where
+  module _ (x : ℕ) (step : link.step ≡ Name x) (firsts2 : ℕ → ℕ) (next : link.next ≡ firsts r) (put : IsPut firsts firsts2 r (length links))
+      (free : look links firsts members elements r (Name x) ≡ 0) where
     less_f : link.next < length links
     less_f = let h = first_in r in omega arith
 
@@ -51,13 +53,18 @@ module _ (links : List Link) (firsts : ℕ → ℕ) (members elements : ℕ → 
     leads_f = record { here = here; others = others }
       where
         here : look links2 firsts2 members elements r (Name x) ≡ length links
-        here = some_first _ (members r x) (length links) (ap (λ h. chain links2 (length links2) h x) put.here ∙ new_chain links link tree.next some less_f x (ap (λ s. is_name s x) step ∙ nat_self x)) some
+        here = some_first _ (members r x) (length links)
+            (ap (λ h. chain links2 (length links2) h x) put.here ∙ new_chain links link tree.next some less_f x (ap (λ s. is_name s x) step ∙ nat_self x))
+            some
 
-        by_name : (q y : ℕ) → (q ≡ r → y ≢ x) → ((eqb q r ≡ true) × (q ≡ r)) ⊎ ((eqb q r ≡ false) × (q ≢ r)) → chain links2 (length links2) (firsts2 q) y ≡ chain links (length links) (firsts q) y
+        by_name : (q y : ℕ) → (q ≡ r → y ≢ x) → ((eqb q r ≡ true) × (q ≡ r)) ⊎ ((eqb q r ≡ false) × (q ≢ r))
+            → chain links2 (length links2) (firsts2 q) y ≡ chain links (length links) (firsts q) y
         by_name q y ne (inl e) =
             let named : is_name link.step y ≡ false = ap (λ s. is_name s y) step ∙ nat_other x y (λ f. ne e.1 (sym f)) in
-            ap (λ k. chain links2 (length links2) (firsts2 k) y) e.1 ∙ ap (λ h. chain links2 (length links2) h y) put.here ∙ past_new links link tree.next some less_f y named ∙ ap (λ h. chain links (length links) h y) (next ∙ ap firsts (sym e.1))
-        by_name q y ne (inr e) = ap (λ h. chain links2 (length links2) h y) (put.other q e.1) ∙ same_chain links link tree.next some less_f (firsts q) y (first_in q)
+            ap (λ k. chain links2 (length links2) (firsts2 k) y) e.1 ∙ ap (λ h. chain links2 (length links2) h y) put.here
+            ∙ past_new links link tree.next some less_f y named ∙ ap (λ h. chain links (length links) h y) (next ∙ ap firsts (sym e.1))
+        by_name q y ne (inr e) = ap (λ h. chain links2 (length links2) h y) (put.other q e.1)
+            ∙ same_chain links link tree.next some less_f (firsts q) y (first_in q)
 
         others : (q : ℕ) (t : Step) → ((q ≡ r) × (t ≡ Name x) → ⊥) → look links2 firsts2 members elements q t ≡ look links firsts members elements q t
         others q (Name y) ne = ap (λ n. first_of_both n (members q y)) (by_name q y (λ e f. ne (e, ap Name f)) (eqb_tells q r))
@@ -71,10 +78,12 @@ module _ (links : List Link) (firsts : ℕ → ℕ) (members elements : ℕ → 
         by (inr e) = let h = put.other q e.1 in let o = first_in q in let m = count2 in omega arith
 
     pub first_grown : IsTree links2 firsts2 members elements
-    first_grown = grown_tree links link tree.next some less_f firsts members elements tree r (Name x) there free parent step firsts2 members elements leads_f heads_f
+    first_grown = grown_tree links link tree.next some less_f firsts members elements tree r (Name x) there free parent step firsts2 members elements leads_f
+        heads_f
 
   -- a member in the table
-  module _ (x : ℕ) (step : link.step ≡ Name x) (next : link.next ≡ 0) (members2 : ℕ → ℕ → ℕ) (put : IsPutAt members members2 r x (length links)) (free : look links firsts members elements r (Name x) ≡ 0) where
+  module _ (x : ℕ) (step : link.step ≡ Name x) (next : link.next ≡ 0) (members2 : ℕ → ℕ → ℕ) (put : IsPutAt members members2 r x (length links))
+      (free : look links firsts members elements r (Name x) ≡ 0) where
     less_m : link.next < length links
     less_m = omega arith
 
@@ -92,10 +101,12 @@ module _ (links : List Link) (firsts : ℕ → ℕ) (members elements : ℕ → 
         others q (Index j) ne = refl
 
     pub member_grown : IsTree links2 firsts members2 elements
-    member_grown = grown_tree links link tree.next some less_m firsts members elements tree r (Name x) there free parent step firsts members2 elements leads_m same_firsts
+    member_grown = grown_tree links link tree.next some less_m firsts members elements tree r (Name x) there free parent step firsts members2 elements leads_m
+        same_firsts
 
   -- an element
-  module _ (i : ℕ) (step : link.step ≡ Index i) (next : link.next ≡ 0) (elements2 : ℕ → ℕ → ℕ) (put : IsPutAt elements elements2 r i (length links)) (free : look links firsts members elements r (Index i) ≡ 0) where
+  module _ (i : ℕ) (step : link.step ≡ Index i) (next : link.next ≡ 0) (elements2 : ℕ → ℕ → ℕ) (put : IsPutAt elements elements2 r i (length links))
+      (free : look links firsts members elements r (Index i) ≡ 0) where
     less_e : link.next < length links
     less_e = omega arith
 
@@ -107,10 +118,13 @@ module _ (links : List Link) (firsts : ℕ → ℕ) (members elements : ℕ → 
         others q (Index j) ne = put.other q j (λ h. ne (h.0, ap Index h.1))
 
     pub element_grown : IsTree links2 firsts members elements2
-    element_grown = grown_tree links link tree.next some less_e firsts members elements tree r (Index i) there free parent step firsts members elements2 leads_e same_firsts
+    element_grown = grown_tree links link tree.next some less_e firsts members elements tree r (Index i) there free parent step firsts members elements2 leads_e
+        same_firsts
 
   -- with either step
-  pub hooked : (s : Step) (firsts2 : ℕ → ℕ) (members2 elements2 : ℕ → ℕ → ℕ) → Hooks firsts firsts2 members members2 elements elements2 r s (length links) link.next → link.step ≡ s → look links firsts members elements r s ≡ 0 → IsTree links2 firsts2 members2 elements2
+  pub hooked : (s : Step) (firsts2 : ℕ → ℕ) (members2 elements2 : ℕ → ℕ → ℕ)
+      → Hooks firsts firsts2 members members2 elements elements2 r s (length links) link.next → link.step ≡ s → look links firsts members elements r s ≡ 0
+      → IsTree links2 firsts2 members2 elements2
   hooked (Name x) firsts2 members2 elements2 (inl h) step free =
       subst (λ (e : ℕ → ℕ → ℕ). IsTree links2 firsts2 members2 e) (sym h.1)
       (subst (λ (m : ℕ → ℕ → ℕ). IsTree links2 firsts2 m elements) (sym h.0.same) (first_grown x step firsts2 h.0.next_is h.0.put free))

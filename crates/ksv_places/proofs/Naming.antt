@@ -1,9 +1,11 @@
 -- Nodes and their kinds and steps.
-use Rattle.std.proofs.Common.{◌≡◌, ◌≢◌, eqb, ℕ, zero, suc, ◌<◌, ◌≤◌, ◌⊎◌, inl, inr, Bool, true, false, List, [], ◌∷◌, ◌++◌, length, get_or, set, reverse, Some, refl, sym, ◌∙◌, ap, arith, slice_get}
+use Rattle.std.proofs.Common.{◌≡◌, ◌≢◌, eqb, ℕ, zero, suc, ◌<◌, ◌≤◌, ◌⊎◌, inl, inr, Bool, true, false, List, [], ◌∷◌, ◌++◌, length, get_or, set, reverse, Some}
+use Rattle.std.proofs.Common.{refl, sym, ◌∙◌, ap, arith, slice_get}
 use Rattle.std.specs.List.{list_any, IsDistinct}
 use Rattle.std.specs.Option.{option_map}
 use Rattle.std.proofs.lemmas.Bool.{cases_lt}
-use Rattle.std.proofs.lemmas.List.{length-map, length_push, length-set, get_or_append_left, get_or-set_same, get_or-set_other, map-append, map-set, reverse-reverse}
+use Rattle.std.proofs.lemmas.List.{length-map, length_push, length-set, get_or_append_left, get_or-set_same, get_or-set_other, map-append, map-set}
+use Rattle.std.proofs.lemmas.List.{reverse-reverse}
 use Rattle.std.proofs.lemmas.Bool.Decides.{eqb_tells}
 use Rattle.std.proofs.lemmas.List.Elements.{recursion_from_All}
 use Rattle.std.proofs.lemmas.List.Folds.{list_any_none, list_any_at}
@@ -60,18 +62,23 @@ module _ (ps : List (NodeKind × List Step)) (fit : AllFit ps) where
       by false e = e
 
   pub none_is : (n : Node) → ((j : ℕ) → slice_get ps j ≡ Some (pair_of n) → ⊥) → list_any (node_tests.eq n) (all_named ps) ≡ false
-  none_is n none = list_any_none (node_tests.eq n) (all_named ps) (λ k d lt. differs n (get_or (all_named ps) k d) k none (slice_get-get_or (all_named ps) k d lt))
+  none_is n none = list_any_none (node_tests.eq n) (all_named ps)
+      (λ k d lt. differs n (get_or (all_named ps) k d) k none (slice_get-get_or (all_named ps) k d lt))
 
-  pub apart_named : ((i j : ℕ) → i < length ps → j < length ps → slice_get ps i ≡ slice_get ps j → i ≡ j) → (i j : ℕ) (n : Node) → slice_get (all_named ps) i ≡ Some n → slice_get (all_named ps) j ≡ Some n → i ≡ j
+  pub apart_named : ((i j : ℕ) → i < length ps → j < length ps → slice_get ps i ≡ slice_get ps j → i ≡ j) → (i j : ℕ) (n : Node)
+      → slice_get (all_named ps) i ≡ Some n → slice_get (all_named ps) j ≡ Some n → i ≡ j
   apart_named apart i j n a b =
       let e = from_named ps fit i n a in
       let f = from_named ps fit j n b in
       apart i j (slice_get_within ps i _ e) (slice_get_within ps j _ f) (e ∙ sym f)
 
-pub is_none : (ps : List (NodeKind × List Step)) (n : Node) → list_any (node_tests.eq n) (all_named ps) ≡ false → (i : ℕ) → slice_get ps i ≡ Some (pair_of n) → ⊥
+pub is_none : (ps : List (NodeKind × List Step)) (n : Node) → list_any (node_tests.eq n) (all_named ps) ≡ false → (i : ℕ) → slice_get ps i ≡ Some (pair_of n)
+    → ⊥
 is_none ps n none i e =
     let at = at_named ps i n e in
-    let found : list_any (node_tests.eq n) (all_named ps) ≡ true = list_any_at (node_tests.eq n) (all_named ps) i n (slice_get_within (all_named ps) i n at) (ap (node_tests.eq n) (get_or_from_slice_get (all_named ps) i n n at) ∙ node_laws.refl n) in
+    let found : list_any (node_tests.eq n) (all_named ps) ≡ true =
+    list_any_at (node_tests.eq n) (all_named ps) i n (slice_get_within (all_named ps) i n at)
+    (ap (node_tests.eq n) (get_or_from_slice_get (all_named ps) i n n at) ∙ node_laws.refl n) in
     absurd (let bad : true ≡ false = sym found ∙ none in cc)
 
 no_nodes : IsDistinct node_tests.eq []
@@ -81,13 +88,15 @@ no_nodes = tt
 -- nodes at different places differ
 pub distinct : (ns : List Node) → ((i j : ℕ) (n : Node) → slice_get ns i ≡ Some n → slice_get ns j ≡ Some n → i ≡ j) → IsDistinct node_tests.eq ns
 distinct [] h = no_nodes
-distinct (n ∷ ns) h = IsDistinct-cons node_tests.eq n ns (recursion_from_All (λ y. node_tests.eq n y ≡ false) ns first) (distinct ns (λ i j m a b. let e : suc i ≡ suc j = h (suc i) (suc j) m a b in omega arith))
+distinct (n ∷ ns) h = IsDistinct-cons node_tests.eq n ns (recursion_from_All (λ y. node_tests.eq n y ≡ false) ns first)
+    (distinct ns (λ i j m a b. let e : suc i ≡ suc j = h (suc i) (suc j) m a b in omega arith))
   where
     first : (k : ℕ) (d : Node) → k < length ns → node_tests.eq n (get_or ns k d) ≡ false
     first k d lt = by (node_tests.eq n (get_or ns k d)) refl
       where
         by : (b : Bool) → node_tests.eq n (get_or ns k d) ≡ b → node_tests.eq n (get_or ns k d) ≡ false
-        by true e = let same : zero ≡ suc k = h zero (suc k) n refl (slice_get-get_or ns k d lt ∙ ap Some (sym (node_exact n (get_or ns k d) e))) in absurd (omega arith)
+        by true e = let same : zero ≡ suc k = h zero (suc k) n refl (slice_get-get_or ns k d lt ∙ ap Some (sym (node_exact n (get_or ns k d) e))) in absurd
+            (omega arith)
         by false e = e
 
 -- all fit still with one more, and with another one
@@ -96,7 +105,8 @@ fit_push ps n fit k d l = by (cases_lt k (length ps))
   where
     by : (k < length ps) ⊎ (length ps ≤ k) → fits (get_or (ps ++ pair_of n ∷ []) k d).1 ≡ true
     by (inl lt) = ap (λ (p : NodeKind × List Step). fits p.1) (get_or_append_left ps (pair_of n ∷ []) d k lt) ∙ fit k d lt
-    by (inr le) = let c = length_push ps (pair_of n) in let same : length ps ≡ k = omega arith in ap (λ (p : NodeKind × List Step). fits p.1) (get_last ps (pair_of n) d k same) ∙ n.path.valid
+    by (inr le) = let c = length_push ps (pair_of n) in let same : length ps ≡ k =
+        omega arith in ap (λ (p : NodeKind × List Step). fits p.1) (get_last ps (pair_of n) d k same) ∙ n.path.valid
 
 pub fit_set : (ps : List (NodeKind × List Step)) (place : ℕ) (n : Node) → AllFit ps → AllFit (set ps place (pair_of n))
 fit_set ps place n fit k d l = by (eqb_tells k place)
@@ -105,7 +115,8 @@ fit_set ps place n fit k d l = by (eqb_tells k place)
     c = length-set ps place (pair_of n)
 
     by : ((eqb k place ≡ true) × (k ≡ place)) ⊎ ((eqb k place ≡ false) × (k ≢ place)) → fits (get_or (set ps place (pair_of n)) k d).1 ≡ true
-    by (inl e) = let m = c in let f = e.1 in ap (λ j. fits (get_or (set ps place (pair_of n)) j d).1) e.1 ∙ ap (λ (p : NodeKind × List Step). fits p.1) (get_or-set_same ps place (pair_of n) d (omega arith)) ∙ n.path.valid
+    by (inl e) = let m = c in let f = e.1 in ap (λ j. fits (get_or (set ps place (pair_of n)) j d).1) e.1
+        ∙ ap (λ (p : NodeKind × List Step). fits p.1) (get_or-set_same ps place (pair_of n) d (omega arith)) ∙ n.path.valid
     by (inr e) = let m = c in ap (λ (p : NodeKind × List Step). fits p.1) (get_or-set_other ps place k (pair_of n) d e.1) ∙ fit k d (omega arith)
 
 pub named_push : (ps : List (NodeKind × List Step)) (n : Node) → all_named (ps ++ pair_of n ∷ []) ≡ all_named ps ++ n ∷ []

@@ -14,7 +14,9 @@ apart_from d i e = grind (arith, common_steps, nat_tests, get_or_past d.down (d.
 far_at : (t : Pages) (i : ℕ) → 1024 ≤ i → table_at t i ≡ first_of_both (descent_at t.descent i) (page_at t i)
 far_at t i far = grind (arith, common_steps, nat_tests)
 
-module _ (t : Pages) (starts : List ℕ) (pages : List (List ℕ)) (i n : ℕ) (apart : IsApart (number_at starts) (length pages)) (part : IsPartOf (number_at starts) (length pages) (i / 1024) n) (same : (q : ℕ) → part_at [] pages (number_at starts q) ≡ part_at [] t.pages (number_at t.starts q)) (page : List ℕ) where
+module _ (t : Pages) (starts : List ℕ) (pages : List (List ℕ)) (i n : ℕ) (apart : IsApart (number_at starts) (length pages))
+    (part : IsPartOf (number_at starts) (length pages) (i / 1024) n)
+    (same : (q : ℕ) → part_at [] pages (number_at starts q) ≡ part_at [] t.pages (number_at t.starts q)) (page : List ℕ) where
   abbrev after : Pages
   after = record { near = t.near; descent = t.descent; starts = starts; pages = set pages (n - 1) page }
 
@@ -28,15 +30,18 @@ module _ (t : Pages) (starts : List ℕ) (pages : List (List ℕ)) (i n : ℕ) (
   found : (k : ℕ) → (k / 1024 ≡ i / 1024 → number_at page (k % 1024) ≡ number_at (get_or pages (n - 1) []) (k % 1024)) → page_at after k ≡ page_at t k
   found k e = by (eqb_tells (k / 1024) (i / 1024))
     where
-      by : ((eqb (k / 1024) (i / 1024) ≡ true) × (k / 1024 ≡ i / 1024)) ⊎ ((eqb (k / 1024) (i / 1024) ≡ false) × (k / 1024 ≢ i / 1024)) → page_at after k ≡ page_at t k
+      by : ((eqb (k / 1024) (i / 1024) ≡ true) × (k / 1024 ≡ i / 1024)) ⊎ ((eqb (k / 1024) (i / 1024) ≡ false) × (k / 1024 ≢ i / 1024))
+          → page_at after k ≡ page_at t k
       by (inr f) = ap (λ x. number_at x (k % 1024)) (parts.others [] t.starts starts t.pages pages (i / 1024) n apart part same page (k / 1024) f.1)
-      by (inl f) = ap (λ q. number_at (part_at [] after.pages (number_at starts q)) (k % 1024)) f.1 ∙ ap (λ x. number_at x (k % 1024)) mine ∙ e f.1 ∙ ap (λ x. number_at x (k % 1024)) (sym old) ∙ ap (λ q. number_at (part_at [] t.pages (number_at t.starts q)) (k % 1024)) (sym f.1)
+      by (inl f) = ap (λ q. number_at (part_at [] after.pages (number_at starts q)) (k % 1024)) f.1 ∙ ap (λ x. number_at x (k % 1024)) mine ∙ e f.1
+          ∙ ap (λ x. number_at x (k % 1024)) (sym old) ∙ ap (λ q. number_at (part_at [] t.pages (number_at t.starts q)) (k % 1024)) (sym f.1)
 
   in_table : (k : ℕ) → page_at after k ≡ page_at t k → table_at after k ≡ table_at t k
   in_table k e = ap (λ c. cond (nat_lt k 1024) (number_at t.near k) (first_of_both (descent_at t.descent k) c)) e
 
   -- a number was put
-  pub page_put : (c : ℕ) → 1024 ≤ i → takes t.descent i ≡ false → IsPut (number_at (get_or pages (n - 1) [])) (number_at page) (i % 1024) c → IsPut (table_at t) (table_at after) i c
+  pub page_put : (c : ℕ) → 1024 ≤ i → takes t.descent i ≡ false → IsPut (number_at (get_or pages (n - 1) [])) (number_at page) (i % 1024) c
+      → IsPut (table_at t) (table_at after) i c
   page_put c far alone put = record {
     here = far_at after i far ∙ ap (λ d. first_of_both d (page_at after i)) (apart_from t.descent i alone) ∙ ap (λ x. number_at x (i % 1024)) mine ∙ put.here;
     other = λ k ne. in_table k (found k (λ e. put.other (k % 1024) (λ f. ne (omega arith))));

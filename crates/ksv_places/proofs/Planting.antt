@@ -17,7 +17,8 @@ module _ (firsts : ℕ → ℕ) (members elements : ℕ → ℕ → ℕ) (tree :
       by (suc n) e = let h = tree.heads r (omega arith) in absurd (omega arith)
 
   same : (r : ℕ) (s : Step) → look (link ∷ []) firsts members elements r s ≡ look [] firsts members elements r s
-  same r (Name x) = ap (λ n. first_of_both n (members r x)) (ap (λ h. chain (link ∷ []) (length (link ∷ [])) h x) (none_first r) ∙ ended (link ∷ []) x (length (link ∷ [])))
+  same r (Name x) = ap (λ n. first_of_both n (members r x))
+      (ap (λ h. chain (link ∷ []) (length (link ∷ [])) h x) (none_first r) ∙ ended (link ∷ []) x (length (link ∷ [])))
   same r (Index i) = refl
 
   none : (r : ℕ) (s : Step) → 0 < look (link ∷ []) firsts members elements r s → ⊥

@@ -20,7 +20,9 @@ module _ {T : Type 0} (none : T) where
   part_there parts (suc n) p = let e : n ≡ suc n - 1 = omega arith in ap (λ k. get_or parts k none) e
 
   -- the same of the parts of indices, where one index has a part that it may not have had before
-  module _ (starts0 starts : List ℕ) (parts0 parts : List T) (r n : ℕ) (apart : IsApart (number_at starts) (length parts)) (part : IsPartOf (number_at starts) (length parts) r n) (same : (q : ℕ) → part_at none parts (number_at starts q) ≡ part_at none parts0 (number_at starts0 q)) (t : T) where
+  module _ (starts0 starts : List ℕ) (parts0 parts : List T) (r n : ℕ) (apart : IsApart (number_at starts) (length parts))
+      (part : IsPartOf (number_at starts) (length parts) r n)
+      (same : (q : ℕ) → part_at none parts (number_at starts q) ≡ part_at none parts0 (number_at starts0 q)) (t : T) where
     pub mine : part_at none (set parts (n - 1) t) (number_at starts r) ≡ t
     mine = ap (λ k. part_at none (set parts (n - 1) t) k) part.number ∙ part_set parts n t part.some part.inside
 
@@ -28,4 +30,5 @@ module _ {T : Type 0} (none : T) where
     old = sym (same r) ∙ ap (λ k. part_at none parts k) part.number ∙ part_there parts n part.some
 
     pub others : (q : ℕ) → q ≢ r → part_at none (set parts (n - 1) t) (number_at starts q) ≡ part_at none parts0 (number_at starts0 q)
-    others q ne = part_other parts n (number_at starts q) t part.some (λ e. ne (apart.apart q r (let h = part.some in omega arith) (e ∙ sym part.number))) ∙ same q
+    others q ne = part_other parts n (number_at starts q) t part.some (λ e. ne (apart.apart q r (let h = part.some in omega arith) (e ∙ sym part.number)))
+        ∙ same q

@@ -4,7 +4,9 @@ use Rattle.std.proofs.lemmas.Bool.Decides.{eqb_tells}
 use Rattle.ksv_places.specs.Table.{number_at, part_at, no_pages, table_at, shelf_at, Pages, Shelf, IsPut, IsPutAt, IsApart, IsPartOf}
 use Rattle.ksv_places.proofs.Replacing as parts
 
-module _ (s : Shelf) (starts : List ℕ) (tables : List Pages) (r n : ℕ) (apart : IsApart (number_at starts) (length tables)) (part : IsPartOf (number_at starts) (length tables) r n) (same : (q : ℕ) → part_at no_pages tables (number_at starts q) ≡ part_at no_pages s.tables (number_at s.starts q)) (t : Pages) where
+module _ (s : Shelf) (starts : List ℕ) (tables : List Pages) (r n : ℕ) (apart : IsApart (number_at starts) (length tables))
+    (part : IsPartOf (number_at starts) (length tables) r n)
+    (same : (q : ℕ) → part_at no_pages tables (number_at starts q) ≡ part_at no_pages s.tables (number_at s.starts q)) (t : Pages) where
   abbrev after : Shelf
   after = record { starts = starts; tables = set tables (n - 1) t }
 
@@ -23,7 +25,8 @@ module _ (s : Shelf) (starts : List ℕ) (tables : List Pages) (r n : ℕ) (apar
     where
       by : (q k : ℕ) → ((q ≡ r) × (k ≡ i) → ⊥) → ((eqb q r ≡ true) × (q ≡ r)) ⊎ ((eqb q r ≡ false) × (q ≢ r)) → shelf_at after q k ≡ shelf_at s q k
       by q k ne (inr e) = ap (λ x. table_at x k) (others q e.1)
-      by q k ne (inl e) = ap (λ q. shelf_at after q k) e.1 ∙ ap (λ x. table_at x k) mine ∙ put.other k (λ f. ne (e.1, f)) ∙ ap (λ x. table_at x k) (sym old) ∙ ap (λ q. shelf_at s q k) (sym e.1)
+      by q k ne (inl e) = ap (λ q. shelf_at after q k) e.1 ∙ ap (λ x. table_at x k) mine ∙ put.other k (λ f. ne (e.1, f)) ∙ ap (λ x. table_at x k) (sym old)
+          ∙ ap (λ q. shelf_at s q k) (sym e.1)
 
   -- and where none was
   pub shelf_same : table_at t ≡ table_at (get_or tables (n - 1) no_pages) → shelf_at after ≡ shelf_at s
@@ -31,7 +34,8 @@ module _ (s : Shelf) (starts : List ℕ) (tables : List Pages) (r n : ℕ) (apar
     where
       by : (q k : ℕ) → ((eqb q r ≡ true) × (q ≡ r)) ⊎ ((eqb q r ≡ false) × (q ≢ r)) → shelf_at after q k ≡ shelf_at s q k
       by q k (inr f) = ap (λ x. table_at x k) (others q f.1)
-      by q k (inl f) = ap (λ q. shelf_at after q k) f.1 ∙ ap (λ x. table_at x k) mine ∙ ap (λ (at : ℕ → ℕ). at k) e ∙ ap (λ x. table_at x k) (sym old) ∙ ap (λ q. shelf_at s q k) (sym f.1)
+      by q k (inl f) = ap (λ q. shelf_at after q k) f.1 ∙ ap (λ x. table_at x k) mine ∙ ap (λ (at : ℕ → ℕ). at k) e ∙ ap (λ x. table_at x k) (sym old)
+          ∙ ap (λ q. shelf_at s q k) (sym f.1)
 
       all : (q k : ℕ) → shelf_at after q k ≡ shelf_at s q k
       all q k = by q k (eqb_tells q r)

@@ -19,15 +19,18 @@ kept ps (l ∷ ls) i lt =
     let x : List Step = l.step ∷ get_or ps l.parent [] in
     kept (ps ++ x ∷ []) ls i (let b = length_push ps x in omega arith) ∙ get_or_append_left ps (x ∷ []) [] i lt
 
-pub placed : (ps : List (List Step)) (ls : List Link) (k j : ℕ) → j ≡ length ps + k → k < length ls → (link_at ls k).parent < j → get_or (paths_from ps ls) j [] ≡ (link_at ls k).step ∷ get_or (paths_from ps ls) (link_at ls k).parent []
+pub placed : (ps : List (List Step)) (ls : List Link) (k j : ℕ) → j ≡ length ps + k → k < length ls → (link_at ls k).parent < j
+    → get_or (paths_from ps ls) j [] ≡ (link_at ls k).step ∷ get_or (paths_from ps ls) (link_at ls k).parent []
 placed ps [] k j e lt up = absurd (omega arith)
 placed ps (l ∷ ls) zero j e lt up =
     let x : List Step = l.step ∷ get_or ps l.parent [] in
     let n = length_push ps x in
     let same : j ≡ length ps = omega arith in
     let below : l.parent < length ps = omega arith in
-    let there : get_or (paths_from (ps ++ x ∷ []) ls) l.parent [] ≡ get_or ps l.parent [] = kept (ps ++ x ∷ []) ls l.parent (omega arith) ∙ get_or_append_left ps (x ∷ []) [] l.parent below in
-    kept (ps ++ x ∷ []) ls j (omega arith) ∙ ap (λ n. get_or (ps ++ x ∷ []) n []) same ∙ get_or-append_seam ps x [] [] ∙ ap (λ (q : List Step). l.step ∷ q) (sym there)
+    let there : get_or (paths_from (ps ++ x ∷ []) ls) l.parent [] ≡ get_or ps l.parent [] =
+    kept (ps ++ x ∷ []) ls l.parent (omega arith) ∙ get_or_append_left ps (x ∷ []) [] l.parent below in
+    kept (ps ++ x ∷ []) ls j (omega arith) ∙ ap (λ n. get_or (ps ++ x ∷ []) n []) same ∙ get_or-append_seam ps x [] []
+    ∙ ap (λ (q : List Step). l.step ∷ q) (sym there)
 placed ps (l ∷ ls) (suc k) j e lt up =
     let x : List Step = l.step ∷ get_or ps l.parent [] in
     let n = length_push ps x in
@@ -41,7 +44,8 @@ pub root_at : (links : List Link) → 0 < length links → get_or (paths_of link
 root_at [] lt = refl
 root_at (l ∷ ls) lt = kept ([] ∷ []) ls 0 (omega arith)
 
-pub path_at : (links : List Link) (c : ℕ) → 0 < c → c < length links → (link_at links c).parent < c → get_or (paths_of links) c [] ≡ (link_at links c).step ∷ get_or (paths_of links) (link_at links c).parent []
+pub path_at : (links : List Link) (c : ℕ) → 0 < c → c < length links → (link_at links c).parent < c
+    → get_or (paths_of links) c [] ≡ (link_at links c).step ∷ get_or (paths_of links) (link_at links c).parent []
 path_at [] c p lt up = absurd (omega arith)
 path_at (l ∷ ls) zero p lt up = absurd (omega arith)
 path_at (l ∷ ls) (suc k) p lt up = placed ([] ∷ []) ls k (suc k) (omega arith) (omega arith) up
@@ -57,7 +61,8 @@ no_root s q p e f = absurd (cc)
 
 module _ (links : List Link) (firsts : ℕ → ℕ) (members elements : ℕ → ℕ → ℕ) (t : IsTree links firsts members elements) where
   -- a step further
-  pub further : (r : ℕ) (s : Step) (q : List Step) → r < length links → get_or (paths_of links) r [] ≡ q → 0 < look links firsts members elements r s → get_or (paths_of links) (look links firsts members elements r s) [] ≡ s ∷ q
+  pub further : (r : ℕ) (s : Step) (q : List Step) → r < length links → get_or (paths_of links) r [] ≡ q → 0 < look links firsts members elements r s
+      → get_or (paths_of links) (look links firsts members elements r s) [] ≡ s ∷ q
   further r s q lt is some =
       let c = look links firsts members elements r s in
       let k : IsChild links r s c = t.sound r s some in
@@ -101,7 +106,8 @@ module _ (links : List Link) (firsts : ℕ → ℕ) (members elements : ℕ → 
       sym (t.complete (suc i) (omega arith) li) ∙ (λ k. look links firsts members elements (p k) (s1 k)) ∙ t.complete (suc j) (omega arith) lj
 
   -- where there is no path a step further, there is none beyond it
-  pub none_beyond : (ws : List Step) (s : Step) (q : List Step) (r : ℕ) → r < length links → get_or (paths_of links) r [] ≡ q → look links firsts members elements r s ≡ 0 → (i : ℕ) → i < length links → get_or (paths_of links) i [] ≡ ws ++ s ∷ q → ⊥
+  pub none_beyond : (ws : List Step) (s : Step) (q : List Step) (r : ℕ) → r < length links → get_or (paths_of links) r [] ≡ q
+      → look links firsts members elements r s ≡ 0 → (i : ℕ) → i < length links → get_or (paths_of links) i [] ≡ ws ++ s ∷ q → ⊥
   none_beyond [] s q r lr er f zero li e = no_root s q _ (root_at links (omega arith)) e
   none_beyond [] s q r lr er f (suc i) li e =
       let a = parts (suc i) s q (omega arith) li e in
@@ -113,14 +119,20 @@ module _ (links : List Link) (firsts : ℕ → ℕ) (members elements : ℕ → 
       let a = parts (suc i) w (ws ++ s ∷ q) (omega arith) li e in
       none_beyond ws s q r lr er f (link_at links (suc i)).parent a.there a.path
 
-  pub no_path : (steps : List Step) (k r : ℕ) → k < length steps → r < length links → get_or (paths_of links) r [] ≡ reverse (take k steps) → look links firsts members elements r (get_or steps k (Name 0)) ≡ 0 → (i : ℕ) → i < length links → get_or (paths_of links) i [] ≡ reverse steps → ⊥
+  pub no_path : (steps : List Step) (k r : ℕ) → k < length steps → r < length links → get_or (paths_of links) r [] ≡ reverse (take k steps)
+      → look links firsts members elements r (get_or steps k (Name 0)) ≡ 0 → (i : ℕ) → i < length links → get_or (paths_of links) i [] ≡ reverse steps → ⊥
   no_path steps k r lt lr er f i li e =
       let s = get_or steps k (Name 0) in
       let rest = drop (suc k) steps in
-      let whole : steps ≡ (take k steps ++ s ∷ []) ++ rest = sym (take-append-drop (suc k) steps) ∙ ap (λ (xs : List Step). xs ++ rest) (take-suc steps k (Name 0) lt) in
-      let turned : reverse steps ≡ reverse rest ++ s ∷ reverse (take k steps) = ap (λ (xs : List Step). reverse xs) whole ∙ reverse-append (take k steps ++ s ∷ []) rest ∙ ap (λ (xs : List Step). reverse rest ++ xs) (reverse-append (take k steps) (s ∷ [])) in
+      let whole : steps ≡ (take k steps ++ s ∷ []) ++ rest =
+      sym (take-append-drop (suc k) steps) ∙ ap (λ (xs : List Step). xs ++ rest) (take-suc steps k (Name 0) lt) in
+      let turned : reverse steps ≡ reverse rest ++ s ∷ reverse (take k steps) =
+      ap (λ (xs : List Step). reverse xs) whole ∙ reverse-append (take k steps ++ s ∷ []) rest
+      ∙ ap (λ (xs : List Step). reverse rest ++ xs) (reverse-append (take k steps) (s ∷ [])) in
       none_beyond (reverse rest) s (reverse (take k steps)) r lr er f i li (e ∙ turned)
 
 -- one step more of a walk
 pub more : (steps : List Step) (k : ℕ) → k < length steps → get_or steps k (Name 0) ∷ reverse (take k steps) ≡ reverse (take (k + 1) steps)
-more steps k lt = sym (ap (λ n. reverse (take n steps)) (let e : k + 1 ≡ suc k = omega arith in e) ∙ ap (λ (xs : List Step). reverse xs) (take-suc steps k (Name 0) lt) ∙ reverse-append (take k steps) (get_or steps k (Name 0) ∷ []))
+more steps k lt = sym
+    (ap (λ n. reverse (take n steps)) (let e : k + 1 ≡ suc k = omega arith in e) ∙ ap (λ (xs : List Step). reverse xs) (take-suc steps k (Name 0) lt)
+    ∙ reverse-append (take k steps) (get_or steps k (Name 0) ∷ []))

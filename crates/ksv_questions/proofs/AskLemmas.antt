@@ -32,7 +32,8 @@ plain (Answered (Ok given)) = refl
 plain (Answered (Err f)) = refl
 plain (Circle n) = refl
 
-pub asked_is : (d : Description) (bytes : List ℕ) (n : Node) (answer : Answer Node Given Fault) → answer ≡ answer_of (tells (on (described d) bytes) [] n).outcome
+pub asked_is : (d : Description) (bytes : List ℕ) (n : Node) (answer : Answer Node Given Fault)
+    → answer ≡ answer_of (tells (on (described d) bytes) [] n).outcome
     → plain_answer answer ≡ answered d bytes n
 asked_is d bytes n answer is = ap plain_answer is ∙ plain (tells (on (described d) bytes) [] n).outcome ∙ answers_are_direct d bytes [] n
 
@@ -59,7 +60,8 @@ module _ (d : Description) (b : List ℕ) (n : Node) where
     turns =
         turns ∙ ap (λ r. turns_after {E = E} (costs (world d b) (fresh node_number (nodes_of old.kept) (done (world d b) [] n))) old.turns (Ok r)) is
         ∙ counted_by E (tells (world d b) [] n).outcome (costs (world d b) (fresh node_number (nodes_of old.kept) (done (world d b) [] n))) old.turns
-        ∙ ap (λ ns. if is_circle (tells (world d b) [] n).outcome || false then None else counted (costs (world d b) (fresh node_number (nodes_of old.kept) ns)) old.turns) (sym all_done);
+        ∙ ap (λ ns. if is_circle (tells (world d b) [] n).outcome || false then None else counted (costs (world d b) (fresh node_number (nodes_of old.kept) ns))
+        old.turns) (sym all_done);
   }
 
 module _ (d : Description) (b : List ℕ) where

@@ -18,7 +18,8 @@ use Rattle.ksv_questions.proofs.Fresh.{among_more, costs_append, counted_more, c
 pub circle_append : {N A : Type 0} (w : Standing N A) (ms ns : List N) → meets_circle w (ms ++ ns) ≡ (meets_circle w ms || meets_circle w ns)
 unfolding meets_circle
 circle_append w [] ns = refl
-circle_append w (m ∷ ms) ns = ap (λ b. is_circle (tells w [] m).outcome || b) (circle_append w ms ns) ∙ sym (or_assoc (is_circle (tells w [] m).outcome) (meets_circle w ms) (meets_circle w ns))
+circle_append w (m ∷ ms) ns = ap (λ b. is_circle (tells w [] m).outcome || b) (circle_append w ms ns)
+    ∙ sym (or_assoc (is_circle (tells w [] m).outcome) (meets_circle w ms) (meets_circle w ns))
 
 -- ---- lists of nodes
 
@@ -56,7 +57,8 @@ module _ {N A : Type 0} (w : Standing N A) where
 
   -- ---- turns
 
-  owed : (old mid xs ys : List N) → AreExactly w mid (old ++ xs) → costs w (fresh w.number old (xs ++ ys)) ≡ costs w (fresh w.number old xs) + costs w (fresh w.number mid ys)
+  owed : (old mid xs ys : List N) → AreExactly w mid (old ++ xs)
+      → costs w (fresh w.number old (xs ++ ys)) ≡ costs w (fresh w.number old xs) + costs w (fresh w.number mid ys)
   owed old mid xs ys h =
       ap (costs w) (fresh_append w.number old xs ys)
       ∙ costs_append w (fresh w.number old xs) (fresh w.number (old ++ xs) ys)
@@ -74,9 +76,12 @@ module _ {N A : Type 0} (w : Standing N A) where
       → between ≡ turns_with w old ms before → new ≡ turns_with w mid ns between → new ≡ turns_with w old (ms ++ ns) before
   unfolding turns_with
   turns_then old mid ms ns before between new h e f =
-      by_circles (meets_circle w ms) (meets_circle w ns) (costs w (fresh w.number old (completed_by w ms))) (costs w (fresh w.number mid (completed_by w ns))) before between new e f
-      ∙ ap (λ b. if b then None else counted (costs w (fresh w.number old (completed_by w ms)) + costs w (fresh w.number mid (completed_by w ns))) before) (sym (circle_append w ms ns))
-      ∙ ap (λ k. if meets_circle w (ms ++ ns) then None else counted k before) (sym (ap (λ all. costs w (fresh w.number old all)) (flat_map-append (done w []) ms ns) ∙ owed old mid (completed_by w ms) (completed_by w ns) h))
+      by_circles (meets_circle w ms) (meets_circle w ns) (costs w (fresh w.number old (completed_by w ms))) (costs w (fresh w.number mid (completed_by w ns)))
+      before between new e f
+      ∙ ap (λ b. if b then None else counted (costs w (fresh w.number old (completed_by w ms)) + costs w (fresh w.number mid (completed_by w ns))) before)
+      (sym (circle_append w ms ns))
+      ∙ ap (λ k. if meets_circle w (ms ++ ns) then None else counted k before)
+      (sym (ap (λ all. costs w (fresh w.number old all)) (flat_map-append (done w []) ms ns) ∙ owed old mid (completed_by w ms) (completed_by w ns) h))
 
   -- ---- engines
 
@@ -95,16 +100,21 @@ module _ {N A : Type 0} (w : Standing N A) where
     turns = turns_then (nodes_of old.kept) (nodes_of mid.kept) ms ns old.turns mid.turns new.turns h.kept h.turns k.turns;
   }
     where
-      in_all : AreExactly w (nodes_of new.kept) (nodes_of old.kept ++ (completed_by w ms ++ completed_by w ns)) → AreExactly w (nodes_of new.kept) (nodes_of old.kept ++ completed_by w (ms ++ ns))
+      in_all : AreExactly w (nodes_of new.kept) (nodes_of old.kept ++ (completed_by w ms ++ completed_by w ns))
+          → AreExactly w (nodes_of new.kept) (nodes_of old.kept ++ completed_by w (ms ++ ns))
       in_all e = subst (λ all. AreExactly w (nodes_of new.kept) (nodes_of old.kept ++ all)) (sym (flat_map-append (done w []) ms ns)) e
 
-  in_all_some : (old new : Memo N A) (ms ns : List N) → AreBetween w (nodes_of old.kept) (nodes_of new.kept) (nodes_of old.kept ++ (completed_by w ms ++ completed_by w ns)) → AreBetween w (nodes_of old.kept) (nodes_of new.kept) (nodes_of old.kept ++ completed_by w (ms ++ ns))
-  in_all_some old new ms ns e = subst (λ all. AreBetween w (nodes_of old.kept) (nodes_of new.kept) (nodes_of old.kept ++ all)) (sym (flat_map-append (done w []) ms ns)) e
+  in_all_some : (old new : Memo N A) (ms ns : List N)
+      → AreBetween w (nodes_of old.kept) (nodes_of new.kept) (nodes_of old.kept ++ (completed_by w ms ++ completed_by w ns))
+      → AreBetween w (nodes_of old.kept) (nodes_of new.kept) (nodes_of old.kept ++ completed_by w (ms ++ ns))
+  in_all_some old new ms ns e = subst (λ all. AreBetween w (nodes_of old.kept) (nodes_of new.kept) (nodes_of old.kept ++ all))
+      (sym (flat_map-append (done w []) ms ns)) e
 
   pub some_then : (old mid new : Memo N A) (ms ns : List N) → HasAsked w ms old mid → HasAskedSome w ns mid new → HasAskedSome w (ms ++ ns) old new
   some_then old mid new ms ns h k = record {
     right = k.right;
-    kept = in_all_some old new ms ns (between_then (nodes_of old.kept) (nodes_of mid.kept) (nodes_of new.kept) (completed_by w ms) (completed_by w ns) h.kept k.kept);
+    kept = in_all_some old new ms ns
+        (between_then (nodes_of old.kept) (nodes_of mid.kept) (nodes_of new.kept) (completed_by w ms) (completed_by w ns) h.kept k.kept);
   }
 
   pub some_before : (old new : Memo N A) (ms ns : List N) → HasAskedSome w ms old new → HasAskedSome w (ms ++ ns) old new

@@ -12,7 +12,8 @@ module _ (met : Node → Heard) where
   result_bind (Fail e) f = refl
   result_bind (Ask n k) f = result_bind (k (met n)) f
 
-  pub asks_bind : {A B : Type 0} (p : Asking A) (f : A → Asking B) → asks_of met (bind p f) ≡ asks_of met p ++ asks_behind (result_of met p) (λ a. asks_of met (f a))
+  pub asks_bind : {A B : Type 0} (p : Asking A) (f : A → Asking B)
+      → asks_of met (bind p f) ≡ asks_of met p ++ asks_behind (result_of met p) (λ a. asks_of met (f a))
   unfolding bind
   asks_bind (Answer a) f = refl
   asks_bind (Fail e) f = refl

@@ -24,7 +24,8 @@ module _ (d : Description) (b : List ℕ) (p : Trail) where
   of_plain (values.Object q) h k = absurd (h q refl)
   of_plain (values.List q) h k = absurd (k q refl)
 
-pub no_members : (d : Description) (p : Trail) (h : Head) → ((at : Option Place) → h ≡ heads.Absent at → ⊥) → ((o : Object) → h ≡ heads.Object o → ⊥) → ((g : ListHead) → h ≡ heads.List g → ⊥) → parts_of d p h ≡ Answer (codes "no members")
+pub no_members : (d : Description) (p : Trail) (h : Head) → ((at : Option Place) → h ≡ heads.Absent at → ⊥) → ((o : Object) → h ≡ heads.Object o → ⊥)
+    → ((g : ListHead) → h ≡ heads.List g → ⊥) → parts_of d p h ≡ Answer (codes "no members")
 no_members d p (heads.Absent at) a o g = absurd (a at refl)
 no_members d p (heads.Calc c) a o g = refl
 no_members d p (heads.Leaf l) a o g = refl

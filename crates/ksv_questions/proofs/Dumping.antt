@@ -1,5 +1,6 @@
 -- The steps of a dump.
-use Rattle.std.proofs.Common.{◌≡◌, ℕ, zero, suc, ◌+◌, ◌-◌, ◌<◌, ◌≤◌, List, [], ◌∷◌, ◌++◌, drop, get_or, length, map, Option, Result, Ok, Err, refl, sym, ◌∙◌, ap, subst, arith}
+use Rattle.std.proofs.Common.{◌≡◌, ℕ, zero, suc, ◌+◌, ◌-◌, ◌<◌, ◌≤◌, List, [], ◌∷◌, ◌++◌, drop, get_or, length, map, Option, Result, Ok, Err, refl, sym, ◌∙◌}
+use Rattle.std.proofs.Common.{ap, subst, arith}
 use Rattle.serde_json.specs.Data.{Data, Members, array, object, put}
 use Rattle.serde_json.specs.View.{items_of, view}
 use Rattle.serde_json.specs.declared.value.Value.{Value as Json}
@@ -25,16 +26,20 @@ module _ (d : Description) (b : List ℕ) where
   -- what was found is gone into
   pub found_inside : {X : Type 0} (p : Asking (Found X)) (inside : X → Asking Part) (left : ℕ) (old mid new : Memo Node Ruled)
       (found : Result X Json) (x : X) (r : Result Dumped Untold)
-      → Runs d b p (λ f. found_of f) old mid (Ok found) → found ≡ Ok x → Runs d b (inside x) dumped mid new r → Runs d b (bind p (λ f. or_written inside left f)) dumped old new r
+      → Runs d b p (λ f. found_of f) old mid (Ok found) → found ≡ Ok x → Runs d b (inside x) dumped mid new r
+      → Runs d b (bind p (λ f. or_written inside left f)) dumped old new r
   found_inside p inside left old mid new found x r h is k =
-      runs_on d b p (λ f. or_written inside left f) (λ f. found_of f) dumped old mid new (Ok x) r (subst (λ f. Runs d b p (λ g. found_of g) old mid (Ok f)) is h) k
+      runs_on d b p (λ f. or_written inside left f) (λ f. found_of f) dumped old mid new (Ok x) r
+      (subst (λ f. Runs d b p (λ g. found_of g) old mid (Ok f)) is h) k
 
   -- or its place is taken
   pub found_written : {X : Type 0} (p : Asking (Found X)) (inside : X → Asking Part) (left : ℕ) (old mid : Memo Node Ruled)
       (found : Result X Json) (json : Json) (x : Dumped)
-      → Runs d b p (λ f. found_of f) old mid (Ok found) → found ≡ Err json → dumped x ≡ record { json = view json; left = left } → Runs d b (bind p (λ f. or_written inside left f)) dumped old mid (Ok x)
+      → Runs d b p (λ f. found_of f) old mid (Ok found) → found ≡ Err json → dumped x ≡ record { json = view json; left = left }
+      → Runs d b (bind p (λ f. or_written inside left f)) dumped old mid (Ok x)
   found_written p inside left old mid found json x h is same =
-      runs_ended d b p (λ f. or_written inside left f) (λ f. found_of f) dumped old mid (Err json) (Ok x) (subst (λ f. Runs d b p (λ g. found_of g) old mid (Ok f)) is h) (ap Answer (sym same))
+      runs_ended d b p (λ f. or_written inside left f) (λ f. found_of f) dumped old mid (Err json) (Ok x)
+      (subst (λ f. Runs d b p (λ g. found_of g) old mid (Ok f)) is h) (ap Answer (sym same))
 
   -- ---- levels
 
@@ -53,11 +58,13 @@ module _ (d : Description) (b : List ℕ) where
   -- ---- loops
 
   pub elements_step : (each : ℕ → Trail → Asking Part) (q : Trail) (left i count : ℕ) (ds : List Data) → i < count
-      → elements_part d each q left i (count - i) ds ≡ bind (inner d each q left (child q (Index i))) (λ x. elements_part d each q x.left (i + 1) (count - (i + 1)) (ds ++ x.json ∷ []))
+      → elements_part d each q left i (count - i) ds ≡ bind (inner d each q left (child q (Index i)))
+      (λ x. elements_part d each q x.left (i + 1) (count - (i + 1)) (ds ++ x.json ∷ []))
   unfolding elements_part
   elements_step each q left i count ds h = let more : count - i ≡ suc (count - (i + 1)) = omega arith in ap (λ n. elements_part d each q left i n ds) more
 
-  pub elements_begin : (each : ℕ → Trail → Asking Part) (q : Trail) (left count : ℕ) (vs : List Json) → vs ≡ [] → elements_part d each q left 0 count [] ≡ elements_part d each q left 0 (count - 0) (map view vs)
+  pub elements_begin : (each : ℕ → Trail → Asking Part) (q : Trail) (left count : ℕ) (vs : List Json) → vs ≡ []
+      → elements_part d each q left 0 count [] ≡ elements_part d each q left 0 (count - 0) (map view vs)
   elements_begin each q left count vs is =
       let all : count ≡ count - 0 = omega arith in
       ap (λ n. elements_part d each q left 0 n []) all ∙ ap (λ ws. elements_part d each q left 0 (count - 0) (map view ws)) (sym is)
@@ -73,11 +80,13 @@ module _ (d : Description) (b : List ℕ) where
   pub pending_as : (whole rest next : Asking Part) (old now : Memo Node Ruled) → rest ≡ next → Pending d b whole old rest now → Pending d b whole old next now
   pending_as whole rest next old now same h = subst (λ q. Pending d b whole old q now) same h
 
-  pub elements_end : (each : ℕ → Trail → Asking Part) (q : Trail) (left i count : ℕ) (ds : List Data) → count ≤ i → elements_part d each q left i (count - i) ds ≡ written (array (items_of ds)) left
+  pub elements_end : (each : ℕ → Trail → Asking Part) (q : Trail) (left i count : ℕ) (ds : List Data) → count ≤ i
+      → elements_part d each q left i (count - i) ds ≡ written (array (items_of ds)) left
   unfolding elements_part
   elements_end each q left i count ds h = let none : count - i ≡ 0 = omega arith in ap (λ n. elements_part d each q left i n ds) none
 
-  pub members_end : (each : ℕ → Trail → Asking Part) (q : Trail) (left : ℕ) (names : List ℕ) (ms : Members) → names ≡ [] → members_part d each q left names ms ≡ written (object ms) left
+  pub members_end : (each : ℕ → Trail → Asking Part) (q : Trail) (left : ℕ) (names : List ℕ) (ms : Members) → names ≡ []
+      → members_part d each q left names ms ≡ written (object ms) left
   unfolding members_part
   members_end each q left names ms is = ap (λ ns. members_part d each q left ns ms) is
 
@@ -90,7 +99,8 @@ module _ (d : Description) (b : List ℕ) where
   pub loop_failed : (whole rest p : Asking Part) (f : Part → Asking Part) (old mid new : Memo Node Ruled) (e : Untold)
       → rest ≡ bind p f → Pending d b whole old rest mid → Runs d b p dumped mid new (Err e) → Runs d b whole dumped old new (Err e)
   loop_failed whole rest p f old mid new e same h k =
-      pending_run d b whole (bind p f) dumped old mid new (Err e) (pending_as whole rest (bind p f) old mid same h) (runs_failed d b p f dumped dumped mid new e k)
+      pending_run d b whole (bind p f) dumped old mid new (Err e) (pending_as whole rest (bind p f) old mid same h)
+      (runs_failed d b p f dumped dumped mid new e k)
 
   -- nothing is left
   pub loop_done : (whole rest : Asking Part) (old mid : Memo Node Ruled) (x : Dumped) → rest ≡ Answer (dumped x) → Pending d b whole old rest mid
@@ -102,31 +112,36 @@ module _ (d : Description) (b : List ℕ) where
         → Pending d b whole old (elements_part d each q left i (count - i) (map view vs)) mid → Runs d b (inner d each q left path) dumped mid new (Ok x)
         → Pending d b whole old (elements_part d each q x.left (i + 1) (count - (i + 1)) (map view vs ++ view x.json ∷ [])) new
     elements_on left i count vs path x more is h k =
-        loop_on whole (elements_part d each q left i (count - i) (map view vs)) (inner d each q left (child q (Index i))) (λ y. elements_part d each q y.left (i + 1) (count - (i + 1)) (map view vs ++ y.json ∷ [])) old mid new x
+        loop_on whole (elements_part d each q left i (count - i) (map view vs)) (inner d each q left (child q (Index i)))
+        (λ y. elements_part d each q y.left (i + 1) (count - (i + 1)) (map view vs ++ y.json ∷ [])) old mid new x
         (elements_step each q left i count (map view vs) more) h (subst (λ o. Runs d b (inner d each q left o) dumped mid new (Ok x)) is k)
 
     pub elements_failed : (left i count : ℕ) (vs : List Json) (path : Option Trail) (e : Untold) → i < count → path ≡ child q (Index i)
         → Pending d b whole old (elements_part d each q left i (count - i) (map view vs)) mid → Runs d b (inner d each q left path) dumped mid new (Err e)
         → Runs d b whole dumped old new (Err e)
     elements_failed left i count vs path e more is h k =
-        loop_failed whole (elements_part d each q left i (count - i) (map view vs)) (inner d each q left (child q (Index i))) (λ y. elements_part d each q y.left (i + 1) (count - (i + 1)) (map view vs ++ y.json ∷ [])) old mid new e
+        loop_failed whole (elements_part d each q left i (count - i) (map view vs)) (inner d each q left (child q (Index i)))
+        (λ y. elements_part d each q y.left (i + 1) (count - (i + 1)) (map view vs ++ y.json ∷ [])) old mid new e
         (elements_step each q left i count (map view vs) more) h (subst (λ o. Runs d b (inner d each q left o) dumped mid new (Err e)) is k)
 
     pub members_on : (left x : ℕ) (names rest : List ℕ) (ms : Members) (path : Option Trail) (y : Dumped) → names ≡ x ∷ rest → path ≡ child q (Name x)
         → Pending d b whole old (members_part d each q left names ms) mid → Runs d b (inner d each q left path) dumped mid new (Ok y)
         → Pending d b whole old (members_part d each q y.left rest (put (name d x) (view y.json) ms)) new
     members_on left x names rest ms path y more is h k =
-        loop_on whole (members_part d each q left names ms) (inner d each q left (child q (Name x))) (λ z. members_part d each q z.left rest (put (name d x) z.json ms)) old mid new y
+        loop_on whole (members_part d each q left names ms) (inner d each q left (child q (Name x)))
+        (λ z. members_part d each q z.left rest (put (name d x) z.json ms)) old mid new y
         (members_step each q left x names rest ms more) h (subst (λ o. Runs d b (inner d each q left o) dumped mid new (Ok y)) is k)
 
     pub members_failed : (left x : ℕ) (names rest : List ℕ) (ms : Members) (path : Option Trail) (e : Untold) → names ≡ x ∷ rest → path ≡ child q (Name x)
         → Pending d b whole old (members_part d each q left names ms) mid → Runs d b (inner d each q left path) dumped mid new (Err e)
         → Runs d b whole dumped old new (Err e)
     members_failed left x names rest ms path e more is h k =
-        loop_failed whole (members_part d each q left names ms) (inner d each q left (child q (Name x))) (λ z. members_part d each q z.left rest (put (name d x) z.json ms)) old mid new e
+        loop_failed whole (members_part d each q left names ms) (inner d each q left (child q (Name x)))
+        (λ z. members_part d each q z.left rest (put (name d x) z.json ms)) old mid new e
         (members_step each q left x names rest ms more) h (subst (λ o. Runs d b (inner d each q left o) dumped mid new (Err e)) is k)
 
-  pub plain_is : (each : ℕ → Trail → Asking Part) (p : Trail) (left : ℕ) (v : Value) → ((q : Trail) → v ≡ values.Object q → ⊥) → ((q : Trail) → v ≡ values.List q → ⊥) → value_part d b each p left v ≡ written (plain_part d b p v) left
+  pub plain_is : (each : ℕ → Trail → Asking Part) (p : Trail) (left : ℕ) (v : Value) → ((q : Trail) → v ≡ values.Object q → ⊥)
+      → ((q : Trail) → v ≡ values.List q → ⊥) → value_part d b each p left v ≡ written (plain_part d b p v) left
   unfolding value_part
   plain_is each p left (values.Int n) h k = refl
   plain_is each p left (values.Bool t) h k = refl

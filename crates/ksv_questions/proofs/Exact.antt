@@ -1,5 +1,6 @@
 -- A dump has no float: its integers are written digit for digit.
-use Rattle.std.proofs.Common.{◌≡◌, ℕ, zero, suc, ◌+◌, ℤ, pos, negsuc, Bool, true, false, ◌||◌, ◌&&◌, List, [], ◌∷◌, ◌++◌, Option, Some, None, Ok, Err, Ordering, Less, Equal, Greater, refl, ap, subst}
+use Rattle.std.proofs.Common.{◌≡◌, ℕ, zero, suc, ◌+◌, ℤ, pos, negsuc, Bool, true, false, ◌||◌, ◌&&◌, List, [], ◌∷◌, ◌++◌, Option, Some, None, Ok, Err, Ordering}
+use Rattle.std.proofs.Common.{Less, Equal, Greater, refl, ap, subst}
 use Rattle.std.proofs.lemmas.Bool.{or_from, or_parts}
 use Rattle.std.specs.Prelude.{if◌then◌else◌}
 use Rattle.std.specs.Ordering.{match_ordering, nat_cmp}
@@ -23,7 +24,8 @@ use Rattle.ksv_nodes.specs.declared.node.Node.{Node}
 use Rattle.ksv_texts.specs.Parts.{failed_part, fault_part, is_absence, member_part, plain_part}
 use Rattle.ksv_questions.specs.Answers.{answered, outcome}
 use Rattle.ksv_questions.specs.Asking.{Asking, Heard, result_of}
-use Rattle.ksv_questions.specs.Dumps.{Found, Part, asked_part, begin, begun_part, count_in, elements_part, find_list, find_object, find_value, inner, list_part, members_part, object_in, object_part, or_written, part, unasked, value_in, value_part}
+use Rattle.ksv_questions.specs.Dumps.{Found, Part, asked_part, begin, begun_part, count_in, elements_part, find_list, find_object, find_value, inner, list_part}
+use Rattle.ksv_questions.specs.Dumps.{members_part, object_in, object_part, or_written, part, unasked, value_in, value_part}
 
 -- ---- what each end of a question is
 
@@ -32,7 +34,8 @@ Gives P (Answer a) = P a
 Gives P (Fail e) = Unit {0}
 Gives P (Ask n k) = (h : Heard) → Gives P (k h)
 
-gives_bind : {A B : Type 0} (P : A → Type 0) (Q : B → Type 0) (p : Asking A) (f : A → Asking B) → Gives P p → ((a : A) → P a → Gives Q (f a)) → Gives Q (bind p f)
+gives_bind : {A B : Type 0} (P : A → Type 0) (Q : B → Type 0) (p : Asking A) (f : A → Asking B) → Gives P p → ((a : A) → P a → Gives Q (f a))
+    → Gives Q (bind p f)
 unfolding bind
 gives_bind P Q (Answer a) f h k = k a h
 gives_bind P Q (Fail e) f h k = tt
@@ -86,14 +89,16 @@ put_exact : (k : List ℕ) (json : Data) (ms : Members) → IsExact json → mem
 put_exact k json no_members h m = or_from (has_float json) false h refl
 put_exact k json (member l e ms) h m = by (slice_cmp nat_cmp k l) (put_exact k json ms h (or_parts (has_float e) (members_have_float ms) m).1)
   where
-    by : (o : Ordering) → members_have_float (put k json ms) ≡ false → members_have_float (match_ordering o (member k json (member l e ms)) (member l json ms) (member l e (put k json ms))) ≡ false
+    by : (o : Ordering) → members_have_float (put k json ms) ≡ false
+        → members_have_float (match_ordering o (member k json (member l e ms)) (member l json ms) (member l e (put k json ms))) ≡ false
     by Less more = or_from (has_float json) (members_have_float (member l e ms)) h m
     by Equal more = or_from (has_float json) (members_have_float ms) h (or_parts (has_float e) (members_have_float ms) m).1
     by Greater more = or_from (has_float e) (members_have_float (put k json ms)) (or_parts (has_float e) (members_have_float ms) m).0 more
 
 items_exact : (ds : List Data) (json : Data) → items_have_float (items_of ds) ≡ false → IsExact json → items_have_float (items_of (ds ++ json ∷ [])) ≡ false
 items_exact [] json h k = or_from (has_float json) false k refl
-items_exact (e ∷ ds) json h k = or_from (has_float e) (items_have_float (items_of (ds ++ json ∷ []))) (or_parts (has_float e) (items_have_float (items_of ds)) h).0 (items_exact ds json (or_parts (has_float e) (items_have_float (items_of ds)) h).1 k)
+items_exact (e ∷ ds) json h k = or_from (has_float e) (items_have_float (items_of (ds ++ json ∷ [])))
+    (or_parts (has_float e) (items_have_float (items_of ds)) h).0 (items_exact ds json (or_parts (has_float e) (items_have_float (items_of ds)) h).1 k)
 
 -- ---- parts
 
@@ -144,7 +149,8 @@ module _ (d : Description) (b : List ℕ) where
       heard (Ok (givens.Rest count place)) = tt
       heard (Err f) = fault_exact d f
 
-  gone_into : {A : Type 0} (inside : A → Asking Part) (left : ℕ) → ((a : A) → Gives IsExactPart (inside a)) → (f : Found A) → IsExactFound f → Gives IsExactPart (or_written inside left f)
+  gone_into : {A : Type 0} (inside : A → Asking Part) (left : ℕ) → ((a : A) → Gives IsExactPart (inside a)) → (f : Found A) → IsExactFound f
+      → Gives IsExactPart (or_written inside left f)
   gone_into inside left each (Ok a) h = each a
   gone_into inside left each (Err json) h = h
 
@@ -153,23 +159,29 @@ module _ (d : Description) (b : List ℕ) where
     inner_exact q left None = unasked_exact q left
     inner_exact q left (Some p) = good left p
 
-    members_exact : (q : Trail) (left : ℕ) (names : List ℕ) (ms : Members) → members_have_float ms ≡ false → Gives IsExactPart (members_part d each q left names ms)
+    members_exact : (q : Trail) (left : ℕ) (names : List ℕ) (ms : Members) → members_have_float ms ≡ false
+        → Gives IsExactPart (members_part d each q left names ms)
     unfolding members_part
     members_exact q left [] ms h = h
-    members_exact q left (x ∷ xs) ms h = gives_bind IsExactPart IsExactPart (inner d each q left (child q (Name x))) _ (inner_exact q left (child q (Name x))) (λ y k. members_exact q y.left xs (put (name d x) y.json ms) (put_exact (name d x) y.json ms k h))
+    members_exact q left (x ∷ xs) ms h = gives_bind IsExactPart IsExactPart (inner d each q left (child q (Name x))) _ (inner_exact q left (child q (Name x)))
+        (λ y k. members_exact q y.left xs (put (name d x) y.json ms) (put_exact (name d x) y.json ms k h))
 
-    elements_exact : (q : Trail) (left i n : ℕ) (ds : List Data) → items_have_float (items_of ds) ≡ false → Gives IsExactPart (elements_part d each q left i n ds)
+    elements_exact : (q : Trail) (left i n : ℕ) (ds : List Data) → items_have_float (items_of ds) ≡ false
+        → Gives IsExactPart (elements_part d each q left i n ds)
     unfolding elements_part
     elements_exact q left i zero ds h = h
-    elements_exact q left i (suc n) ds h = gives_bind IsExactPart IsExactPart (inner d each q left (child q (Index i))) _ (inner_exact q left (child q (Index i))) (λ y k. elements_exact q y.left (i + 1) n (ds ++ y.json ∷ []) (items_exact ds y.json h k))
+    elements_exact q left i (suc n) ds h = gives_bind IsExactPart IsExactPart (inner d each q left (child q (Index i))) _
+        (inner_exact q left (child q (Index i))) (λ y k. elements_exact q y.left (i + 1) n (ds ++ y.json ∷ []) (items_exact ds y.json h k))
 
     object_exact : (q : Trail) (left : ℕ) → Gives IsExactPart (object_part d each q left)
     unfolding object_part
-    object_exact q left = gives_bind IsExactFound IsExactPart (find_object d q) _ (object_found q) (gone_into _ left (λ t. members_exact q left (fields d t) no_members refl))
+    object_exact q left = gives_bind IsExactFound IsExactPart (find_object d q) _ (object_found q)
+        (gone_into _ left (λ t. members_exact q left (fields d t) no_members refl))
 
     list_exact : (q : Trail) (left : ℕ) → Gives IsExactPart (list_part d each q left)
     unfolding list_part
-    list_exact q left = gives_bind IsExactFound IsExactPart (find_list d q (child q (Index 0))) _ (list_found q (child q (Index 0))) (gone_into _ left (λ n. elements_exact q left 0 n [] refl))
+    list_exact q left = gives_bind IsExactFound IsExactPart (find_list d q (child q (Index 0))) _ (list_found q (child q (Index 0)))
+        (gone_into _ left (λ n. elements_exact q left 0 n [] refl))
 
     value_exact : (p : Trail) (left : ℕ) (v : Value) → Gives IsExactPart (value_part d b each p left v)
     unfolding value_part
@@ -184,12 +196,15 @@ module _ (d : Description) (b : List ℕ) where
 
     begun_exact : (left : ℕ) (p : Trail) → Gives IsExactPart (begun_part d b each left p)
     unfolding begun_part asked_part
-    begun_exact left p = gives_bind (λ _. Unit {0}) IsExactPart (begin left) _ (begins left) (λ n _. gives_bind IsExactFound IsExactPart (find_value d p) _ (value_found p) (gone_into _ n (value_exact p n)))
+    begun_exact left p = gives_bind (λ _. Unit {0}) IsExactPart (begin left) _ (begins left)
+        (λ n _. gives_bind IsExactFound IsExactPart (find_value d p) _ (value_found p) (gone_into _ n (value_exact p n)))
 
   part_exact : (depth left : ℕ) (p : Trail) → Gives IsExactPart (part d b depth left p)
   unfolding part
   part_exact zero left p = unasked_exact p left
   part_exact (suc depth) left p = begun_exact (part d b depth) (part_exact depth) left p
 
-  pub whole_exact : (depth : ℕ) (p : Trail) (left : ℕ) (v : Value) (x : Part) → outcome d b (value_part d b (part d b depth) p left v) ≡ Ok x → has_float x.json ≡ false
-  whole_exact depth p left v x is = gives_result IsExactPart (answered d b) (value_part d b (part d b depth) p left v) x (value_exact (part d b depth) (part_exact depth) p left v) is
+  pub whole_exact : (depth : ℕ) (p : Trail) (left : ℕ) (v : Value) (x : Part) → outcome d b (value_part d b (part d b depth) p left v) ≡ Ok x
+      → has_float x.json ≡ false
+  whole_exact depth p left v x is = gives_result IsExactPart (answered d b) (value_part d b (part d b depth) p left v) x
+      (value_exact (part d b depth) (part_exact depth) p left v) is

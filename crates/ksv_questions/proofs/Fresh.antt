@@ -1,5 +1,6 @@
 -- The nodes that two questions one after the other complete, and their costs.
-use Rattle.std.proofs.Common.{◌≡◌, ℕ, zero, suc, ◌+◌, Bool, true, false, List, [], ◌∷◌, ◌++◌, Option, None, refl, sym, ◌∙◌, ap, nat_eq, ◌||◌, append_assoc, map, arith}
+use Rattle.std.proofs.Common.{◌≡◌, ℕ, zero, suc, ◌+◌, Bool, true, false, List, [], ◌∷◌, ◌++◌, Option, None, refl, sym, ◌∙◌, ap, nat_eq, ◌||◌, append_assoc, map}
+use Rattle.std.proofs.Common.{arith}
 use Rattle.std.specs.List.{list_any}
 use Rattle.ksv_memo_rules.specs.Meaning.{Standing}
 use Rattle.ksv_memo_rules.specs.Evaluation.{is_among}
@@ -16,26 +17,32 @@ or_again true b c h = refl
 or_again false true c h = let no : false ≡ true = h refl in cc
 or_again false false c h = refl
 
-among_again : {N : Type 0} (number : N → ℕ) (kept ms : List N) (m x : N) → is_among number kept m ≡ true → is_among number (kept ++ m ∷ ms) x ≡ is_among number (kept ++ ms) x
+among_again : {N : Type 0} (number : N → ℕ) (kept ms : List N) (m x : N) → is_among number kept m ≡ true
+    → is_among number (kept ++ m ∷ ms) x ≡ is_among number (kept ++ ms) x
 among_again number kept ms m x h =
     is_among-append number kept (m ∷ ms) x
-    ∙ or_again (is_among number kept x) (nat_eq (number x) (number m)) (is_among number ms x) (λ e. ap (λ n. list_any (nat_eq n) (map number kept)) (eqb_true (number x) (number m) e) ∙ h)
+    ∙ or_again (is_among number kept x) (nat_eq (number x) (number m)) (is_among number ms x)
+    (λ e. ap (λ n. list_any (nat_eq n) (map number kept)) (eqb_true (number x) (number m) e) ∙ h)
     ∙ sym (is_among-append number kept ms x)
 
 -- lists of the same members have the same members with more behind them
-pub among_more : {N : Type 0} (number : N → ℕ) (ks ls ms : List N) → ((x : N) → is_among number ks x ≡ is_among number ls x) → (x : N) → is_among number (ks ++ ms) x ≡ is_among number (ls ++ ms) x
+pub among_more : {N : Type 0} (number : N → ℕ) (ks ls ms : List N) → ((x : N) → is_among number ks x ≡ is_among number ls x) → (x : N)
+    → is_among number (ks ++ ms) x ≡ is_among number (ls ++ ms) x
 among_more number ks ls ms same x =
     is_among-append number ks ms x ∙ ap (λ b. b || is_among number ms x) (same x) ∙ sym (is_among-append number ls ms x)
 
 -- ---- what is fresh
 
 -- it depends on the members alone
-pub fresh_same : {N : Type 0} (number : N → ℕ) (ks ls ms : List N) → ((x : N) → is_among number ks x ≡ is_among number ls x) → fresh number ks ms ≡ fresh number ls ms
+pub fresh_same : {N : Type 0} (number : N → ℕ) (ks ls ms : List N) → ((x : N) → is_among number ks x ≡ is_among number ls x)
+    → fresh number ks ms ≡ fresh number ls ms
 fresh_same number ks ls [] same = fresh-nil number ks ∙ sym (fresh-nil number ls)
 fresh_same {N} number ks ls (m ∷ ms) same =
-    by (is_among number ls m) refl (fresh_same number ks ls ms same) (fresh_same number (ks ++ m ∷ []) (ls ++ m ∷ []) ms (among_more number ks ls (m ∷ []) same))
+    by (is_among number ls m) refl (fresh_same number ks ls ms same)
+    (fresh_same number (ks ++ m ∷ []) (ls ++ m ∷ []) ms (among_more number ks ls (m ∷ []) same))
   where
-    by : (b : Bool) → is_among number ls m ≡ b → fresh number ks ms ≡ fresh number ls ms → fresh number (ks ++ m ∷ []) ms ≡ fresh number (ls ++ m ∷ []) ms → fresh number ks (m ∷ ms) ≡ fresh number ls (m ∷ ms)
+    by : (b : Bool) → is_among number ls m ≡ b → fresh number ks ms ≡ fresh number ls ms → fresh number (ks ++ m ∷ []) ms ≡ fresh number (ls ++ m ∷ []) ms
+        → fresh number ks (m ∷ ms) ≡ fresh number ls (m ∷ ms)
     by true e ih _ = fresh-in number ks m ms (same m ∙ e) ∙ ih ∙ sym (fresh-in number ls m ms e)
     by false e _ ih = fresh-out number ks m ms (same m ∙ e) ∙ ap (λ rest. m ∷ rest) ih ∙ sym (fresh-out number ls m ms e)
 

@@ -1,5 +1,6 @@
 -- The bytes of an integer read as that integer.
-use Rattle.std.proofs.Common.{◌≡◌, ◌∙◌, ℕ, zero, suc, ◌+◌, ◌-◌, ◌*◌, ◌/◌, ◌^◌, ◌<◌, ◌≤◌, ℤ, pos, negsuc, Bool, true, false, ◌&&◌, List, length, ap, refl, sym, arith}
+use Rattle.std.proofs.Common.{◌≡◌, ◌∙◌, ℕ, zero, suc, ◌+◌, ◌-◌, ◌*◌, ◌/◌, ◌^◌, ◌<◌, ◌≤◌, ℤ, pos, negsuc, Bool, true, false, ◌&&◌, List, length, ap, refl, sym}
+use Rattle.std.proofs.Common.{arith}
 use Rattle.std.specs.Prelude.{nat_le, int_le, int_lt, neg_ℤ, if◌then◌else◌, ◌-ℤ◌}
 use Rattle.std.specs.Cmp.{first_so, second_so}
 use Rattle.std.proofs.lemmas.Bool.Decides.{nat_tests}
@@ -42,7 +43,8 @@ in_order_length Big bytes = length-reverse bytes
 integer_by : Bool → ℕ → ℕ → ℤ
 integer_by signed values n = if signed && nat_le (values / 2) n then pos n -ℤ pos values else pos n
 
-value_is : (signed : Bool) (order : ByteOrder) (size n : ℕ) → n < 2 ^ (8 * size) → integer_value signed order (in_order order (little_endian size n)) ≡ integer_by signed (2 ^ (8 * size)) n
+value_is : (signed : Bool) (order : ByteOrder) (size n : ℕ) → n < 2 ^ (8 * size)
+    → integer_value signed order (in_order order (little_endian size n)) ≡ integer_by signed (2 ^ (8 * size)) n
 unfolding integer_value integer_by
 value_is signed order size n h =
     let bound : n < 256 ^ size = below (byte_power size) in
@@ -68,7 +70,8 @@ if_true c x y e = ap (λ b. if b then x else y) e
 if_false : (c : Bool) (x y : ℤ) → c ≡ false → (if c then x else y) ≡ y
 if_false c x y e = ap (λ b. if b then x else y) e
 
-read_at : (signed : Bool) (v : ℕ) (n : ℤ) → (if signed then int_le (neg_ℤ (pos (v / 2))) n && int_lt n (pos (v / 2)) else int_le (pos 0) n && int_lt n (pos v)) ≡ true
+read_at : (signed : Bool) (v : ℕ) (n : ℤ) → (if signed then int_le (neg_ℤ (pos (v / 2))) n && int_lt n (pos (v / 2)) else int_le (pos 0) n && int_lt n (pos v))
+    ≡ true
     → (unsigned_in v n < v) × (integer_by signed v (unsigned_in v n) ≡ n)
 unfolding integer_by
 read_at true v (pos n) h =

@@ -26,7 +26,8 @@ module _ (d : Description) (b : List ℕ) where
   asks_failed : {A B : Type 0} (p : Asking A) (f : A → Asking B) (e : Failure) → outcome d b p ≡ Err e → asks d b p ≡ asks d b (bind p f)
   asks_failed p f e is = sym (asks_bind (answered d b) p f ∙ ap (λ r. asks d b p ++ asks_behind r (λ x. asks d b (f x))) is ∙ ++-nil (asks d b p))
 
-  outcome_on : {A B : Type 0} (p : Asking A) (f : A → Asking B) (a : A) (r : Result B Failure) → outcome d b p ≡ Ok a → outcome d b (f a) ≡ r → outcome d b (bind p f) ≡ r
+  outcome_on : {A B : Type 0} (p : Asking A) (f : A → Asking B) (a : A) (r : Result B Failure) → outcome d b p ≡ Ok a → outcome d b (f a) ≡ r
+      → outcome d b (bind p f) ≡ r
   outcome_on p f a r is e = result_bind (answered d b) p f ∙ ap (λ x. and_then x (λ y. outcome d b (f y))) is ∙ e
 
   outcome_failed : {A B : Type 0} (p : Asking A) (f : A → Asking B) (e : Failure) → outcome d b p ≡ Err e → outcome d b (bind p f) ≡ Err e
@@ -48,7 +49,8 @@ module _ (d : Description) (b : List ℕ) where
     subst (λ ns. HasAsked (world d b) ns old new) (asks_on p f (view x) h.0) (asked_then (world d b) old mid new (asks d b p) (asks d b (f (view x))) h.1 k.1),
   )
   runs_on p f view then old mid new x (Err untolds.NoMemory) h k =
-      subst (λ ns. HasAskedSome (world d b) ns old new) (asks_on p f (view x) h.0) (some_then (world d b) old mid new (asks d b p) (asks d b (f (view x))) h.1 k)
+      subst (λ ns. HasAskedSome (world d b) ns old new) (asks_on p f (view x) h.0)
+      (some_then (world d b) old mid new (asks d b p) (asks d b (f (view x))) h.1 k)
 
   -- the first had none
   pub runs_failed : {X Y A B : Type 0} (p : Asking A) (f : A → Asking B) (view : X → A) (then : Y → B) (old new : Memo Node Ruled) (e : Untold)
@@ -68,9 +70,12 @@ module _ (d : Description) (b : List ℕ) where
   -- a question that asks nothing
   pub runs_settled : {X A : Type 0} (q : Asking A) (view : X → A) (old : Memo Node Ruled) (r : Result X Untold) → IsRight (world d b) old.kept
       → Settles q view r → Runs d b q view old old r
-  runs_settled q view old (Ok x) right is = (ap (λ p. outcome d b p) is, subst (λ p. HasAsked (world d b) (asks d b p) old old) (sym is) (asked_none (world d b) old right))
-  runs_settled q view old (Err (untolds.Fault e)) right is = (ap (λ p. outcome d b p) is, subst (λ p. HasAsked (world d b) (asks d b p) old old) (sym is) (asked_none (world d b) old right))
-  runs_settled q view old (Err (untolds.Refused e)) right is = (ap (λ p. outcome d b p) is, subst (λ p. HasAsked (world d b) (asks d b p) old old) (sym is) (asked_none (world d b) old right))
+  runs_settled q view old (Ok x) right is =
+      (ap (λ p. outcome d b p) is, subst (λ p. HasAsked (world d b) (asks d b p) old old) (sym is) (asked_none (world d b) old right))
+  runs_settled q view old (Err (untolds.Fault e)) right is =
+      (ap (λ p. outcome d b p) is, subst (λ p. HasAsked (world d b) (asks d b p) old old) (sym is) (asked_none (world d b) old right))
+  runs_settled q view old (Err (untolds.Refused e)) right is =
+      (ap (λ p. outcome d b p) is, subst (λ p. HasAsked (world d b) (asks d b p) old old) (sym is) (asked_none (world d b) old right))
   runs_settled q view old (Err untolds.NoMemory) right is = some_none (world d b) old (asks d b q) right
 
   -- a fault
@@ -80,7 +85,8 @@ module _ (d : Description) (b : List ℕ) where
   settled_fault f view (untolds.Refused r) is = absurd is
 
   -- behind one that asks nothing and fails
-  pub settled_failed : {X Y A B : Type 0} (p : Asking A) (f : A → Asking B) (view : X → A) (then : Y → B) (e : Untold) → Settles p view (Err e) → Settles (bind p f) then (Err e)
+  pub settled_failed : {X Y A B : Type 0} (p : Asking A) (f : A → Asking B) (view : X → A) (then : Y → B) (e : Untold) → Settles p view (Err e)
+      → Settles (bind p f) then (Err e)
   settled_failed p f view then untolds.NoMemory is = tt
   settled_failed p f view then (untolds.Fault e) is = bind_fails p f (Faulty e) is
   settled_failed p f view then (untolds.Refused e) is = bind_fails p f (Refused e) is
@@ -117,13 +123,18 @@ module _ (d : Description) (b : List ℕ) where
   -- the rest was run
   pub pending_run : {Y B : Type 0} (whole rest : Asking B) (then : Y → B) (old mid new : Memo Node Ruled) (r : Result Y Untold)
       → Pending whole old rest mid → Runs d b rest then mid new r → Runs d b whole then old new r
-  pending_run whole rest then old mid new (Ok y) h k = (h.ends ∙ k.0, subst (λ ns. HasAsked (world d b) ns old new) (sym h.order) (asked_then (world d b) old mid new h.before (asks d b rest) h.went k.1))
-  pending_run whole rest then old mid new (Err (untolds.Fault e)) h k = (h.ends ∙ k.0, subst (λ ns. HasAsked (world d b) ns old new) (sym h.order) (asked_then (world d b) old mid new h.before (asks d b rest) h.went k.1))
-  pending_run whole rest then old mid new (Err (untolds.Refused e)) h k = (h.ends ∙ k.0, subst (λ ns. HasAsked (world d b) ns old new) (sym h.order) (asked_then (world d b) old mid new h.before (asks d b rest) h.went k.1))
-  pending_run whole rest then old mid new (Err untolds.NoMemory) h k = subst (λ ns. HasAskedSome (world d b) ns old new) (sym h.order) (some_then (world d b) old mid new h.before (asks d b rest) h.went k)
+  pending_run whole rest then old mid new (Ok y) h k =
+      (h.ends ∙ k.0, subst (λ ns. HasAsked (world d b) ns old new) (sym h.order) (asked_then (world d b) old mid new h.before (asks d b rest) h.went k.1))
+  pending_run whole rest then old mid new (Err (untolds.Fault e)) h k =
+      (h.ends ∙ k.0, subst (λ ns. HasAsked (world d b) ns old new) (sym h.order) (asked_then (world d b) old mid new h.before (asks d b rest) h.went k.1))
+  pending_run whole rest then old mid new (Err (untolds.Refused e)) h k =
+      (h.ends ∙ k.0, subst (λ ns. HasAsked (world d b) ns old new) (sym h.order) (asked_then (world d b) old mid new h.before (asks d b rest) h.went k.1))
+  pending_run whole rest then old mid new (Err untolds.NoMemory) h k =
+      subst (λ ns. HasAskedSome (world d b) ns old new) (sym h.order) (some_then (world d b) old mid new h.before (asks d b rest) h.went k)
 
   -- memory was refused before the rest asked anything
   pub pending_short : {B : Type 0} (whole rest : Asking B) (old mid : Memo Node Ruled) → Pending whole old rest mid
       → HasAskedSome (world d b) (asks d b whole) old mid
   pending_short whole rest old mid h =
-      subst (λ ns. HasAskedSome (world d b) ns old mid) (sym h.order) (some_before (world d b) old mid h.before (asks d b rest) (some_of (world d b) old mid h.before h.went))
+      subst (λ ns. HasAskedSome (world d b) ns old mid) (sym h.order)
+      (some_before (world d b) old mid h.before (asks d b rest) (some_of (world d b) old mid h.before h.went))

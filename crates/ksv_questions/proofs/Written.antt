@@ -1,5 +1,6 @@
 -- Bits that are written: they are read as their number, and no other bit changes.
-use Rattle.std.proofs.Common.{◌≡◌, ◌∙◌, ℕ, zero, suc, ◌+◌, ◌-◌, ◌*◌, ◌/◌, ◌%◌, ◌^◌, ◌<◌, ◌≤◌, ◌&&◌, ◌==◌, Bool, true, false, if◌then◌else◌, List, [], ◌∷◌, ◌++◌, length, take, drop, reverse, Option, Some, None, Result, Ok, Err, ℤ, refl, ap, sym, subst, arith, append_assoc, length-append}
+use Rattle.std.proofs.Common.{◌≡◌, ◌∙◌, ℕ, zero, suc, ◌+◌, ◌-◌, ◌*◌, ◌/◌, ◌%◌, ◌^◌, ◌<◌, ◌≤◌, ◌&&◌, ◌==◌, Bool, true, false, if◌then◌else◌, List, [], ◌∷◌, ◌++◌}
+use Rattle.std.proofs.Common.{length, take, drop, reverse, Option, Some, None, Result, Ok, Err, ℤ, refl, ap, sym, subst, arith, append_assoc, length-append}
 use Rattle.std.specs.Prelude.{nat_le, nat_lt, slice_range}
 use Rattle.std.specs.List.{AllByRecursion}
 use Rattle.std.specs.Cmp.{first_so, second_so}
@@ -14,7 +15,8 @@ use Rattle.ksv_bytes.specs.declared.edit.EditRefusal.TheVariants.{NothingToDo, O
 use Rattle.ksv_texts.specs.declared.refusal.Refusal.TheVariants.{OutOfRange}
 use Rattle.ksv_expr_value.specs.Bits.{number_of, bits_of_number, bits_of, bits_from}
 use Rattle.ksv_expr_value.specs.Places.{Place, byte_of, byte_in, bit_in, bits_between, bits_left}
-use Rattle.ksv_expr_value.proofs.Binary.{AreBits, are_append, are_back, are_front, are_of, are_of_number, bits_append, byte_power, count_bits, count_of, number_append, number_bits, number_one, number_small}
+use Rattle.ksv_expr_value.proofs.Binary.{AreBits, are_append, are_back, are_front, are_of, are_of_number, bits_append, byte_power, count_bits, count_of}
+use Rattle.ksv_expr_value.proofs.Binary.{number_append, number_bits, number_one, number_small}
 use Rattle.ksv_expr_value.proofs.Places.{bits_cut, by_byte, bytes_ordered}
 use Rattle.ksv_nodes.specs.declared.given.Leaf.{Leaf}
 use Rattle.ksv_texts.specs.Bits.{bits_hold, magnitude, replaced_bits, with_bits}
@@ -42,19 +44,31 @@ digits_bits (suc k) n small =
     let last : reverse (n % 256 ∷ little_endian k (n / 256)) ≡ front ++ (n % 256 ∷ []) = reverse-append (n % 256 ∷ []) (little_endian k (n / 256)) in
     let bits : bits_of (front ++ (n % 256 ∷ [])) ≡ bits_of front ++ bits_of (n % 256 ∷ []) = bits_append front (n % 256 ∷ []) in
     let eight : 2 ^ length (bits_of (n % 256 ∷ [])) ≡ 256 = ap (λ m. 2 ^ m) (count_of (n % 256 ∷ [])) in
-    let single : number_of (bits_of (n % 256 ∷ [])) ≡ n % 256 = number_append (bits_of_number 8 (n % 256)) [] ∙ omega (arith, number_bits 8 (n % 256) (omega arith)) in
+    let single : number_of (bits_of (n % 256 ∷ [])) ≡ n % 256 =
+    number_append (bits_of_number 8 (n % 256)) [] ∙ omega (arith, number_bits 8 (n % 256) (omega arith)) in
     let whole : number_of (bits_of front ++ bits_of (n % 256 ∷ [])) ≡ number_of (bits_of front) * 256 + n % 256 =
-    number_append (bits_of front) (bits_of (n % 256 ∷ [])) ∙ ap (λ m. number_of (bits_of front) * m + number_of (bits_of (n % 256 ∷ []))) eight ∙ ap (λ m. number_of (bits_of front) * 256 + m) single in
+    number_append (bits_of front) (bits_of (n % 256 ∷ [])) ∙ ap (λ m. number_of (bits_of front) * m + number_of (bits_of (n % 256 ∷ []))) eight
+    ∙ ap (λ m. number_of (bits_of front) * 256 + m) single in
     ap (λ bs. number_of (bits_of bs)) last ∙ ap number_of bits ∙ whole ∙ omega (arith, digits_bits k (n / 256) rest)
 
 -- the bits beside the replaced ones stay, so they are as many
-replaced_count : (from to : Place) (n : ℕ) (bytes : List ℕ) → byte_in from + length bytes ≡ byte_of to → from.bits ≤ to.bits → length (replaced_bits from to n bytes) ≡ 8 * length bytes
+replaced_count : (from to : Place) (n : ℕ) (bytes : List ℕ) → byte_in from + length bytes ≡ byte_of to → from.bits ≤ to.bits
+    → length (replaced_bits from to n bytes) ≡ 8 * length bytes
 unfolding replaced_bits
 replaced_count from to n bytes met ordered =
     let k = bit_in from in
     let w = bits_between from to in
     let bits = bits_of bytes in
-    omega (arith, length-append (take k bits) (bits_of_number w n ++ drop (k + w) bits), length-append (bits_of_number w n) (drop (k + w) bits), count_bits w n, length-take k bits, length-drop (k + w) bits, count_of bytes, bits_cut from to (length bytes) met ordered)
+    omega (
+      arith,
+      length-append (take k bits) (bits_of_number w n ++ drop (k + w) bits),
+      length-append (bits_of_number w n) (drop (k + w) bits),
+      count_bits w n,
+      length-take k bits,
+      length-drop (k + w) bits,
+      count_of bytes,
+      bits_cut from to (length bytes) met ordered,
+    )
 
 replaced_are : (from to : Place) (n : ℕ) (bytes : List ℕ) → AreBits (replaced_bits from to n bytes)
 unfolding replaced_bits
@@ -68,29 +82,35 @@ replaced_are from to n bytes =
 
 with_count : (from to : Place) (n : ℕ) (bytes : List ℕ) → length (with_bits from to n bytes) ≡ length bytes
 unfolding with_bits
-with_count from to n bytes = length-reverse (little_endian (length bytes) (number_of (replaced_bits from to n bytes))) ∙ digits_length (length bytes) (number_of (replaced_bits from to n bytes))
+with_count from to n bytes = length-reverse (little_endian (length bytes) (number_of (replaced_bits from to n bytes)))
+    ∙ digits_length (length bytes) (number_of (replaced_bits from to n bytes))
 
 -- what is written has these bits
-with_bits_are : (from to : Place) (n : ℕ) (bytes : List ℕ) → byte_in from + length bytes ≡ byte_of to → from.bits ≤ to.bits → bits_of (with_bits from to n bytes) ≡ replaced_bits from to n bytes
+with_bits_are : (from to : Place) (n : ℕ) (bytes : List ℕ) → byte_in from + length bytes ≡ byte_of to → from.bits ≤ to.bits
+    → bits_of (with_bits from to n bytes) ≡ replaced_bits from to n bytes
 unfolding with_bits
 with_bits_are from to n bytes met ordered =
     let bits = replaced_bits from to n bytes in
     let made = reverse (little_endian (length bytes) (number_of bits)) in
     let count = replaced_count from to n bytes met ordered in
-    let small : number_of bits < 256 ^ length bytes = omega (arith, number_small bits (replaced_are from to n bytes), ap (λ m. 2 ^ m) count ∙ byte_power (length bytes)) in
-    let long : length (bits_of made) ≡ length bits = count_of made ∙ ap (λ m. 8 * m) (length-reverse (little_endian (length bytes) (number_of bits)) ∙ digits_length (length bytes) (number_of bits)) ∙ sym count in
+    let small : number_of bits < 256 ^ length bytes =
+    omega (arith, number_small bits (replaced_are from to n bytes), ap (λ m. 2 ^ m) count ∙ byte_power (length bytes)) in
+    let long : length (bits_of made) ≡ length bits = count_of made
+    ∙ ap (λ m. 8 * m) (length-reverse (little_endian (length bytes) (number_of bits)) ∙ digits_length (length bytes) (number_of bits)) ∙ sym count in
     number_one (bits_of made) bits (are_of made) (replaced_are from to n bytes) long (digits_bits (length bytes) (number_of bits) small)
 
 -- ---- lists in parts
 
 front_of : (n : ℕ) (front mid back : List ℕ) → n ≡ length front + length mid → take n (front ++ (mid ++ back)) ≡ front ++ mid
-front_of n front mid back e = ap (λ m. take m (front ++ (mid ++ back))) e ∙ take-append-add front (mid ++ back) (length mid) ∙ ap (λ z. front ++ z) (take-append_seam mid back)
+front_of n front mid back e = ap (λ m. take m (front ++ (mid ++ back))) e ∙ take-append-add front (mid ++ back) (length mid)
+    ∙ ap (λ z. front ++ z) (take-append_seam mid back)
 
 back_of : (n : ℕ) (front mid back : List ℕ) → n ≡ length front + length mid → drop n (front ++ (mid ++ back)) ≡ back
 back_of n front mid back e = ap (λ m. drop m (front ++ (mid ++ back))) e ∙ drop-append-add front (mid ++ back) (length mid) ∙ drop-append_seam mid back
 
 mid_of : (k w : ℕ) (front mid back : List ℕ) → k ≡ length front → w ≡ length mid → take w (drop k (front ++ (mid ++ back))) ≡ mid
-mid_of k w front mid back e f = ap (λ m. take w (drop m (front ++ (mid ++ back)))) e ∙ ap (take w) (drop-append_seam front (mid ++ back)) ∙ ap (λ m. take m (mid ++ back)) f ∙ take-append_seam mid back
+mid_of k w front mid back e f = ap (λ m. take w (drop m (front ++ (mid ++ back)))) e ∙ ap (take w) (drop-append_seam front (mid ++ back))
+    ∙ ap (λ m. take m (mid ++ back)) f ∙ take-append_seam mid back
 
 four : (a b c d : List ℕ) → (a ++ (b ++ c)) ++ d ≡ a ++ (b ++ (c ++ d))
 four a b c d = append_assoc a (b ++ c) d ∙ ap (λ z. a ++ z) (append_assoc b c d)
@@ -172,18 +192,24 @@ module _ (b : List ℕ) (from to : Place) (n : ℕ) (ordered : from.bits ≤ to.
   same_before : take from.bits (bits_of after) ≡ take from.bits (bits_of b)
   same_before =
       let place : from.bits ≡ length (bits_of before) + length (take k bits) = omega (arith, by_byte from, before_long, first_long) in
-      let old : bits_of b ≡ bits_of before ++ (take k bits ++ (drop k bits ++ bits_of behind)) = old_bits ∙ ap (λ z. bits_of before ++ (z ++ bits_of behind)) (sym (take-append-drop k bits)) ∙ ap (λ z. bits_of before ++ z) (append_assoc (take k bits) (drop k bits) (bits_of behind)) in
+      let old : bits_of b ≡ bits_of before ++ (take k bits ++ (drop k bits ++ bits_of behind)) =
+      old_bits ∙ ap (λ z. bits_of before ++ (z ++ bits_of behind)) (sym (take-append-drop k bits))
+      ∙ ap (λ z. bits_of before ++ z) (append_assoc (take k bits) (drop k bits) (bits_of behind)) in
       ap (take from.bits) new_bits ∙ front_of from.bits (bits_of before) (take k bits) (bits_of_number w n ++ rest) place
       ∙ sym (front_of from.bits (bits_of before) (take k bits) (drop k bits ++ bits_of behind) place) ∙ ap (take from.bits) (sym old)
 
   same_behind : drop to.bits (bits_of after) ≡ drop to.bits (bits_of b)
   same_behind =
-      let both : length (take k bits ++ bits_of_number w n) ≡ k + w = omega (arith, length-append (take k bits) (bits_of_number w n), first_long, count_bits w n) in
+      let both : length (take k bits ++ bits_of_number w n) ≡ k + w =
+      omega (arith, length-append (take k bits) (bits_of_number w n), first_long, count_bits w n) in
       let wide : length (take (k + w) bits) ≡ k + w = omega (arith, length-take (k + w) bits, count_of met, cut) in
       let place : to.bits ≡ length (bits_of before) + length (take k bits ++ bits_of_number w n) = omega (arith, by_byte from, before_long, both, ordered) in
       let place' : to.bits ≡ length (bits_of before) + length (take (k + w) bits) = omega (arith, by_byte from, before_long, wide, ordered) in
-      let made : bits_of after ≡ bits_of before ++ ((take k bits ++ bits_of_number w n) ++ rest) = new_bits ∙ ap (λ z. bits_of before ++ z) (sym (append_assoc (take k bits) (bits_of_number w n) rest)) in
-      let old : bits_of b ≡ bits_of before ++ (take (k + w) bits ++ rest) = old_bits ∙ ap (λ z. bits_of before ++ (z ++ bits_of behind)) (sym (take-append-drop (k + w) bits)) ∙ ap (λ z. bits_of before ++ z) (append_assoc (take (k + w) bits) (drop (k + w) bits) (bits_of behind)) in
+      let made : bits_of after ≡ bits_of before ++ ((take k bits ++ bits_of_number w n) ++ rest) =
+      new_bits ∙ ap (λ z. bits_of before ++ z) (sym (append_assoc (take k bits) (bits_of_number w n) rest)) in
+      let old : bits_of b ≡ bits_of before ++ (take (k + w) bits ++ rest) =
+      old_bits ∙ ap (λ z. bits_of before ++ (z ++ bits_of behind)) (sym (take-append-drop (k + w) bits))
+      ∙ ap (λ z. bits_of before ++ z) (append_assoc (take (k + w) bits) (drop (k + w) bits) (bits_of behind)) in
       ap (drop to.bits) made ∙ back_of to.bits (bits_of before) (take k bits ++ bits_of_number w n) rest place
       ∙ sym (back_of to.bits (bits_of before) (take (k + w) bits) rest place') ∙ ap (drop to.bits) (sym old)
 
@@ -201,7 +227,8 @@ module _ (b : List ℕ) (from to : Place) (n : ℕ) (ordered : from.bits ≤ to.
 over_is : (b h : List ℕ) (at : ℕ) (after : List ℕ) → overwrite b at h ≡ Ok after → take at b ++ h ++ drop (at + length h) b ≡ after
 over_is b h at after e = by (nat_lt (length b) (at + length h)) (length h == 0) e
   where
-    by : (x y : Bool) → (if x then Err Outside else if y then Err NothingToDo else Ok (take at b ++ h ++ drop (at + length h) b)) ≡ Ok after → take at b ++ h ++ drop (at + length h) b ≡ after
+    by : (x y : Bool) → (if x then Err Outside else if y then Err NothingToDo else Ok (take at b ++ h ++ drop (at + length h) b)) ≡ Ok after
+        → take at b ++ h ++ drop (at + length h) b ≡ after
     by true y e' = absurd (cc)
     by false true e' = absurd (cc)
     by false false e' = cc
@@ -209,10 +236,13 @@ over_is b h at after e = by (nat_lt (length b) (at + length h)) (length h == 0) 
 one_answer : (x o : Overwrite) → ◌≡◌ {A = Asking Overwrite} (Answer x) (Answer o) → x ≡ o
 one_answer x o e = cc
 
-is_written : (b after : List ℕ) (l : Leaf) (n : ℤ) (o : Overwrite) → l.from.bits ≤ l.to.bits → byte_of l.to ≤ length b → magnitude n < 2 ^ bits_between l.from l.to
-    → record { at = byte_in l.from; bytes = with_bits l.from l.to (magnitude n) (slice_range b (byte_in l.from) (byte_of l.to)) } ≡ o → overwrite b o.at o.bytes ≡ Ok after → IsWritten b after l n
+is_written : (b after : List ℕ) (l : Leaf) (n : ℤ) (o : Overwrite) → l.from.bits ≤ l.to.bits → byte_of l.to ≤ length b
+    → magnitude n < 2 ^ bits_between l.from l.to
+    → record { at = byte_in l.from; bytes = with_bits l.from l.to (magnitude n) (slice_range b (byte_in l.from) (byte_of l.to)) } ≡ o
+    → overwrite b o.at o.bytes ≡ Ok after → IsWritten b after l n
 is_written b after l n o ordered inside small is over =
-    let there = over_is b (with_bits l.from l.to (magnitude n) (slice_range b (byte_in l.from) (byte_of l.to))) (byte_in l.from) after (ap (λ (x : Overwrite). overwrite b x.at x.bytes) is ∙ over) in
+    let there = over_is b (with_bits l.from l.to (magnitude n) (slice_range b (byte_in l.from) (byte_of l.to))) (byte_in l.from) after
+    (ap (λ (x : Overwrite). overwrite b x.at x.bytes) is ∙ over) in
     subst (λ z. IsWritten b z l n) there (record {
       read = read_back b l.from l.to (magnitude n) ordered inside small;
       before = same_before b l.from l.to (magnitude n) ordered inside small;
@@ -221,14 +251,20 @@ is_written b after l n o ordered inside small is over =
 
 pub bits_are_written : BitsAreWritten
 unfolding met_bytes
-bits_are_written b after l n o e over = by (nat_le l.from.bits l.to.bits) (nat_le (byte_of l.to) (length b)) (nat_le (byte_of l.to) (byte_in l.from + 9)) refl refl e
+bits_are_written b after l n o e over = by (nat_le l.from.bits l.to.bits) (nat_le (byte_of l.to) (length b)) (nat_le (byte_of l.to) (byte_in l.from + 9)) refl
+    refl e
   where
-    by : (x y z : Bool) → nat_le l.from.bits l.to.bits ≡ x → nat_le (byte_of l.to) (length b) ≡ y → among l n (if x && y && z then Some (slice_range b (byte_in l.from) (byte_of l.to)) else None) ≡ Answer o → IsWritten b after l n
+    by : (x y z : Bool) → nat_le l.from.bits l.to.bits ≡ x → nat_le (byte_of l.to) (length b) ≡ y
+        → among l n (if x && y && z then Some (slice_range b (byte_in l.from) (byte_of l.to)) else None) ≡ Answer o → IsWritten b after l n
     by true true true p q e' = by_hold (bits_hold l.from l.to n) refl e'
       where
         by_hold : (h : Bool) → bits_hold l.from l.to n ≡ h
-            → ◌≡◌ {A = Asking Overwrite} (if h then Answer (record { at = byte_in l.from; bytes = with_bits l.from l.to (magnitude n) (slice_range b (byte_in l.from) (byte_of l.to)) }) else Fail (Refused OutOfRange)) (Answer o) → IsWritten b after l n
-        by_hold true h e'' = is_written b after l n o (leb-true l.from.bits l.to.bits p) (leb-true (byte_of l.to) (length b) q) (held l.from l.to n h) (one_answer _ o e'') over
+            → ◌≡◌ {A = Asking Overwrite}
+            (if h then Answer (record
+            { at = byte_in l.from; bytes = with_bits l.from l.to (magnitude n) (slice_range b (byte_in l.from) (byte_of l.to)) })
+            else Fail (Refused OutOfRange)) (Answer o) → IsWritten b after l n
+        by_hold true h e'' = is_written b after l n o (leb-true l.from.bits l.to.bits p) (leb-true (byte_of l.to) (length b) q) (held l.from l.to n h)
+            (one_answer _ o e'') over
         by_hold false h e'' = absurd (cc)
     by false y z p q e' = absurd (cc)
     by true false z p q e' = absurd (cc)

@@ -96,7 +96,8 @@ module _ (d : Description) (bytes : List ℕ) where
   done_level : (k : ℕ) (opened : List Node) (n : Node) → AreDistinct w opened
       → (is_among node_number opened n ≡ false → (m : Node) → done w (n ∷ opened) m ≡ completed_within d bytes k (n ∷ opened) m)
       → (b : Bool) → is_among node_number opened n ≡ b
-      → done w opened n ≡ (if b then [] else flat_map (completed_within d bytes k (n ∷ opened)) (asks d bytes opened n) ++ (if meets_circle d bytes opened n then [] else n ∷ []))
+      → done w opened n ≡ (if b then [] else flat_map (completed_within d bytes k (n ∷ opened)) (asks d bytes opened n)
+      ++ (if meets_circle d bytes opened n then [] else n ∷ []))
   done_level k opened n distinct each true e = completed-open w w.nodes opened n e
   done_level k opened n distinct each false e =
       done-free w settled opened n distinct e
@@ -105,11 +106,13 @@ module _ (d : Description) (bytes : List ℕ) where
       ∙ ap (λ ms. flat_map (completed_within d bytes k (n ∷ opened)) (asks d bytes opened n) ++ ms)
       (own_is n (tells w opened n).outcome (meets_circle d bytes opened n) (answered_direct opened n))
 
-  done_within : (k : ℕ) (opened : List Node) (n : Node) → AreDistinct w opened → node_bound ≤ k + length opened → done w opened n ≡ completed_within d bytes k opened n
+  done_within : (k : ℕ) (opened : List Node) (n : Node) → AreDistinct w opened → node_bound ≤ k + length opened
+      → done w opened n ≡ completed_within d bytes k opened n
   unfolding completed_within
   done_within zero opened n distinct deep = completed-open w w.nodes opened n (all_open opened n distinct (omega arith))
   done_within (suc k) opened n distinct deep =
-      done_level k opened n distinct (λ e m. done_within k (n ∷ opened) m (AreDistinct-cons w n opened e distinct) (omega arith)) (is_among node_number opened n) refl
+      done_level k opened n distinct (λ e m. done_within k (n ∷ opened) m (AreDistinct-cons w n opened e distinct) (omega arith))
+      (is_among node_number opened n) refl
 
   pub done_direct : (opened : List Node) (n : Node) → AreDistinct w opened → done w opened n ≡ completed d bytes opened n
   unfolding completed

@@ -1,5 +1,6 @@
 -- Evaluation by replies, as every engine has it, is the direct one.
-use Rattle.std.proofs.Common.{◌≡◌, inl, inr, ℕ, zero, suc, ◌+◌, ◌≤◌, ◌<◌, Bool, true, false, cond, List, [], ◌∷◌, ◌++◌, length, map, Option, Some, None, Result, Ok, Err, refl, sym, ap, ◌∙◌, subst, arith, append_assoc, append-nil, length-append}
+use Rattle.std.proofs.Common.{◌≡◌, inl, inr, ℕ, zero, suc, ◌+◌, ◌≤◌, ◌<◌, Bool, true, false, cond, List, [], ◌∷◌, ◌++◌, length, map, Option, Some, None, Result}
+use Rattle.std.proofs.Common.{Ok, Err, refl, sym, ap, ◌∙◌, subst, arith, append_assoc, append-nil, length-append}
 use mathlib.Core.Path.{fun_ext}
 use Rattle.std.specs.Prelude.{Contains}
 use Rattle.std.proofs.lemmas.List.Elements.{Contains-append_left, Contains-append_right, Contains-append_cases}
@@ -28,7 +29,8 @@ use Rattle.ksv_rule_meaning.specs.Meaning.{rule_of}
 use Rattle.ksv_rule_meaning.specs.FromNothing.{circle, answer_within, from_nothing}
 use Rattle.ksv_rule_meaning.specs.Described.{most_asks, resumed, step_of, described}
 use Rattle.ksv_rule_meaning.specs.Lemmas.Bounds.{settles}
-use Rattle.ksv_rule_meaning.specs.Direct.{flattened, AreSameUses, IsFree, IsDirect, AnswersAreDirect, AsksAreDirect, AnswersFollowRules, NeedsNext, MeetsTruth, NextMeetsTruth}
+use Rattle.ksv_rule_meaning.specs.Direct.{flattened, AreSameUses, IsFree, IsDirect, AnswersAreDirect, AsksAreDirect, AnswersFollowRules, NeedsNext, MeetsTruth}
+use Rattle.ksv_rule_meaning.specs.Direct.{NextMeetsTruth}
 
 -- ---- the same uses
 
@@ -69,11 +71,13 @@ module _ (d : Description) (bytes : List ℕ) (n : Node) (ask : Node → Outcome
   abbrev step_told : ℕ → List (Result Given Fault) → Ran Node Fault State Given → Told Node (Result Given Fault)
   step_told j replies ran = with_step ask (behind ran).uses (λ a. told w ask n j (replies ++ a ∷ [])) (step_of ran)
 
-  told_at : (j : ℕ) (replies : List (Result Given Fault)) (us : List Use) (p : Rule Given) → GoesOn replies us p → told w ask n (suc j) replies ≡ step_told j replies (run turns p (at [] us))
+  told_at : (j : ℕ) (replies : List (Result Given Fault)) (us : List Use) (p : Rule Given) → GoesOn replies us p
+      → told w ask n (suc j) replies ≡ step_told j replies (run turns p (at [] us))
   unfolding told
   told_at j replies us p goes = ap (step_told j replies) (ap (λ rs. run turns (rule_of d n) (at rs [])) (sym (append-nil replies)) ∙ goes [])
 
-  follow_at : (replies : List (Result Given Fault)) (us : List Use) (p : Rule Given) → GoesOn replies us p → w.follow n replies ≡ step_of (run turns p (at [] us))
+  follow_at : (replies : List (Result Given Fault)) (us : List Use) (p : Rule Given) → GoesOn replies us p
+      → w.follow n replies ≡ step_of (run turns p (at [] us))
   follow_at replies us p goes = ap step_of (ap (λ rs. run turns (rule_of d n) (at rs [])) (sym (append-nil replies)) ∙ goes [])
 
   moved : (t u : Told Node (Result Given Fault)) (us : List Use) (p : Rule Given) → t ≡ u → Meets u us p → Meets t us p
@@ -95,21 +99,27 @@ module _ (d : Description) (bytes : List ℕ) (n : Node) (ask : Node → Outcome
     given_uses : behind_given (flattened o) (λ g. uses_of met n.path bytes (k g)) ≡ uses_of met n.path bytes (Ask (Of m) k)
     given_uses = ap (λ x. behind_given (flattened x) (λ g. uses_of met n.path bytes (k g))) (sym e)
 
-    given_same : (us ws : List Use) → AreSameUses ws (us ++ behind_given (flattened o) (λ g. uses_of met n.path bytes (k g))) → AreSameUses ws (us ++ uses_of met n.path bytes (Ask (Of m) k))
+    given_same : (us ws : List Use) → AreSameUses ws (us ++ behind_given (flattened o) (λ g. uses_of met n.path bytes (k g)))
+        → AreSameUses ws (us ++ uses_of met n.path bytes (Ask (Of m) k))
     given_same us ws same = rw (← given_uses) same
 
   -- a fault of a node that it asks is its own
-  fault_told : (j : ℕ) (replies : List (Result Given Fault)) (us : List Use) (m : Node) (k : Given → Rule Given) (f : Fault) → GoesOn replies us (Ask (Of m) k) → told w ask n (suc j) (replies ++ Err f ∷ []) ≡ record { outcome = Answered (Err f); asked = []; uses = us }
+  fault_told : (j : ℕ) (replies : List (Result Given Fault)) (us : List Use) (m : Node) (k : Given → Rule Given) (f : Fault) → GoesOn replies us (Ask (Of m) k)
+      → told w ask n (suc j) (replies ++ Err f ∷ []) ≡ record { outcome = Answered (Err f); asked = []; uses = us }
   unfolding with_step
-  fault_told j replies us m k f goes = told_at j (replies ++ Err f ∷ []) us (Fail (There f.kind f.path)) (λ more. ap (λ rs. run turns (rule_of d n) (at rs [])) (append_assoc replies (Err f ∷ []) more) ∙ goes (Err f ∷ more))
+  fault_told j replies us m k f goes = told_at j (replies ++ Err f ∷ []) us (Fail (There f.kind f.path))
+      (λ more. ap (λ rs. run turns (rule_of d n) (at rs [])) (append_assoc replies (Err f ∷ []) more) ∙ goes (Err f ∷ more))
 
   -- behind a reply
-  reply_meets : (j : ℕ) (replies : List (Result Given Fault)) (us : List Use) (m : Node) (k : Given → Rule Given) → most_asks d ≤ suc j + length replies → GoesOn replies us (Ask (Of m) k)
+  reply_meets : (j : ℕ) (replies : List (Result Given Fault)) (us : List Use) (m : Node) (k : Given → Rule Given) → most_asks d ≤ suc j + length replies
+      → GoesOn replies us (Ask (Of m) k)
       → ((g : Given) (i : ℕ) (rs : List (Result Given Fault)) → most_asks d ≤ i + length rs → GoesOn rs us (k g) → Meets (told w ask n (suc i) rs) us (k g))
-      → (o : Outcome Node (Result Given Fault)) → ask m ≡ o → Meets (after (m ∷ []) us (with_reply (λ a. told w ask n (suc j) (replies ++ a ∷ [])) o)) us (Ask (Of m) k)
+      → (o : Outcome Node (Result Given Fault)) → ask m ≡ o
+      → Meets (after (m ∷ []) us (with_reply (λ a. told w ask n (suc j) (replies ++ a ∷ [])) o)) us (Ask (Of m) k)
   unfolding with_reply
   reply_meets j replies us m k few goes rest (Answered (Ok g)) e =
-      let below = rest g j (replies ++ Ok g ∷ []) (omega (arith, length-append replies (Ok g ∷ []))) (λ more. ap (λ rs. run turns (rule_of d n) (at rs [])) (append_assoc replies (Ok g ∷ []) more) ∙ goes (Ok g ∷ more)) in
+      let below = rest g j (replies ++ Ok g ∷ []) (omega (arith, length-append replies (Ok g ∷ [])))
+      (λ more. ap (λ rs. run turns (rule_of d n) (at rs [])) (append_assoc replies (Ok g ∷ []) more) ∙ goes (Ok g ∷ more)) in
       record {
         outcome = below.outcome ∙ given_answer m k (Answered (Ok g)) e;
         asked = ap (λ ns. m ∷ ns) below.asked ∙ given_asks m k (Answered (Ok g)) e;
@@ -120,7 +130,8 @@ module _ (d : Description) (bytes : List ℕ) (n : Node) (ask : Node → Outcome
       record {
         outcome = ap (λ (t : Told Node (Result Given Fault)). flattened t.outcome) is ∙ given_answer m k (Answered (Err f)) e;
         asked = ap (λ (t : Told Node (Result Given Fault)). m ∷ t.asked) is ∙ given_asks m k (Answered (Err f)) e;
-        uses = given_same m k (Answered (Err f)) e us _ (same_again us _ [] (same_uses _ _ (ap (λ (t : Told Node (Result Given Fault)). t.uses) is ∙ sym (append-nil us))));
+        uses = given_same m k (Answered (Err f)) e us _
+            (same_again us _ [] (same_uses _ _ (ap (λ (t : Told Node (Result Given Fault)). t.uses) is ∙ sym (append-nil us))));
       }
   reply_meets j replies us m k few goes rest (Circle c) e = record {
     outcome = given_answer m k (Circle c) e;
@@ -130,17 +141,21 @@ module _ (d : Description) (bytes : List ℕ) (n : Node) (ask : Node → Outcome
 
   -- behind a reading
   module _ (r : Reading) (k : Seen r → Rule Given) where
-    seen_run : (replies : List (Result Given Fault)) (us : List Use) (o : Option (Seen r)) → (look r bytes).seen ≡ o → run turns (Ask (See r) k) (at replies us) ≡ next (seen_in o (at replies (us ++ (look r bytes).uses))) (λ x s. run turns (k x) s)
+    seen_run : (replies : List (Result Given Fault)) (us : List Use) (o : Option (Seen r)) → (look r bytes).seen ≡ o
+        → run turns (Ask (See r) k) (at replies us) ≡ next (seen_in o (at replies (us ++ (look r bytes).uses))) (λ x s. run turns (k x) s)
     seen_run replies us o e = ap (λ o'. next (seen_in o' (at replies (us ++ (look r bytes).uses))) (λ x s. run turns (k x) s)) e
 
-    seen_answer : (o : Option (Seen r)) → (look r bytes).seen ≡ o → with_seen n.path o (λ x. answer_of met n.path bytes (k x)) ≡ answer_of met n.path bytes (Ask (See r) k)
+    seen_answer : (o : Option (Seen r)) → (look r bytes).seen ≡ o
+        → with_seen n.path o (λ x. answer_of met n.path bytes (k x)) ≡ answer_of met n.path bytes (Ask (See r) k)
     seen_answer o e = ap (λ o'. with_seen n.path o' (λ x. answer_of met n.path bytes (k x))) (sym e)
 
     seen_asks : (o : Option (Seen r)) → (look r bytes).seen ≡ o → behind_seen o (λ x. asks_of met n.path bytes (k x)) ≡ asks_of met n.path bytes (Ask (See r) k)
     seen_asks o e = ap (λ o'. behind_seen o' (λ x. asks_of met n.path bytes (k x))) (sym e)
 
-    seen_uses : (us : List Use) (o : Option (Seen r)) → (look r bytes).seen ≡ o → (us ++ (look r bytes).uses) ++ behind_seen o (λ x. uses_of met n.path bytes (k x)) ≡ us ++ uses_of met n.path bytes (Ask (See r) k)
-    seen_uses us o e = append_assoc us (look r bytes).uses (behind_seen o (λ x. uses_of met n.path bytes (k x))) ∙ ap (λ o'. us ++ ((look r bytes).uses ++ behind_seen o' (λ x. uses_of met n.path bytes (k x)))) (sym e)
+    seen_uses : (us : List Use) (o : Option (Seen r)) → (look r bytes).seen ≡ o
+        → (us ++ (look r bytes).uses) ++ behind_seen o (λ x. uses_of met n.path bytes (k x)) ≡ us ++ uses_of met n.path bytes (Ask (See r) k)
+    seen_uses us o e = append_assoc us (look r bytes).uses (behind_seen o (λ x. uses_of met n.path bytes (k x)))
+        ∙ ap (λ o'. us ++ ((look r bytes).uses ++ behind_seen o' (λ x. uses_of met n.path bytes (k x)))) (sym e)
 
     seen_meets : (j : ℕ) (replies : List (Result Given Fault)) (us : List Use) → GoesOn replies us (Ask (See r) k)
         → ((x : Seen r) → GoesOn replies (us ++ (look r bytes).uses) (k x) → Meets (told w ask n (suc j) replies) (us ++ (look r bytes).uses) (k x))
@@ -155,16 +170,24 @@ module _ (d : Description) (bytes : List ℕ) (n : Node) (ask : Node → Outcome
         }
     seen_meets j replies us goes rest None e =
         let told_is = told_at j replies us (Ask (See r) k) goes ∙ ap (step_told j replies) (seen_run [] us None e) in
-        moved _ (record { outcome = Answered (Err (fault_at n.path kinds.EndOfBytes)); asked = []; uses = us ++ (look r bytes).uses }) us (Ask (See r) k) told_is
-        (ended_meets (Err (fault_at n.path kinds.EndOfBytes)) (us ++ (look r bytes).uses) us (Ask (See r) k) (seen_answer None e) (seen_asks None e) (sym (append-nil (us ++ (look r bytes).uses)) ∙ seen_uses us None e))
+        moved _ (record { outcome = Answered (Err (fault_at n.path kinds.EndOfBytes)); asked = []; uses = us ++ (look r bytes).uses }) us (Ask (See r) k)
+        told_is
+        (ended_meets (Err (fault_at n.path kinds.EndOfBytes)) (us ++ (look r bytes).uses) us (Ask (See r) k) (seen_answer None e) (seen_asks None e)
+        (sym (append-nil (us ++ (look r bytes).uses)) ∙ seen_uses us None e))
 
-  pub meets : (p : Rule Given) (j : ℕ) (replies : List (Result Given Fault)) (us : List Use) → most_asks d ≤ j + length replies → GoesOn replies us p → Meets (told w ask n (suc j) replies) us p
+  pub meets : (p : Rule Given) (j : ℕ) (replies : List (Result Given Fault)) (us : List Use) → most_asks d ≤ j + length replies → GoesOn replies us p
+      → Meets (told w ask n (suc j) replies) us p
   unfolding with_step
-  meets (Answer a) j replies us few goes = moved _ (record { outcome = Answered (Ok a); asked = []; uses = us }) us (Answer a) (told_at j replies us (Answer a) goes) (ended_meets (Ok a) us us (Answer a) refl refl (sym (append-nil us)))
-  meets (Fail e) j replies us few goes = moved _ (record { outcome = Answered (Err (raised e n.path)); asked = []; uses = us }) us (Fail e) (told_at j replies us (Fail e) goes) (ended_meets (Err (raised e n.path)) us us (Fail e) refl refl (sym (append-nil us)))
+  meets (Answer a) j replies us few goes = moved _ (record { outcome = Answered (Ok a); asked = []; uses = us }) us (Answer a)
+      (told_at j replies us (Answer a) goes) (ended_meets (Ok a) us us (Answer a) refl refl (sym (append-nil us)))
+  meets (Fail e) j replies us few goes = moved _ (record { outcome = Answered (Err (raised e n.path)); asked = []; uses = us }) us (Fail e)
+      (told_at j replies us (Fail e) goes) (ended_meets (Err (raised e n.path)) us us (Fail e) refl refl (sym (append-nil us)))
   meets (Ask (Of m) k) zero replies us few goes = absurd (subst IsDone (follow_at replies us (Ask (Of m) k) goes) (settles d bytes n replies (omega arith)))
-  meets (Ask (Of m) k) (suc j) replies us few goes = moved _ (after (m ∷ []) us (with_reply (λ a. told w ask n (suc j) (replies ++ a ∷ [])) (ask m))) us (Ask (Of m) k) (told_at (suc j) replies us (Ask (Of m) k) goes) (reply_meets j replies us m k few goes (λ g i rs. meets (k g) i rs us) (ask m) refl)
-  meets (Ask (See r) k) j replies us few goes = seen_meets r k j replies us goes (λ x. meets (k x) j replies (us ++ (look r bytes).uses) few) (look r bytes).seen refl
+  meets (Ask (Of m) k) (suc j) replies us few goes =
+      moved _ (after (m ∷ []) us (with_reply (λ a. told w ask n (suc j) (replies ++ a ∷ [])) (ask m))) us (Ask (Of m) k)
+      (told_at (suc j) replies us (Ask (Of m) k) goes) (reply_meets j replies us m k few goes (λ g i rs. meets (k g) i rs us) (ask m) refl)
+  meets (Ask (See r) k) j replies us few goes = seen_meets r k j replies us goes (λ x. meets (k x) j replies (us ++ (look r bytes).uses) few)
+      (look r bytes).seen refl
 
   -- from no replies on
   pub meets_rule : Meets (told w ask n (suc w.replies) []) [] (rule_of d n)
@@ -186,7 +209,8 @@ module _ (d : Description) (bytes : List ℕ) where
   eval_direct : (depth : ℕ) (opened : List Node) (n : Node) → flattened (eval rules depth opened n).outcome ≡ answer_within d bytes depth opened n
   unfolding eval answer_within
   eval_direct zero opened n = refl
-  eval_direct (suc depth) opened n = level_direct (is_among node_number opened n) n (λ m. (eval rules depth (n ∷ opened) m).outcome) (answer_within d bytes depth (n ∷ opened)) (eval_direct depth (n ∷ opened))
+  eval_direct (suc depth) opened n = level_direct (is_among node_number opened n) n (λ m. (eval rules depth (n ∷ opened) m).outcome)
+      (answer_within d bytes depth (n ∷ opened)) (eval_direct depth (n ∷ opened))
 
   answer_direct : (opened : List Node) (n : Node) → flattened (tells rules opened n).outcome ≡ from_nothing d bytes opened n
   unfolding from_nothing
@@ -211,14 +235,16 @@ module _ (d : Description) (bytes : List ℕ) where
         let told_so = meets_rule d bytes n asked_then in
         record {
           asked = ap (λ (t : Told Node (Result Given Fault)). t.asked) told_is ∙ told_so.asked ∙ ap (λ f. asks_of f n.path bytes (rule_of d n)) met_is;
-          uses = subst (λ (t : Told Node (Result Given Fault)). AreSameUses t.uses (uses_of (from_nothing d bytes (n ∷ opened)) n.path bytes (rule_of d n))) (sym told_is)
+          uses = subst (λ (t : Told Node (Result Given Fault)). AreSameUses t.uses (uses_of (from_nothing d bytes (n ∷ opened)) n.path bytes (rule_of d n)))
+              (sym told_is)
               (subst (λ f. AreSameUses (told rules asked_then n (suc rules.replies) []).uses (uses_of f n.path bytes (rule_of d n))) met_is told_so.uses);
         }
 
     free_follows : from_nothing d bytes opened n ≡ answer_of (from_nothing d bytes (n ∷ opened)) n.path bytes (rule_of d n)
     free_follows =
         let told_so = meets_rule d bytes n asked_then in
-        sym (answer_direct opened n) ∙ ap (λ (t : Told Node (Result Given Fault)). flattened t.outcome) told_is ∙ told_so.outcome ∙ ap (λ f. answer_of f n.path bytes (rule_of d n)) met_is
+        sym (answer_direct opened n) ∙ ap (λ (t : Told Node (Result Given Fault)). flattened t.outcome) told_is ∙ told_so.outcome
+        ∙ ap (λ f. answer_of f n.path bytes (rule_of d n)) met_is
 
 pub answers_are_direct : AnswersAreDirect
 answers_are_direct d bytes opened n = answer_direct d bytes opened n
@@ -252,7 +278,13 @@ module _ (d : Description) (bytes : List ℕ) (met : Node → Result Given Fault
   needs_so : (i : ℕ) → i < length all_asked → NeedsNext d bytes met n i
   needs_so i h =
       let next = needs met n.path bytes (rule_of d n) i [] h in
-      record { node = next.node; is_next = next.is_next; step = ap step_of next.ran; uses = (next.more, next.begins ∙ ap (λ (r : Ran Node Fault State Given). (behind r).uses ++ next.more) (sym next.ran)) }
+      record {
+        node = next.node;
+        is_next = next.is_next;
+        step = ap step_of next.ran;
+        uses =
+            (next.more, next.begins ∙ ap (λ (r : Ran Node Fault State Given). (behind r).uses ++ next.more) (sym next.ran));
+      }
 
   pub truth_met : MeetsTruth d bytes met n
   truth_met = record {

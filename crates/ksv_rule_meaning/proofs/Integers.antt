@@ -1,5 +1,6 @@
 -- Integers of bytes that are read one by one, and in two parts.
-use Rattle.std.proofs.Common.{◌≡◌, ◌∙◌, ℕ, zero, suc, ◌+◌, ◌-◌, ◌*◌, ◌%◌, ◌^◌, ◌<◌, ◌≤◌, List, [], ◌∷◌, ◌++◌, length, take, drop, get_or, reverse, refl, ap, sym, arith, lit<, mul-add}
+use Rattle.std.proofs.Common.{◌≡◌, ◌∙◌, ℕ, zero, suc, ◌+◌, ◌-◌, ◌*◌, ◌%◌, ◌^◌, ◌<◌, ◌≤◌, List, [], ◌∷◌, ◌++◌, length, take, drop, get_or, reverse, refl, ap}
+use Rattle.std.proofs.Common.{sym, arith, lit<, mul-add}
 use Rattle.std.proofs.lemmas.List.{drop_more, reverse-append, take_more, length-reverse}
 use Rattle.std.proofs.lemmas.Grind.{pow_more}
 use Rattle.std.proofs.lemmas.Nat.{pow-add, one_shl}
@@ -25,8 +26,10 @@ back_more bytes i value byte lt so_far is =
     let inside : length bytes - 1 - i < length bytes = omega arith in
     let cut : drop (length bytes - 1 - i) bytes ≡ get_or bytes (length bytes - 1 - i) 0 ∷ drop (length bytes - i) bytes =
     drop_more bytes (length bytes - 1 - i) 0 inside ∙ ap (λ k. get_or bytes (length bytes - 1 - i) 0 ∷ drop k bytes) next in
-    let sum : sum_of_bytes (drop (length bytes - 1 - i) bytes) ≡ get_or bytes (length bytes - 1 - i) 0 + 256 * sum_of_bytes (drop (length bytes - i) bytes) = ap sum_of_bytes cut in
-    let same : sum_of_bytes (drop (length bytes - (i + 1)) bytes) ≡ sum_of_bytes (drop (length bytes - 1 - i) bytes) = ap (λ k. sum_of_bytes (drop k bytes)) at in
+    let sum : sum_of_bytes (drop (length bytes - 1 - i) bytes) ≡ get_or bytes (length bytes - 1 - i) 0 + 256 * sum_of_bytes (drop (length bytes - i) bytes) =
+    ap sum_of_bytes cut in
+    let same : sum_of_bytes (drop (length bytes - (i + 1)) bytes) ≡ sum_of_bytes (drop (length bytes - 1 - i) bytes) =
+    ap (λ k. sum_of_bytes (drop k bytes)) at in
     omega (arith, sum, so_far, is, same)
 
 -- there is room for one more byte behind seven or fewer
@@ -69,7 +72,8 @@ sum_fits low count high few small above =
     let eight : count + (8 - count) ≡ 8 = omega arith in
     let whole : 256 ^ count * 256 ^ (8 - count) ≡ 2 ^ 64 = sym (pow-add 256 count (8 - count)) ∙ ap (λ k. 256 ^ k) eight in
     let most : 256 ^ count * (high + 1) ≤ 256 ^ count * 256 ^ (8 - count) = mul-le-mul_left (256 ^ count) (omega (arith, above)) in
-    let next : 256 ^ count * (high + 1) ≡ 256 ^ count * high + 256 ^ count = mul-add (256 ^ count) high 1 ∙ ap (λ x. 256 ^ count * high + x) (mul-one (256 ^ count)) in
+    let next : 256 ^ count * (high + 1) ≡ 256 ^ count * high + 256 ^ count =
+    mul-add (256 ^ count) high 1 ∙ ap (λ x. 256 ^ count * high + x) (mul-one (256 ^ count)) in
     omega (arith, small, whole, most, next)
 
 shift_one : (n s : ℕ) → 256 ^ (n + 1) * s ≡ 256 * (256 ^ n * s)
@@ -80,9 +84,11 @@ pub sum_append : (xs ys : List ℕ) → sum_of_bytes (xs ++ ys) ≡ sum_of_bytes
 sum_append [] ys = omega arith
 sum_append (x ∷ xs) ys =
     let one : suc (length xs) ≡ length xs + 1 = omega arith in
-    let more : 256 ^ suc (length xs) * sum_of_bytes ys ≡ 256 * (256 ^ length xs * sum_of_bytes ys) = ap (λ k. 256 ^ k * sum_of_bytes ys) one ∙ shift_one (length xs) (sum_of_bytes ys) in
+    let more : 256 ^ suc (length xs) * sum_of_bytes ys ≡ 256 * (256 ^ length xs * sum_of_bytes ys) =
+    ap (λ k. 256 ^ k * sum_of_bytes ys) one ∙ shift_one (length xs) (sum_of_bytes ys) in
     omega (arith, sum_append xs ys, more)
 
 -- the same from their end
 pub reverse_sum : (xs ys : List ℕ) → sum_of_bytes (reverse (xs ++ ys)) ≡ sum_of_bytes (reverse ys) + 256 ^ length ys * sum_of_bytes (reverse xs)
-reverse_sum xs ys = ap sum_of_bytes (reverse-append xs ys) ∙ sum_append (reverse ys) (reverse xs) ∙ ap (λ k. sum_of_bytes (reverse ys) + 256 ^ k * sum_of_bytes (reverse xs)) (length-reverse ys)
+reverse_sum xs ys = ap sum_of_bytes (reverse-append xs ys) ∙ sum_append (reverse ys) (reverse xs)
+    ∙ ap (λ k. sum_of_bytes (reverse ys) + 256 ^ k * sum_of_bytes (reverse xs)) (length-reverse ys)

@@ -1,5 +1,6 @@
 -- Conditions that are evaluated one after another.
-use Rattle.std.proofs.Common.{◌≡◌, ℕ, suc, ◌+◌, ◌<◌, ◌≤◌, Bool, true, false, if◌then◌else◌, List, ◌∷◌, map, length, get_or, drop, Err, refl, sym, ap, ◌∙◌, add-one, drop-cons}
+use Rattle.std.proofs.Common.{◌≡◌, ℕ, suc, ◌+◌, ◌<◌, ◌≤◌, Bool, true, false, if◌then◌else◌, List, ◌∷◌, map, length, get_or, drop, Err, refl, sym, ap, ◌∙◌}
+use Rattle.std.proofs.Common.{add-one, drop-cons}
 use Rattle.std.proofs.lemmas.List.{drop_all}
 use Rattle.ksv_basics.specs.Plan.{Answer, Done, bind, next, run}
 use Rattle.ksv_basics.proofs.Running.{run_bind}
@@ -14,7 +15,8 @@ use Rattle.ksv_rule_meaning.specs.Checks.{meets_one, meets_each}
 use Rattle.ksv_rule_meaning.specs.Wanted.{truth_of}
 
 -- a plan evaluates the first condition of a list, and by its answer goes on with those after it
-module _ (s : Setting) (plan : List Tree → Rule Bool) (goes : Bool → List Tree → Rule Bool) (is : (e : Tree) (es : List Tree) → plan (e ∷ es) ≡ bind (truth_of s e) (λ b. goes b es)) (xs : List Expr) (i : ℕ) (x : Expr) (now begun : State)
+module _ (s : Setting) (plan : List Tree → Rule Bool) (goes : Bool → List Tree → Rule Bool)
+    (is : (e : Tree) (es : List Tree) → plan (e ∷ es) ≡ bind (truth_of s e) (λ b. goes b es)) (xs : List Expr) (i : ℕ) (x : Expr) (now begun : State)
     (within : i < length xs) (at : x ≡ get_or xs i x) (left : run turns (plan (map view (drop i xs))) now ≡ run turns (plan (map view xs)) begun) where
   abbrev rest : List Tree
   rest = map view (drop (i + 1) xs)
@@ -33,7 +35,8 @@ module _ (s : Setting) (plan : List Tree → Rule Bool) (goes : Bool → List Tr
   answers b new ran = first ∙ ap (λ o. next o (λ b' t. run turns (goes b' rest) t)) ran
 
   -- it has none
-  ends : (new : State) (h : Halt) → Runs {X = Bool} (truth_of s (view x)) (λ b. b) now new (Err h) → Runs {X = Bool} (plan (map view xs)) (λ b. b) begun new (Err h)
+  ends : (new : State) (h : Halt) → Runs {X = Bool} (truth_of s (view x)) (λ b. b) now new (Err h)
+      → Runs {X = Bool} (plan (map view xs)) (λ b. b) begun new (Err h)
   ends new halts.Memory r = tt
   ends new (halts.Need n) r = first ∙ ap (λ o. next o (λ b' t. run turns (goes b' rest) t)) r
   ends new (halts.Fault f) r = first ∙ ap (λ o. next o (λ b' t. run turns (goes b' rest) t)) r
@@ -55,28 +58,34 @@ unfolding meets_each
 each_is s e es = refl
 
 module _ (s : Setting) (xs : List Expr) (i : ℕ) (x : Expr) (now begun : State) (within : i < length xs) (at : x ≡ get_or xs i x) where
-  pub one_answers : run turns (meets_one s (map view (drop i xs))) now ≡ run turns (meets_one s (map view xs)) begun → (b : Bool) (new : State) → run turns (truth_of s (view x)) now ≡ Done b new
+  pub one_answers : run turns (meets_one s (map view (drop i xs))) now ≡ run turns (meets_one s (map view xs)) begun → (b : Bool) (new : State)
+      → run turns (truth_of s (view x)) now ≡ Done b new
       → run turns (meets_one s (map view xs)) begun ≡ run turns (one_goes s b (map view (drop (i + 1) xs))) new
   one_answers left = answers s (meets_one s) (one_goes s) (one_is s) xs i x now begun within at left
 
-  pub one_halts : run turns (meets_one s (map view (drop i xs))) now ≡ run turns (meets_one s (map view xs)) begun → (new : State) (h : Halt) → Runs {X = Bool} (truth_of s (view x)) (λ b. b) now new (Err h)
+  pub one_halts : run turns (meets_one s (map view (drop i xs))) now ≡ run turns (meets_one s (map view xs)) begun → (new : State) (h : Halt)
+      → Runs {X = Bool} (truth_of s (view x)) (λ b. b) now new (Err h)
       → Runs {X = Bool} (meets_one s (map view xs)) (λ b. b) begun new (Err h)
   one_halts left = ends s (meets_one s) (one_goes s) (one_is s) xs i x now begun within at left
 
-  pub each_answers : run turns (meets_each s (map view (drop i xs))) now ≡ run turns (meets_each s (map view xs)) begun → (b : Bool) (new : State) → run turns (truth_of s (view x)) now ≡ Done b new
+  pub each_answers : run turns (meets_each s (map view (drop i xs))) now ≡ run turns (meets_each s (map view xs)) begun → (b : Bool) (new : State)
+      → run turns (truth_of s (view x)) now ≡ Done b new
       → run turns (meets_each s (map view xs)) begun ≡ run turns (each_goes s b (map view (drop (i + 1) xs))) new
   each_answers left = answers s (meets_each s) (each_goes s) (each_is s) xs i x now begun within at left
 
-  pub each_halts : run turns (meets_each s (map view (drop i xs))) now ≡ run turns (meets_each s (map view xs)) begun → (new : State) (h : Halt) → Runs {X = Bool} (truth_of s (view x)) (λ b. b) now new (Err h)
+  pub each_halts : run turns (meets_each s (map view (drop i xs))) now ≡ run turns (meets_each s (map view xs)) begun → (new : State) (h : Halt)
+      → Runs {X = Bool} (truth_of s (view x)) (λ b. b) now new (Err h)
       → Runs {X = Bool} (meets_each s (map view xs)) (λ b. b) begun new (Err h)
   each_halts left = ends s (meets_each s) (each_goes s) (each_is s) xs i x now begun within at left
 
 -- none is left
 module _ (s : Setting) (xs : List Expr) (i : ℕ) (now begun : State) (past : length xs ≤ i) where
-  pub one_ends : run turns (meets_one s (map view (drop i xs))) now ≡ run turns (meets_one s (map view xs)) begun → run turns (meets_one s (map view xs)) begun ≡ Done false now
+  pub one_ends : run turns (meets_one s (map view (drop i xs))) now ≡ run turns (meets_one s (map view xs)) begun
+      → run turns (meets_one s (map view xs)) begun ≡ Done false now
   unfolding meets_one
   one_ends left = sym left ∙ ap (λ (ys : List Expr). run turns (meets_one s (map view ys)) now) (drop_all i xs past)
 
-  pub each_ends : run turns (meets_each s (map view (drop i xs))) now ≡ run turns (meets_each s (map view xs)) begun → run turns (meets_each s (map view xs)) begun ≡ Done true now
+  pub each_ends : run turns (meets_each s (map view (drop i xs))) now ≡ run turns (meets_each s (map view xs)) begun
+      → run turns (meets_each s (map view xs)) begun ≡ Done true now
   unfolding meets_each
   each_ends left = sym left ∙ ap (λ (ys : List Expr). run turns (meets_each s (map view ys)) now) (drop_all i xs past)

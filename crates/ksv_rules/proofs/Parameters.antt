@@ -12,7 +12,8 @@ unfolding parameters_before
 none_left zero = refl
 none_left (suc i) = refl
 
-pub one_more : (i : ℕ) (m : MemberOfType) (ms : List MemberOfType) → (i == 0) ≡ false → parameters_before i (m ∷ ms) ≡ (if is_parameter m then parameters_before (i - 1) ms + 1 else parameters_before (i - 1) ms)
+pub one_more : (i : ℕ) (m : MemberOfType) (ms : List MemberOfType) → (i == 0) ≡ false
+    → parameters_before i (m ∷ ms) ≡ (if is_parameter m then parameters_before (i - 1) ms + 1 else parameters_before (i - 1) ms)
 unfolding parameters_before
 one_more zero m ms h = absurd (cc)
 one_more (suc i) m ms h =

@@ -14,7 +14,8 @@ whole_fits : (most m : ℕ) (n : ℤ) → whole_to most m ≡ Whole n → IsUpTo
 whole_fits most m n h = by_test (nat_le m most) refl
   where
     by_test : (b : Bool) → nat_le m most ≡ b → IsUpTo most n
-    by_test true e = record { value = m; is = (let k : Whole (pos m) ≡ Whole n = ap (λ b. cond b (Whole (pos m)) NoNumeral) (sym e) ∙ h in cc); bound = grind (arith, nat_tests) }
+    by_test true e = record
+        { value = m; is = (let k : Whole (pos m) ≡ Whole n = ap (λ b. cond b (Whole (pos m)) NoNumeral) (sym e) ∙ h in cc); bound = grind (arith, nat_tests) }
     by_test false e = absurd (let k : NoNumeral ≡ Whole n = ap (λ b. cond b (Whole (pos m)) NoNumeral) (sym e) ∙ h in cc)
 
 decimal_fits : (most : ℕ) (cs : List ℕ) (n : ℤ) → decimal_to most cs ≡ Whole n → IsUpTo most n
@@ -48,17 +49,22 @@ byte_fits text n h = plain_fits 255 text n h
 
 pub quoted_piece : (t : Tree) (text : List ℕ) → Some text ≡ text_of t → is_quoted t ≡ true → piece_of t ≡ Bytes text
 unfolding piece_of
-quoted_piece (Text line quoted bs) text h q = let e : bs ≡ text = cc in ap (λ b. if not b && looks_like_number bs then number_piece (byte_number bs) else Bytes bs) q ∙ ap Bytes e
+quoted_piece (Text line quoted bs) text h q = let e : bs ≡ text =
+    cc in ap (λ b. if not b && looks_like_number bs then number_piece (byte_number bs) else Bytes bs) q ∙ ap Bytes e
 quoted_piece (Seq line ts) text h q = absurd cc
 quoted_piece (Map line es) text h q = absurd cc
 
-unquoted : (t : Tree) (text : List ℕ) → Some text ≡ text_of t → is_quoted t ≡ false → piece_of t ≡ (if looks_like_number text then number_piece (byte_number text) else Bytes text)
+unquoted : (t : Tree) (text : List ℕ) → Some text ≡ text_of t → is_quoted t ≡ false
+    → piece_of t ≡ (if looks_like_number text then number_piece (byte_number text) else Bytes text)
 unfolding piece_of
-unquoted (Text line quoted bs) text h q = let e : bs ≡ text = cc in ap (λ b. if not b && looks_like_number bs then number_piece (byte_number bs) else Bytes bs) q ∙ ap (λ bs. if looks_like_number bs then number_piece (byte_number bs) else Bytes bs) e
+unquoted (Text line quoted bs) text h q = let e : bs ≡ text =
+    cc in ap (λ b. if not b && looks_like_number bs then number_piece (byte_number bs) else Bytes bs) q
+    ∙ ap (λ bs. if looks_like_number bs then number_piece (byte_number bs) else Bytes bs) e
 unquoted (Seq line ts) text h q = absurd cc
 unquoted (Map line es) text h q = absurd cc
 
-pub digits_piece : (t : Tree) (text : List ℕ) → Some text ≡ text_of t → is_quoted t ≡ false → looks_like_number text ≡ true → piece_of t ≡ number_piece (byte_number text)
+pub digits_piece : (t : Tree) (text : List ℕ) → Some text ≡ text_of t → is_quoted t ≡ false → looks_like_number text ≡ true
+    → piece_of t ≡ number_piece (byte_number text)
 digits_piece t text h q l = unquoted t text h q ∙ ap (λ b. if b then number_piece (byte_number text) else Bytes text) l
 
 pub plain_piece : (t : Tree) (text : List ℕ) → Some text ≡ text_of t → is_quoted t ≡ false → looks_like_number text ≡ false → piece_of t ≡ Bytes text

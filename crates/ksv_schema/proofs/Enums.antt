@@ -47,11 +47,15 @@ entry_words p = go (text_of p.value)
     keys : (es : List Pair) → (also (keys_faults kinds.Constant es) (must (line_of p.value) id (entry_at (codes "id") es))).words ≡ []
     keys es = must_words (line_of p.value) (entry_at (codes "id") es)
 
-    within : (o : Option (List Pair)) → (option_map_or (λ es. also (keys_faults kinds.Constant es) (must (line_of p.value) id (entry_at (codes "id") es))) o (wrong p.line bad_value)).words ≡ []
+    within : (o : Option (List Pair))
+        → (option_map_or (λ es. also (keys_faults kinds.Constant es) (must (line_of p.value) id (entry_at (codes "id") es))) o (wrong p.line bad_value)).words
+        ≡ []
     within None = refl
     within (Some es) = keys es
 
-    go : (o : Option (List ℕ)) → (option_map_or (id_text p.line) o (mapping (λ es. also (keys_faults kinds.Constant es) (must (line_of p.value) id (entry_at (codes "id") es))) p)).words ≡ []
+    go : (o : Option (List ℕ))
+        → (option_map_or (id_text p.line) o
+        (mapping (λ es. also (keys_faults kinds.Constant es) (must (line_of p.value) id (entry_at (codes "id") es))) p)).words ≡ []
     go None = within (mapping_of p.value)
     go (Some name) = id_text_words p.line name
 

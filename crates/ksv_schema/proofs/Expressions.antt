@@ -33,9 +33,11 @@ tokens_sound zero dot bs (c ∷ cs) ts e h = absurd cc
 tokens_sound (suc n) dot bs (c ∷ cs) ts e h =
     let x = bind_found (cut (c ∷ cs)) (λ x. option_map (λ ts. mark dot x ∷ ts) (tokens_to n (is_dot (mark dot x)) (skip x.rest))) ts h in
     let y = map_found (λ ts. mark dot x.0 ∷ ts) (tokens_to n (is_dot (mark dot x.0)) (skip x.0.rest)) ts x.2 in
-    subst (λ ts. Tokens dot bs ts) y.2 (token x.0 ((cut_is_longest (skip bs) x.0).0 (ap cut (sym e) ∙ x.1)) (tokens_sound n (is_dot (mark dot x.0)) x.0.rest (skip x.0.rest) y.0 refl y.1))
+    subst (λ ts. Tokens dot bs ts) y.2
+    (token x.0 ((cut_is_longest (skip bs) x.0).0 (ap cut (sym e) ∙ x.1)) (tokens_sound n (is_dot (mark dot x.0)) x.0.rest (skip x.0.rest) y.0 refl y.1))
 
-one_token : (n : ℕ) (dot : Bool) (us : List ℕ) (x : Cut) → cut us ≡ Some x → tokens_to (suc n) dot us ≡ option_map (λ ts. mark dot x ∷ ts) (tokens_to n (is_dot (mark dot x)) (skip x.rest))
+one_token : (n : ℕ) (dot : Bool) (us : List ℕ) (x : Cut) → cut us ≡ Some x
+    → tokens_to (suc n) dot us ≡ option_map (λ ts. mark dot x ∷ ts) (tokens_to n (is_dot (mark dot x)) (skip x.rest))
 one_token n dot [] x h = absurd (cut_nothing x h)
 one_token n dot (c ∷ cs) x h = ap (λ (o : Option Cut). o >>= λ x. option_map (λ ts. mark dot x ∷ ts) (tokens_to n (is_dot (mark dot x)) (skip x.rest))) h
 
@@ -43,7 +45,9 @@ tokens_complete : (n : ℕ) (dot : Bool) (bs : List ℕ) (ts : List Lexeme) → 
 tokens_complete n dot bs ts (finished h) l = ap (tokens_to n dot) h
 tokens_complete zero dot bs ts (token x h s) l = absurd (omega (arith, scan_shorter bs x ((cut_is_longest (skip bs) x).1 h)))
 tokens_complete (suc n) dot bs ts (token {ts = vs} x h s) l =
-    one_token n dot (skip bs) x ((cut_is_longest (skip bs) x).1 h) ∙ ap (option_map (λ ts. mark dot x ∷ ts)) (tokens_complete n (is_dot (mark dot x)) x.rest vs s (omega (arith, scan_shorter bs x ((cut_is_longest (skip bs) x).1 h))))
+    one_token n dot (skip bs) x ((cut_is_longest (skip bs) x).1 h)
+    ∙ ap (option_map (λ ts. mark dot x ∷ ts))
+    (tokens_complete n (is_dot (mark dot x)) x.rest vs s (omega (arith, scan_shorter bs x ((cut_is_longest (skip bs) x).1 h))))
 
 -- ---- expressions
 
@@ -66,7 +70,8 @@ expression_is_spelled text e h =
 pub spelled_is_expression : (text : List ℕ) (e : Tree) → SpellsText text e → expression_of text ≡ Some e
 unfolding expression_of tokens_of
 spelled_is_expression text e s =
-    ap (λ (o : Option (List Lexeme)). o >>= λ ts. read Whole 32 ts 256 >>= λ x. tree_alone x.tree x.rest) (tokens_complete (length text) false text s.tokens s.cut (omega arith))
+    ap (λ (o : Option (List Lexeme)). o >>= λ ts. read Whole 32 ts 256 >>= λ x. tree_alone x.tree x.rest)
+    (tokens_complete (length text) false text s.tokens s.cut (omega arith))
     ∙ ap (λ (o : Option Found). o >>= λ x. tree_alone x.tree x.rest) (is_read s.tokens e s.spelled)
 
 -- ---- types
@@ -99,7 +104,8 @@ pub spelled_is_type : (text : List ℕ) (t : TypeTree) → SpellsTypeText text t
 unfolding type_of tokens_of
 spelled_is_type text t s =
     let r = type_read s.tokens t s.spelled in
-    ap (λ (o : Option (List Lexeme)). o >>= λ ts. path_at ts >>= λ x. type_list x.behind 256 >>= λ y. type_alone (made x.what y.arguments) y.rest) (tokens_complete (length text) false text s.tokens s.cut (omega arith))
+    ap (λ (o : Option (List Lexeme)). o >>= λ ts. path_at ts >>= λ x. type_list x.behind 256 >>= λ y. type_alone (made x.what y.arguments) y.rest)
+    (tokens_complete (length text) false text s.tokens s.cut (omega arith))
     ∙ ap (λ (o : Option (Next (List (List ℕ)))). o >>= λ x. type_list x.behind 256 >>= λ y. type_alone (made x.what y.arguments) y.rest) r.path
     ∙ ap (λ (o : Option FoundList). o >>= λ y. type_alone (made t.name.path y.arguments) y.rest) r.list
     ∙ ap (λ (t : TypeTree). let o : Option TypeTree = Some t in o) (made_again s.tokens t s.spelled)

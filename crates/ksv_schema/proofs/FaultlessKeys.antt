@@ -24,10 +24,12 @@ key_is : (kind : MappingKind) (p : Pair) (form : Form) → is_ignored p.key ≡ 
 unfolding key_faults
 key_is kind p form i f = rw (i, f)
 
-at_key : (kind : MappingKind) (name : List ℕ) (form : Form) (es : List Pair) (p : Pair) → is_ignored name ≡ false → form_in kind name ≡ Some form → keys_faults kind es ≡ [] → entry_at name es ≡ Some p → form_faults p form ≡ []
+at_key : (kind : MappingKind) (name : List ℕ) (form : Form) (es : List Pair) (p : Pair) → is_ignored name ≡ false → form_in kind name ≡ Some form
+    → keys_faults kind es ≡ [] → entry_at name es ≡ Some p → form_faults p form ≡ []
 at_key kind name form [] p i f k e = absurd cc
 at_key kind name form (q ∷ es) p i f k e =
-    by_test (bytes_eq q.key name) refl (front (key_faults kind q) (keys_faults kind es) k) (at_key kind name form es p i f (back (key_faults kind q) (keys_faults kind es) k))
+    by_test (bytes_eq q.key name) refl (front (key_faults kind q) (keys_faults kind es) k)
+    (at_key kind name form es p i f (back (key_faults kind q) (keys_faults kind es) k))
   where
     by_test : (b : Bool) → bytes_eq q.key name ≡ b → key_faults kind q ≡ [] → (entry_at name es ≡ Some p → form_faults p form ≡ []) → form_faults p form ≡ []
     by_test true t here there =
@@ -41,35 +43,45 @@ at_key kind name form (q ∷ es) p i f k e =
 abbrev pub text_unless : (List ℕ → Bool) → ℕ → Pair → List Fault
 text_unless fits number p = option_map_or (λ text. fault_if (not (fits text)) p.line number) (text_of p.value) (fault p.line bad_value)
 
-pub text_fits : (kind : MappingKind) (name : List ℕ) (form : Form) (fits : List ℕ → Bool) (number : ℕ) (es : List Pair) (text : List ℕ) → ((p : Pair) → form_faults p form ≡ text_unless fits number p) → is_ignored name ≡ false → form_in kind name ≡ Some form → keys_faults kind es ≡ [] → text_at name es ≡ Some text → fits text ≡ true
+pub text_fits : (kind : MappingKind) (name : List ℕ) (form : Form) (fits : List ℕ → Bool) (number : ℕ) (es : List Pair) (text : List ℕ)
+    → ((p : Pair) → form_faults p form ≡ text_unless fits number p) → is_ignored name ≡ false → form_in kind name ≡ Some form → keys_faults kind es ≡ []
+    → text_at name es ≡ Some text → fits text ≡ true
 text_fits kind name form fits number es text a i f k t =
     let p = is_bound (λ p. text_of p.value) (entry_at name es) text t in
     let n : text_unless fits number p.0 ≡ [] = sym (a p.0) ∙ at_key kind name form es p.0 i f k p.1 in
     not-false (fits text) (not_if (not (fits text)) p.0.line number (rw p.2 at n))
 
 -- the keys at a type's `meta`
-pub meta_faultless : (n : ℕ) (r : Row) → type_faults n r ≡ [] → keys_faults (cond (is_root n) kinds.RootMeta kinds.Meta) (entries_at (codes "meta") (keys_of r)) ≡ []
+pub meta_faultless : (n : ℕ) (r : Row) → type_faults n r ≡ []
+    → keys_faults (cond (is_root n) kinds.RootMeta kinds.Meta) (entries_at (codes "meta") (keys_of r)) ≡ []
 unfolding type_faults type_keys_faults meta_faults
 meta_faultless n r k = at_type (mapping_of r.value) (front _ _ k)
   where
-    in_meta : (line : ℕ) (b : Bool) (o : Option (List Pair)) → option_map_or (λ es. cond b (keys_faults kinds.RootMeta es ++ missing (codes "id") line es) (keys_faults kinds.Meta es)) o [] ≡ [] → keys_faults (cond b kinds.RootMeta kinds.Meta) (unwrap_or o []) ≡ []
+    in_meta : (line : ℕ) (b : Bool) (o : Option (List Pair))
+        → option_map_or (λ es. cond b (keys_faults kinds.RootMeta es ++ missing (codes "id") line es) (keys_faults kinds.Meta es)) o [] ≡ []
+        → keys_faults (cond b kinds.RootMeta kinds.Meta) (unwrap_or o []) ≡ []
     in_meta line b None k = refl
     in_meta line true (Some es) k = front _ _ k
     in_meta line false (Some es) k = k
 
-    at_meta : (o : Option Pair) → option_map_or (meta_faults n) o [] ≡ [] → keys_faults (cond (is_root n) kinds.RootMeta kinds.Meta) (unwrap_or (option_and_then (λ p. mapping_of p.value) o) []) ≡ []
+    at_meta : (o : Option Pair) → option_map_or (meta_faults n) o [] ≡ []
+        → keys_faults (cond (is_root n) kinds.RootMeta kinds.Meta) (unwrap_or (option_and_then (λ p. mapping_of p.value) o) []) ≡ []
     at_meta None k = refl
     at_meta (Some p) k = in_meta (line_of p.value) (is_root n) (mapping_of p.value) k
 
-    at_type : (o : Option (List Pair)) → option_map_or (type_keys_faults n r.line) o (fault r.line bad_value) ≡ [] → keys_faults (cond (is_root n) kinds.RootMeta kinds.Meta) (entries_at (codes "meta") (unwrap_or o [])) ≡ []
+    at_type : (o : Option (List Pair)) → option_map_or (type_keys_faults n r.line) o (fault r.line bad_value) ≡ []
+        → keys_faults (cond (is_root n) kinds.RootMeta kinds.Meta) (entries_at (codes "meta") (unwrap_or o [])) ≡ []
     at_type None k = refl
     at_type (Some es) k = at_meta (entry_at (codes "meta") es) (back _ _ k)
 
 -- ---- how often it is read
 
 -- a key that is needed where `repeat` has a text
-needed : (typed : Option TypeText) (text name : List ℕ) (es : List Pair) (line : ℕ) → rule_faults line typed es (Needs (Says (codes "repeat") text) (Has name)) ≡ [] → says (codes "repeat") text es ≡ true → is_some (entry_at name es) ≡ true
-needed typed text name es line k e = implies (is_some (claimed typed es (Says (codes "repeat") text))) (is_some (entry_at name es)) line missing_key k (rw e (go (entry_at (codes "repeat") es) e))
+needed : (typed : Option TypeText) (text name : List ℕ) (es : List Pair) (line : ℕ)
+    → rule_faults line typed es (Needs (Says (codes "repeat") text) (Has name)) ≡ [] → says (codes "repeat") text es ≡ true
+    → is_some (entry_at name es) ≡ true
+needed typed text name es line k e = implies (is_some (claimed typed es (Says (codes "repeat") text))) (is_some (entry_at name es)) line missing_key k
+    (rw e (go (entry_at (codes "repeat") es) e))
   where
     go : (o : Option Pair) → option_map_or (bytes_eq text) (option_and_then (λ p. text_of p.value) o) false ≡ true → is_some o ≡ true
     go None e = absurd cc
@@ -80,7 +92,8 @@ pub record HasRepeat (es : List Pair) : Type 0 where
   pub count : says (codes "repeat") (codes "expr") es ≡ true → is_some (entry_at (codes "repeat-expr") es) ≡ true
   pub until : says (codes "repeat") (codes "until") es ≡ true → is_some (entry_at (codes "repeat-until") es) ≡ true
 
-pub has_repeat : (kind : MappingKind) (line : ℕ) (typed : Option TypeText) (es : List Pair) → is_in groups.Read kind ≡ true → together kind line typed es ≡ [] → HasRepeat es
+pub has_repeat : (kind : MappingKind) (line : ℕ) (typed : Option TypeText) (es : List Pair) → is_in groups.Read kind ≡ true → together kind line typed es ≡ []
+    → HasRepeat es
 unfolding together ruled_faults
 has_repeat kind line typed es b k = record {
   count = needed typed (codes "expr") (codes "repeat-expr") es line (read _ (front _ _ k));

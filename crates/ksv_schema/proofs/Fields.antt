@@ -13,7 +13,8 @@ use Rattle.ksv_schema_names.specs.Rows.{Declared}
 use Rattle.ksv_schema_names.specs.Types.{encoding_of}
 use Rattle.ksv_schema_names.specs.declared.position.Site.TheVariants as sites
 use Rattle.ksv_desc.specs.Description.{Extent, SizeEos, ByItself, Repeat, Once, Eos, Expr, Until, Valid, Field, MemberKind, Parameter}
-use Rattle.ksv_desc.specs.Resolved.{is_parameter, IfAny, IsThere, IsResolvedTree, IsResolvedExtent, IsResolvedRepeat, IsResolvedValid, IsResolvedField, IsResolvedKind}
+use Rattle.ksv_desc.specs.Resolved.{is_parameter, IfAny, IsThere, IsResolvedTree, IsResolvedExtent, IsResolvedRepeat, IsResolvedValid, IsResolvedField}
+use Rattle.ksv_desc.specs.Resolved.{IsResolvedKind}
 use Rattle.ksv_schema.specs.declared.keys.forms.Form.TheVariants as forms
 use Rattle.ksv_schema.specs.declared.keys.forms.MappingKind.{MappingKind}
 use Rattle.ksv_schema.specs.declared.keys.forms.MappingKind.TheVariants as kinds
@@ -23,9 +24,11 @@ use Rattle.ksv_schema.specs.KeyTexts.{encoding_named, is_str, is_strz, own_type,
 use Rattle.ksv_schema.specs.Faults.{missing_key, left_out}
 use Rattle.ksv_schema.specs.Rules.{form_faults, keys_faults}
 use Rattle.ksv_schema.specs.Values.{Home, once, expression, enumeration, own_enum, encoding_at}
-use Rattle.ksv_schema.specs.Members.{conditioned, parts, repeat_of, repeated, extent_of, extent, has_encoding, needs, field, own_field, attribute, parse_instance, value_instance, placeless, by_kind}
+use Rattle.ksv_schema.specs.Members.{conditioned, parts, repeat_of, repeated, extent_of, extent, has_encoding, needs, field, own_field, attribute}
+use Rattle.ksv_schema.specs.Members.{parse_instance, value_instance, placeless, by_kind}
 use Rattle.ksv_schema.specs.Description.{Context, in_tree, in_valid, in_extent, in_repeat, in_field, in_kind}
-use Rattle.ksv_schema.proofs.Good.{front, back, implies, there_map, IsGood, gives_good, also_good, chosen_good, made_good, after_good, both_good, weaker, perhaps_good, must_good}
+use Rattle.ksv_schema.proofs.Good.{front, back, implies, there_map, IsGood, gives_good, also_good, chosen_good, made_good, after_good, both_good, weaker}
+use Rattle.ksv_schema.proofs.Good.{perhaps_good, must_good}
 use Rattle.ksv_schema.proofs.FaultlessKeys.{text_fits, HasRepeat, has_repeat}
 use Rattle.ksv_schema.proofs.GoodValues.{Leads, any_leads, in_home, IsTree, IsEnumThere, any_enum, expression_good, enumeration_good, HasText, choice_good}
 use Rattle.ksv_schema.proofs.GoodValid.{IsValid, own_valid_good}
@@ -46,13 +49,18 @@ module _ (names : List (List ℕ)) (h : Home) where
   -- ---- encodings
 
   -- an attribute has an encoding if its type is a text
-  is_encoded : (kind : MappingKind) (line : ℕ) (es : List Pair) → AreEncodings h.declared → form_in kind (codes "encoding") ≡ Some forms.Coding → keys_faults kind es ≡ [] → needs h line (own_type es) es ≡ [] → HasText names h es
+  is_encoded : (kind : MappingKind) (line : ℕ) (es : List Pair) → AreEncodings h.declared → form_in kind (codes "encoding") ≡ Some forms.Coding
+      → keys_faults kind es ≡ [] → needs h line (own_type es) es ≡ [] → HasText names h es
   unfolding needs encoding_at form_faults is_ignored
   is_encoded kind line es a f k n p text e t b =
-      go (text_at (codes "encoding") es) (encoding_of h.declared.types h.within) (λ text t. text_fits kind (codes "encoding") forms.Coding (λ text. is_some (encoding_named text)) left_out es text (λ p. refl) refl f k t) (a h.within)
+      go (text_at (codes "encoding") es) (encoding_of h.declared.types h.within)
+      (λ text t. text_fits kind (codes "encoding") forms.Coding (λ text. is_some (encoding_named text)) left_out es text (λ p. refl) refl f k t)
+      (a h.within)
       (implies (is_a is_str (own_type es) || is_a is_strz (own_type es)) (has_encoding h es) line missing_key (back _ _ n) (rw (e, t) b))
     where
-      go : (own outer : Option (List ℕ)) → ((text : List ℕ) → own ≡ Some text → is_some (encoding_named text) ≡ true) → ((text : List ℕ) → outer ≡ Some text → is_some (encoding_named text) ≡ true) → (is_some own || is_some outer) ≡ true → is_some (option_map_or (λ (text : List ℕ). let r : Option (List ℕ) = Some text in r) own outer >>= encoding_named) ≡ true
+      go : (own outer : Option (List ℕ)) → ((text : List ℕ) → own ≡ Some text → is_some (encoding_named text) ≡ true)
+          → ((text : List ℕ) → outer ≡ Some text → is_some (encoding_named text) ≡ true) → (is_some own || is_some outer) ≡ true
+          → is_some (option_map_or (λ (text : List ℕ). let r : Option (List ℕ) = Some text in r) own outer >>= encoding_named) ≡ true
       go (Some text) outer f g x = f text refl
       go None (Some text) f g x = g text refl
       go None None f g x = absurd cc
@@ -63,7 +71,9 @@ module _ (names : List (List ℕ)) (h : Home) where
   AreConditions p = IfAny (IsTree c) p.0 × IfAny (IsValid c) p.1
 
   conditioned_good : (es : List Pair) → IsGood names AreConditions (conditioned h es)
-  conditioned_good es = weaker (both_good (perhaps_good (expression h sites.Condition) (entry_at (codes "if") es) (λ p e. expression_good names h sites.Condition p)) (own_valid_good names h es)) (λ p g. (g.0.0, g.1))
+  conditioned_good es =
+      weaker (both_good (perhaps_good (expression h sites.Condition) (entry_at (codes "if") es) (λ p e. expression_good names h sites.Condition p))
+      (own_valid_good names h es)) (λ p g. (g.0.0, g.1))
 
   -- ---- parts
 
@@ -74,10 +84,13 @@ module _ (names : List (List ℕ)) (h : Home) where
   unfolding repeated repeat_of
   repeated_good es r =
       chosen_good _
-      (both_good (perhaps_good _ (entry_at (codes "repeat-expr") es) (λ p e. expression_good names h sites.Count p)) (perhaps_good _ (entry_at (codes "repeat-until") es) (λ p e. expression_good names h sites.Until p)))
-      (λ p g. go p.0 p.1 (says (codes "repeat") (codes "eos") es) (says (codes "repeat") (codes "expr") es) (says (codes "repeat") (codes "until") es) (λ x. g.0.1 (r.count x)) (λ x. g.1.1 (r.until x)))
+      (both_good (perhaps_good _ (entry_at (codes "repeat-expr") es) (λ p e. expression_good names h sites.Count p))
+      (perhaps_good _ (entry_at (codes "repeat-until") es) (λ p e. expression_good names h sites.Until p)))
+      (λ p g. go p.0 p.1 (says (codes "repeat") (codes "eos") es) (says (codes "repeat") (codes "expr") es) (says (codes "repeat") (codes "until") es)
+      (λ x. g.0.1 (r.count x)) (λ x. g.1.1 (r.until x)))
     where
-      go : (count until : Option expressions.Tree) (eos by_count by_end : Bool) → (by_count ≡ true → IsThere (IsTree c) count) → (by_end ≡ true → IsThere (IsTree c) until)
+      go : (count until : Option expressions.Tree) (eos by_count by_end : Bool) → (by_count ≡ true → IsThere (IsTree c) count)
+          → (by_end ≡ true → IsThere (IsTree c) until)
           → IsThere IsRepeat (cond eos (Some Eos) (cond by_count (option_map Expr count) (cond by_end (option_map Until until) (Some Once))))
       go count until true by_count by_end x y = λ y s fits. tt
       go count until false true by_end x y = there_map (IsTree c) IsRepeat Expr count (λ e g. g) (x refl)
@@ -101,7 +114,8 @@ module _ (names : List (List ℕ)) (h : Home) where
   abbrev IsField : Field → Type 0
   IsField f = Leads c IsResolvedField (in_field c f)
 
-  parts_good : (enum : Option ℕ) (es : List Pair) → IfAny (IsEnumThere c) enum → HasText names h es → HasRepeat es → IsGood names IsField (parts (record { home = h; entries = es; beside = es; enum = enum }))
+  parts_good : (enum : Option ℕ) (es : List Pair) → IfAny (IsEnumThere c) enum → HasText names h es → HasRepeat es
+      → IsGood names IsField (parts (record { home = h; entries = es; beside = es; enum = enum }))
   unfolding parts
   parts_good enum es e i r =
       made_good _
@@ -122,10 +136,12 @@ module _ (names : List (List ℕ)) (h : Home) where
     encoding : form_in kind (codes "encoding") ≡ Some forms.Coding
     read : is_in groups.Read kind ≡ true
 
-  field_good : (kind : MappingKind) (line : ℕ) (enum : Option ℕ) (es : List Pair) → HasFieldKeys kind → AreEncodings h.declared → keys_faults kind es ≡ [] → IfAny (IsEnumThere c) enum → IsGood names IsField (field h kind line enum (own_type es) es)
+  field_good : (kind : MappingKind) (line : ℕ) (enum : Option ℕ) (es : List Pair) → HasFieldKeys kind → AreEncodings h.declared → keys_faults kind es ≡ []
+      → IfAny (IsEnumThere c) enum → IsGood names IsField (field h kind line enum (own_type es) es)
   unfolding field
   field_good kind line enum es f a k e = also_good _ _ (λ n.
-      parts_good enum es e (is_encoded kind line es a f.encoding k (back _ _ (front _ _ n))) (has_repeat kind line (own_type es) es f.read (front _ _ (front _ _ n))))
+      parts_good enum es e (is_encoded kind line es a f.encoding k (back _ _ (front _ _ n)))
+      (has_repeat kind line (own_type es) es f.read (front _ _ (front _ _ n))))
 
   -- ---- kinds of members
 
@@ -136,21 +152,30 @@ module _ (names : List (List ℕ)) (h : Home) where
   enum_there None g = absurd g
   enum_there (Some e) g = g
 
-  own_field_good : (kind : MappingKind) (line : ℕ) (es : List Pair) → HasFieldKeys kind → AreEncodings h.declared → keys_faults kind es ≡ [] → IsGood names IsField (own_field h kind line es)
+  own_field_good : (kind : MappingKind) (line : ℕ) (es : List Pair) → HasFieldKeys kind → AreEncodings h.declared → keys_faults kind es ≡ []
+      → IsGood names IsField (own_field h kind line es)
   own_field_good kind line es f a k = after_good (own_enum_good es) (λ e. field_good kind line _ es f a k (enum_there (own_enum h es).value e))
 
-  attribute_good : (line : ℕ) (es : List Pair) → AreEncodings h.declared → keys_faults kinds.Attribute es ≡ [] → IsGood names (IsKind c false) (attribute h line es)
+  attribute_good : (line : ℕ) (es : List Pair) → AreEncodings h.declared → keys_faults kinds.Attribute es ≡ []
+      → IsGood names (IsKind c false) (attribute h line es)
   unfolding attribute form_in form_among
-  attribute_good line es a k = made_good _ (own_field_good kinds.Attribute line es (record { encoding = refl; read = refl }) a k) (λ p g. record { leads = g; given = λ name. refl })
+  attribute_good line es a k = made_good _ (own_field_good kinds.Attribute line es (record { encoding = refl; read = refl }) a k)
+      (λ p g. record { leads = g; given = λ name. refl })
 
-  parse_instance_good : (line : ℕ) (es : List Pair) → AreEncodings h.declared → keys_faults kinds.ParseInstance es ≡ [] → IsGood names (IsKind c false) (parse_instance h line es)
+  parse_instance_good : (line : ℕ) (es : List Pair) → AreEncodings h.declared → keys_faults kinds.ParseInstance es ≡ []
+      → IsGood names (IsKind c false) (parse_instance h line es)
   unfolding parse_instance form_in form_among
   parse_instance_good line es a k =
       made_good _
       (both_good
-      (both_good (must_good line (expression h sites.Place) (entry_at (codes "pos") es) (λ p. expression_good names h sites.Place p)) (perhaps_good (expression h sites.Stream) (entry_at (codes "io") es) (λ p e. expression_good names h sites.Stream p)))
+      (both_good (must_good line (expression h sites.Place) (entry_at (codes "pos") es) (λ p. expression_good names h sites.Place p))
+      (perhaps_good (expression h sites.Stream) (entry_at (codes "io") es) (λ p e. expression_good names h sites.Stream p)))
       (own_field_good kinds.ParseInstance line es (record { encoding = refl; read = refl }) a k))
-      (λ p g. record { leads = λ y s fits. (g.0.0 y s fits, any_leads c IsResolvedTree (in_tree c) p.0.1 g.0.1.0 y s fits, g.1 y s fits); given = λ name. refl })
+      (λ p g. record {
+        leads = λ y s fits. (g.0.0 y s fits, any_leads c IsResolvedTree (in_tree c) p.0.1 g.0.1.0 y s fits, g.1 y s fits);
+        given = λ name.
+            refl;
+      })
 
   value_instance_good : (line : ℕ) (es : List Pair) → IsGood names (IsKind c false) (value_instance h line es)
   unfolding value_instance
@@ -159,20 +184,31 @@ module _ (names : List (List ℕ)) (h : Home) where
       (both_good
       (both_good (conditioned_good es) (must_good line (expression h sites.Value) (entry_at (codes "value") es) (λ p. expression_good names h sites.Value p)))
       (own_enum_good es))
-      (λ p g. record { leads = λ y s fits. (any_leads c IsResolvedTree (in_tree c) p.0.0.0 g.0.0.0 y s fits, g.0.1 y s fits, any_enum c p.1 g.1 y s fits, any_leads c IsResolvedValid (in_valid c) p.0.0.1 g.0.0.1 y s fits); given = λ name. refl }))
+      (λ p g. record {
+        leads = λ y s fits. (
+          any_leads c IsResolvedTree (in_tree c) p.0.0.0 g.0.0.0 y s fits,
+          g.0.1 y s fits,
+          any_enum c p.1 g.1 y s fits,
+          any_leads c IsResolvedValid
+              (in_valid c) p.0.0.1 g.0.0.1 y s fits,
+        );
+        given = λ name. refl;
+      }))
 
   placeless_good : (name_line : ℕ) (es : List Pair) → IsGood names (IsKind c false) (placeless h name_line es)
   unfolding placeless
   placeless_good name_line es = record { is = λ k w. absurd cc }
 
 module _ (names : List (List ℕ)) (h : Home) where
-  pub kind_good : (role : Role) (name_line line : ℕ) (es : List Pair) → AreEncodings h.declared → keys_faults (kind_of role es) es ≡ [] → IsGood names (IsKind (in_home names h) (is_in_params role)) (by_kind h (kind_of role es) name_line line es)
+  pub kind_good : (role : Role) (name_line line : ℕ) (es : List Pair) → AreEncodings h.declared → keys_faults (kind_of role es) es ≡ []
+      → IsGood names (IsKind (in_home names h) (is_in_params role)) (by_kind h (kind_of role es) name_line line es)
   unfolding by_kind
   kind_good roles.Parameter name_line line es a k = also_good _ _ (λ n. gives_good Parameter (record { leads = λ y s fits. tt; given = λ name. refl }))
   kind_good roles.Attribute name_line line es a k = attribute_good names h line es a k
   kind_good roles.Instance name_line line es a k = go (has (codes "value") es) (has (codes "pos") es) k
     where
-      go : (v p : Bool) → keys_faults (cond v kinds.Value (cond p kinds.ParseInstance kinds.Placeless)) es ≡ [] → IsGood names (IsKind (in_home names h) false) (by_kind h (cond v kinds.Value (cond p kinds.ParseInstance kinds.Placeless)) name_line line es)
+      go : (v p : Bool) → keys_faults (cond v kinds.Value (cond p kinds.ParseInstance kinds.Placeless)) es ≡ []
+          → IsGood names (IsKind (in_home names h) false) (by_kind h (cond v kinds.Value (cond p kinds.ParseInstance kinds.Placeless)) name_line line es)
       go true p k = value_instance_good names (once h) line es
       go false true k = parse_instance_good names h line es a k
       go false false k = placeless_good names h name_line es

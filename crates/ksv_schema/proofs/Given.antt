@@ -1,5 +1,6 @@
 -- Numbers and ids of entries that were given before.
-use Rattle.std.proofs.Common.{◌≡◌, ℕ, zero, suc, ◌<◌, arith, length, get_or, take, map, Bool, true, false, cond, List, [], ◌∷◌, ◌++◌, sym, ap, ◌∙◌, refl, Option, Some, None}
+use Rattle.std.proofs.Common.{◌≡◌, ℕ, zero, suc, ◌<◌, arith, length, get_or, take, map, Bool, true, false, cond, List, [], ◌∷◌, ◌++◌, sym, ap, ◌∙◌, refl}
+use Rattle.std.proofs.Common.{Option, Some, None}
 use Rattle.std.specs.Prelude.{◌||◌}
 use Rattle.std.specs.List.{list_any}
 use Rattle.std.specs.Option.{option_map_or}
@@ -19,21 +20,26 @@ or_false false = refl
 -- the thing that an entry has, or none
 module _ {K A : Type 0} (old new : K → Bool) (eq : A → K → Bool) where
   pub some_given : (o : Option A) (x : A) → Some x ≡ o → Gives old new (eq x) → Adds old new (λ k. option_map_or (λ y. eq y k) o false)
-  some_given o x e g = record { given = λ k. or_cond (eq x k) (old k) (new k) (g.given k) ∙ ap (λ (o : Option A). old k || option_map_or (λ y. eq y k) o false) e }
+  some_given o x e g =
+      record { given = λ k. or_cond (eq x k) (old k) (new k) (g.given k) ∙ ap (λ (o : Option A). old k || option_map_or (λ y. eq y k) o false) e }
 
 pub none_given : {K A : Type 0} (old : K → Bool) (eq : A → K → Bool) (o : Option A) → None ≡ o → Adds old old (λ k. option_map_or (λ y. eq y k) o false)
 none_given old eq o e = record { given = λ k. or_false (old k) ∙ ap (λ (o : Option _). old k || option_map_or (λ y. eq y k) o false) e }
 
 -- with one entry more
-pub one_more : {K E : Type 0} (has new : K → Bool) (test : K → E → Bool) (before : List E) → ((k : K) → has k ≡ list_any (test k) before) → (x : E) → Adds has new (λ k. test k x) → (k : K) → new k ≡ list_any (test k) (before ++ x ∷ [])
-one_more has new test before of x a k = a.given k ∙ ap (λ (b : Bool). b || test k x) (of k) ∙ ap (λ (b : Bool). list_any (test k) before || b) (or_false (test k x)) ∙ sym (list_any-append (test k) before (x ∷ []))
+pub one_more : {K E : Type 0} (has new : K → Bool) (test : K → E → Bool) (before : List E) → ((k : K) → has k ≡ list_any (test k) before) → (x : E)
+    → Adds has new (λ k. test k x) → (k : K) → new k ≡ list_any (test k) (before ++ x ∷ [])
+one_more has new test before of x a k = a.given k ∙ ap (λ (b : Bool). b || test k x) (of k)
+    ∙ ap (λ (b : Bool). list_any (test k) before || b) (or_false (test k x)) ∙ sym (list_any-append (test k) before (x ∷ []))
 
-pub again_is : {K E : Type 0} (has : K → Bool) (test : K → E → Bool) (before : List E) → ((k : K) → has k ≡ list_any (test k) before) → (o : Option K) → option_map_or has o false ≡ option_map_or (λ k. list_any (test k) before) o false
+pub again_is : {K E : Type 0} (has : K → Bool) (test : K → E → Bool) (before : List E) → ((k : K) → has k ≡ list_any (test k) before) → (o : Option K)
+    → option_map_or has o false ≡ option_map_or (λ k. list_any (test k) before) o false
 again_is has test before of None = refl
 again_is has test before of (Some k) = of k
 
 -- one element more
-pub take_more : {X A : Type 0} (see : X → A) (xs : List X) (i : ℕ) (x : X) → i < length xs → x ≡ get_or xs i x → take (suc i) (map see xs) ≡ take i (map see xs) ++ see x ∷ []
+pub take_more : {X A : Type 0} (see : X → A) (xs : List X) (i : ℕ) (x : X) → i < length xs → x ≡ get_or xs i x
+    → take (suc i) (map see xs) ≡ take i (map see xs) ++ see x ∷ []
 take_more see [] i x lt is = absurd (omega arith)
 take_more see (y ∷ ys) zero x lt is = ap (λ (z : _). see z ∷ []) (sym is)
 take_more see (y ∷ ys) (suc i) x lt is = ap (λ (zs : List _). see y ∷ zs) (take_more see ys i x (omega arith) is)

@@ -12,7 +12,8 @@ use Rattle.ksv_desc.specs.Resolved.{Each, IfAny, IsResolvedTree, IsResolvedValid
 use Rattle.ksv_schema.specs.Expressions.{expression_of}
 use Rattle.ksv_schema.specs.Faults.{bad_value}
 use Rattle.ksv_schema.specs.Values.{Home}
-use Rattle.ksv_schema.specs.Valid.{compared, comparison, alternative, some_alternatives, alternatives, one_or_some, any_of, in_order, all_of, any_or_all, conditions, valid, own_valid}
+use Rattle.ksv_schema.specs.Valid.{compared, comparison, alternative, some_alternatives, alternatives, one_or_some, any_of, in_order, all_of, any_or_all}
+use Rattle.ksv_schema.specs.Valid.{conditions, valid, own_valid}
 use Rattle.ksv_schema.specs.Description.{Context, in_tree, in_valid}
 use Rattle.ksv_schema.proofs.Good.{IsGood, wrong_good, also_good, made_good, both_good, or_good, perhaps_good, weaker, each_good, each_second, each_and}
 use Rattle.ksv_schema.proofs.GoodValues.{Leads, in_home, IsTree, of_expression_good, expression_good}
@@ -32,7 +33,8 @@ trees_lead : (c : Context) (es : List expressions.Tree) → AreTrees c es → Le
 trees_lead c [] g y s fits = tt
 trees_lead c (e ∷ es) g y s fits = (g.0 y s fits, trees_lead c es g.1 y s fits)
 
-one_or_some_lead : (c : Context) (p : Option expressions.Tree × Option (List expressions.Tree)) → IfAny (IsTree c) p.0 → IfAny (AreTrees c) p.1 → IfAny (AreTrees c) (one_or_some p)
+one_or_some_lead : (c : Context) (p : Option expressions.Tree × Option (List expressions.Tree)) → IfAny (IsTree c) p.0 → IfAny (AreTrees c) p.1
+    → IfAny (AreTrees c) (one_or_some p)
 one_or_some_lead c (Some e, es) g h = (g, tt)
 one_or_some_lead c (None, es) g h = h
 
@@ -40,12 +42,14 @@ optional_leads : (c : Context) (o : Option expressions.Tree) → IfAny (IsTree c
 optional_leads c None g = tt
 optional_leads c (Some e) g = (g, tt)
 
-in_order_lead : (c : Context) (p : Option expressions.Tree × (Option expressions.Tree × Option expressions.Tree)) → IfAny (IsTree c) p.0 → IfAny (IsTree c) p.1.0 → IfAny (IsTree c) p.1.1 → AreTrees c (in_order p)
+in_order_lead : (c : Context) (p : Option expressions.Tree × (Option expressions.Tree × Option expressions.Tree)) → IfAny (IsTree c) p.0
+    → IfAny (IsTree c) p.1.0 → IfAny (IsTree c) p.1.1 → AreTrees c (in_order p)
 in_order_lead c p g h k =
     each_and (IsTree c) (option_to_list p.0 ++ option_to_list p.1.0) (option_to_list p.1.1)
     (each_and (IsTree c) (option_to_list p.0) (option_to_list p.1.0) (optional_leads c p.0 g) (optional_leads c p.1.0 h)) (optional_leads c p.1.1 k)
 
-any_or_all_leads : (c : Context) (p : Option (List expressions.Tree) × List expressions.Tree) → IfAny (AreTrees c) p.0 → AreTrees c p.1 → IsValid c (any_or_all p)
+any_or_all_leads : (c : Context) (p : Option (List expressions.Tree) × List expressions.Tree) → IfAny (AreTrees c) p.0 → AreTrees c p.1
+    → IsValid c (any_or_all p)
 any_or_all_leads c (Some any, all) g h = trees_lead c any g
 any_or_all_leads c (None, all) g h = trees_lead c all h
 
@@ -67,7 +71,8 @@ module _ (names : List (List ℕ)) (h : Home) where
 
   some_good : (line : ℕ) (ts : List Tree) → IsGood names (AreTrees c) (some_alternatives h line ts)
   some_good line [] = wrong_good line bad_value
-  some_good line (t ∷ ts) = weaker (each_good (alternative h) (t ∷ ts) alternative_good) (λ es g. each_second (λ i (t : Tree). IsTree c) (IsTree c) 0 (t ∷ ts) es (λ i t e g. g) g)
+  some_good line (t ∷ ts) = weaker (each_good (alternative h) (t ∷ ts) alternative_good)
+      (λ es g. each_second (λ i (t : Tree). IsTree c) (IsTree c) 0 (t ∷ ts) es (λ i t e g. g) g)
 
   alternatives_good : (p : Pair) → IsGood names (AreTrees c) (alternatives h p)
   unfolding alternatives
@@ -76,7 +81,8 @@ module _ (names : List (List ℕ)) (h : Home) where
   any_good : (es : List Pair) → IsGood names (λ o. IfAny (AreTrees c) o) (any_of h es)
   any_good es =
       made_good one_or_some
-      (both_good (perhaps_good _ (entry_at (codes "eq") es) (λ p e. comparison_good Equal p)) (perhaps_good _ (entry_at (codes "any-of") es) (λ p e. alternatives_good p)))
+      (both_good (perhaps_good _ (entry_at (codes "eq") es) (λ p e. comparison_good Equal p))
+      (perhaps_good _ (entry_at (codes "any-of") es) (λ p e. alternatives_good p)))
       (λ p g. one_or_some_lead c p g.0.0 g.1.0)
 
   -- ---- all of some
@@ -85,7 +91,8 @@ module _ (names : List (List ℕ)) (h : Home) where
   all_good es =
       made_good in_order
       (both_good (perhaps_good _ (entry_at (codes "expr") es) (λ p e. expression_good names h sites.ValidExpr p))
-      (both_good (perhaps_good _ (entry_at (codes "min") es) (λ p e. comparison_good GreaterOrEqual p)) (perhaps_good _ (entry_at (codes "max") es) (λ p e. comparison_good LessOrEqual p))))
+      (both_good (perhaps_good _ (entry_at (codes "min") es) (λ p e. comparison_good GreaterOrEqual p))
+      (perhaps_good _ (entry_at (codes "max") es) (λ p e. comparison_good LessOrEqual p))))
       (λ p g. in_order_lead c p g.0.0 g.1.0.0 g.1.1.0)
 
   -- ---- at the key

@@ -21,14 +21,19 @@ use Rattle.ksv_schema_names.specs.Resolved.{Fits}
 use Rattle.ksv_schema_names.proofs.Found.{is_bound, row_within, nearest_within, type_within}
 use Rattle.ksv_schema_names.proofs.Resolving.{given_leads, resolved, all_resolved}
 use Rattle.ksv_desc.specs.Description.{Description, Content, Number, Bits, Characters, Object, EnumValue, Choice, Always, Switch}
-use Rattle.ksv_desc.specs.Resolved.{count, Each, IfAny, IsThere, IsEnum, IsResolvedTree, AreResolvedTrees, IsResolvedContent, IsResolvedValue, IsResolvedCase, IsResolvedChoice}
+use Rattle.ksv_desc.specs.Resolved.{count, Each, IfAny, IsThere, IsEnum, IsResolvedTree, AreResolvedTrees, IsResolvedContent, IsResolvedValue, IsResolvedCase}
+use Rattle.ksv_desc.specs.Resolved.{IsResolvedChoice}
 use Rattle.ksv_schema.specs.Expressions.{expression_of}
-use Rattle.ksv_schema.specs.KeyTexts.{TypeText, Unspelled, OfLanguage, OfDescription, type_text, is_str, is_strz, looks_like_number, Piece, Bytes as BytesPiece, BadPiece, LeftOutPiece, piece_of, CaseKey, Constant, Negative, OfEnum, Default, NoKey, case_key, ids_of}
+use Rattle.ksv_schema.specs.KeyTexts.{TypeText, Unspelled, OfLanguage, OfDescription, type_text, is_str, is_strz, looks_like_number, Piece, Bytes as BytesPiece}
+use Rattle.ksv_schema.specs.KeyTexts.{BadPiece, LeftOutPiece, piece_of, CaseKey, Constant, Negative, OfEnum, Default, NoKey, case_key, ids_of}
 use Rattle.ksv_schema.specs.Faults.{fault_if, unknown_name, no_byte_order, bad_value, wrong_count, left_out, no_expression}
 use Rattle.ksv_schema.specs.Reading.{each}
-use Rattle.ksv_schema.specs.Values.{Home, FieldKeys, position_at, name_fault, least_name, of_expression, expression, arguments, of_path, enumeration, of_piece, item, items, contents, order_at, encoding_at, of_language, counts_differ, of_type, of_case_key, case_value, case_against, case, switch, typed, content_or_type, choice}
+use Rattle.ksv_schema.specs.Values.{Home, FieldKeys, position_at, name_fault, least_name, of_expression, expression, arguments, of_path, enumeration, of_piece}
+use Rattle.ksv_schema.specs.Values.{item, items, contents, order_at, encoding_at, of_language, counts_differ, of_type, of_case_key, case_value, case_against}
+use Rattle.ksv_schema.specs.Values.{case, switch, typed, content_or_type, choice}
 use Rattle.ksv_schema.specs.Description.{Context, in_tree, in_content, in_case, in_choice}
-use Rattle.ksv_schema.proofs.Good.{front, not_if, IsGood, gives_good, wrong_good, found_good, also_good, made_good, both_good, if_good, or_good, perhaps_good, must_good, weaker, text_good, mapping_good, EachOf, each_good}
+use Rattle.ksv_schema.proofs.Good.{front, not_if, IsGood, gives_good, wrong_good, found_good, also_good, made_good, both_good, if_good, or_good, perhaps_good}
+use Rattle.ksv_schema.proofs.Good.{must_good, weaker, text_good, mapping_good, EachOf, each_good}
 
 -- ---- what leads somewhere
 
@@ -37,11 +42,13 @@ abbrev pub Leads : {A : Type 0} → Context → (Description → A → Type 0) �
 Leads c Q x = (y : Description) → y.names ≡ c.names → Fits c.declared y → Q y x
 
 -- something optional leads somewhere if it is there
-pub any_leads : {A B : Type 0} (c : Context) (Q : Description → B → Type 0) (f : A → B) (o : Option A) → IfAny (λ x. Leads c Q (f x)) o → Leads c (λ y. IfAny (Q y)) (option_map f o)
+pub any_leads : {A B : Type 0} (c : Context) (Q : Description → B → Type 0) (f : A → B) (o : Option A) → IfAny (λ x. Leads c Q (f x)) o
+    → Leads c (λ y. IfAny (Q y)) (option_map f o)
 any_leads c Q f None g y s fits = tt
 any_leads c Q f (Some x) g y s fits = g y s fits
 
-each_leads : {A B X : Type 0} (c : Context) (Q : Description → B → Type 0) (f : A → B) (n : ℕ) (ps : List X) (xs : List A) → EachOf (λ i p x. Leads c Q (f x)) n ps xs → Leads c (λ y. Each (Q y)) (map f xs)
+each_leads : {A B X : Type 0} (c : Context) (Q : Description → B → Type 0) (f : A → B) (n : ℕ) (ps : List X) (xs : List A)
+    → EachOf (λ i p x. Leads c Q (f x)) n ps xs → Leads c (λ y. Each (Q y)) (map f xs)
 each_leads c Q f n [] [] g y s fits = tt
 each_leads c Q f n (p ∷ ps) (x ∷ xs) g y s fits = (g.0 y s fits, each_leads c Q f (n + 1) ps xs g.1 y s fits)
 each_leads c Q f n _ _ g y s fits = absurd g
@@ -72,10 +79,12 @@ is_text t = is_str t || is_strz t
 
 -- ---- numbers of enums
 
-behind_within : (types enums : List Row) (n : ℕ) (path : List (List ℕ)) (name : List ℕ) (e : ℕ) → enum_behind types enums n path name ≡ Some e → e < length enums
+behind_within : (types enums : List Row) (n : ℕ) (path : List (List ℕ)) (name : List ℕ) (e : ℕ) → enum_behind types enums n path name ≡ Some e
+    → e < length enums
 unfolding enum_behind
 behind_within types enums n [] name e h = nearest_within types enums name n e h
-behind_within types enums n (first ∷ path) name e h = let m = is_bound (row_in enums name) (type_named types n (first ∷ path)) e h in row_within enums name m.0 e m.2
+behind_within types enums n (first ∷ path) name e h = let m =
+    is_bound (row_in enums name) (type_named types n (first ∷ path)) e h in row_within enums name m.0 e m.2
 
 enum_within : (types enums : List Row) (n : ℕ) (before path : List (List ℕ)) (e : ℕ) → enum_from types enums n before path ≡ Some e → e < length enums
 enum_within types enums n before [] e h = absurd cc
@@ -113,21 +122,28 @@ module _ (names : List (List ℕ)) (h : Home) where
   pub of_expression_good : (at : Site) (line : ℕ) (o : Option expressions.Tree) → IsGood names (IsTree c) (of_expression h at line o)
   unfolding of_expression name_faults
   of_expression_good at line None = wrong_good line no_expression
-  of_expression_good at line (Some e) = record { is = λ k w y s fits. rw (← s) (resolved h.declared y h.within (position_at h at) fits Nothing e (rw (← s) at w) (no_names line _ k)) }
+  of_expression_good at line (Some e) =
+      record { is = λ k w y s fits. rw (← s) (resolved h.declared y h.within (position_at h at) fits Nothing e (rw (← s) at w) (no_names line _ k)) }
 
   pub expression_good : (site : Site) (p : Pair) → IsGood names (IsTree c) (expression h site p)
   unfolding expression
   expression_good site p = text_good _ p (λ text t. of_expression_good site p.line (expression_of text))
 
-  arguments_good : (line : ℕ) (es : expressions.Arguments) → IsGood names (λ fs. (fs ≡ es) × Leads c AreResolvedTrees (all_numbered h.declared names h.within fs)) (arguments h line es)
+  arguments_good : (line : ℕ) (es : expressions.Arguments)
+      → IsGood names (λ fs. (fs ≡ es) × Leads c AreResolvedTrees (all_numbered h.declared names h.within fs)) (arguments h line es)
   unfolding arguments
-  arguments_good line es = record { is = λ k w. (refl, λ y s fits. rw (← s) (all_resolved h.declared y h.within (position_at h sites.Argument) fits es (rw (← s) at w) (no_names line _ k))) }
+  arguments_good line es =
+      record {
+        is = λ k w.
+            (refl, λ y s fits. rw (← s) (all_resolved h.declared y h.within (position_at h sites.Argument) fits es (rw (← s) at w) (no_names line _ k)));
+      }
 
   -- enums
 
   of_path_good : (line : ℕ) (o : Option (List (List ℕ))) → IsGood names (IsEnumThere c) (of_path h line o)
   of_path_good line None = wrong_good line bad_value
-  of_path_good line (Some path) = found_good line unknown_name _ (λ e f y s fits. let l = enum_within h.declared.types h.declared.enums h.within [] path e f in omega (arith, l, fits.enums))
+  of_path_good line (Some path) = found_good line unknown_name _
+      (λ e f y s fits. let l = enum_within h.declared.types h.declared.enums h.within [] path e f in omega (arith, l, fits.enums))
 
   pub enumeration_good : (p : Pair) → IsGood names (IsEnumThere c) (enumeration h p)
   unfolding enumeration
@@ -148,7 +164,8 @@ module _ (names : List (List ℕ)) (h : Home) where
   contents_good : (p : Pair) → IsGood names (λ bs. Unit {0}) (contents p)
   unfolding contents
   contents_good p =
-      or_good _ (text_of p.value) _ (λ text t. if_good (not (is_quoted p.value) && looks_like_number text) _ _ (λ b. wrong_good p.line left_out) (λ b. gives_good text tt))
+      or_good _ (text_of p.value) _
+      (λ text t. if_good (not (is_quoted p.value) && looks_like_number text) _ _ (λ b. wrong_good p.line left_out) (λ b. gives_good text tt))
       (λ t. or_good items (list_of p.value) _ (λ ts l. items_good ts) (λ l. wrong_good p.line bad_value))
 
   -- types
@@ -168,27 +185,43 @@ module _ (names : List (List ℕ)) (h : Home) where
   abbrev keys_of : List Pair → Option ℕ → List Pair → FieldKeys
   keys_of beside enum es = record { home = h; entries = es; beside = beside; enum = enum }
 
-  of_language_good : (beside : List Pair) (enum : Option ℕ) (es : List Pair) (line : ℕ) (b : BuiltIn) (given : expressions.Arguments) → IfAny (IsEnumThere c) enum → (is_text (OfLanguage b given) ≡ true → IsEncoded es) → IsGood names (IsContent c) (of_language (keys_of beside enum es) line b)
-  of_language_good beside enum es line (Integer signed bytes order) given e t = made_good (λ order. Number signed bytes order enum) (found_good {G = λ order. Unit {0}} line no_byte_order (order_at h bytes order) (λ order f. tt)) (λ order g. any_enum c enum e)
-  of_language_good beside enum es line (BitsType width is_little) given e t = if_good is_little _ _ (λ b. wrong_good line left_out) (λ b. gives_good (Bits width enum) (any_enum c enum e))
+  of_language_good : (beside : List Pair) (enum : Option ℕ) (es : List Pair) (line : ℕ) (b : BuiltIn) (given : expressions.Arguments)
+      → IfAny (IsEnumThere c) enum → (is_text (OfLanguage b given) ≡ true → IsEncoded es)
+      → IsGood names (IsContent c) (of_language (keys_of beside enum es) line b)
+  of_language_good beside enum es line (Integer signed bytes order) given e t =
+      made_good (λ order. Number signed bytes order enum) (found_good {G = λ order. Unit {0}} line no_byte_order (order_at h bytes order) (λ order f. tt))
+      (λ order g. any_enum c enum e)
+  of_language_good beside enum es line (BitsType width is_little) given e t =
+      if_good is_little _ _ (λ b. wrong_good line left_out) (λ b. gives_good (Bits width enum) (any_enum c enum e))
   of_language_good beside enum es line Str given e t = record { is = λ k w. characters (encoding_at h es) (t refl) }
   of_language_good beside enum es line Strz given e t = record { is = λ k w. characters (encoding_at h es) (t refl) }
   of_language_good beside enum es line NotHere given e t = wrong_good line left_out
 
   -- as many arguments as parameters
-  as_many : (given line t : ℕ) (n : Option ℕ) → fault_if (counts_differ h given n) line wrong_count ≡ [] → n ≡ Some t → length (parameters_within h.declared.types t) ≡ given
+  as_many : (given line t : ℕ) (n : Option ℕ) → fault_if (counts_differ h given n) line wrong_count ≡ [] → n ≡ Some t
+      → length (parameters_within h.declared.types t) ≡ given
   as_many given line t n k e =
-      (Decides-eqb (length (parameters_within h.declared.types t)) given).0 (not-false (length (parameters_within h.declared.types t) == given) (ap (counts_differ h given) (sym e) ∙ not_if (counts_differ h given n) line wrong_count k))
+      (Decides-eqb (length (parameters_within h.declared.types t)) given).0
+      (not-false (length (parameters_within h.declared.types t) == given)
+      (ap (counts_differ h given) (sym e) ∙ not_if (counts_differ h given n) line wrong_count k))
 
-  of_type_good : (beside : List Pair) (enum : Option ℕ) (es : List Pair) (line : ℕ) (t : TypeText) → IfAny (IsEnumThere c) enum → (is_text t ≡ true → IsEncoded es) → IsGood names (IsContent c) (of_type (keys_of beside enum es) line t)
+  of_type_good : (beside : List Pair) (enum : Option ℕ) (es : List Pair) (line : ℕ) (t : TypeText) → IfAny (IsEnumThere c) enum
+      → (is_text t ≡ true → IsEncoded es) → IsGood names (IsContent c) (of_type (keys_of beside enum es) line t)
   unfolding of_type
   of_type_good beside enum es line Unspelled e i = wrong_good line no_expression
-  of_type_good beside enum es line (OfLanguage b given) e i = also_good _ _ (λ k. made_good (λ p. p.1) (both_good (arguments_good line given) (of_language_good beside enum es line b given e i)) (λ p g. g.1))
+  of_type_good beside enum es line (OfLanguage b given) e i =
+      also_good _ _ (λ k. made_good (λ p. p.1) (both_good (arguments_good line given) (of_language_good beside enum es line b given e i)) (λ p g. g.1))
   of_type_good beside enum es line (OfDescription t given) e i = also_good _ _ (λ k.
-      made_good (λ p. Object p.0 p.1) (both_good (found_good line unknown_name (type_named h.declared.types h.within t.path) (λ n f. f)) (arguments_good line given))
+      made_good (λ p. Object p.0 p.1)
+      (both_good (found_good line unknown_name (type_named h.declared.types h.within t.path) (λ n f. f)) (arguments_good line given))
       (λ p g y s fits.
       let below = type_within h.declared.types h.within t.path p.0 g.0 in
-      record { type = omega (arith, below, fits.types); as_many = count_kept c p.1 ∙ ap count g.1.0 ∙ sym (as_many (count given) line p.0 _ k g.0) ∙ fits.parameters p.0 below; arguments = g.1.1 y s fits }))
+      record {
+        type = omega (arith, below, fits.types);
+        as_many = count_kept c p.1 ∙ ap count g.1.0 ∙ sym (as_many (count given) line p.0 _ k g.0)
+            ∙ fits.parameters p.0 below;
+        arguments = g.1.1 y s fits;
+      }))
 
   -- switches
 
@@ -196,7 +229,8 @@ module _ (names : List (List ℕ)) (h : Home) where
   unfolding of_case_key
   of_case_key_good line (Constant k) = gives_good _ (λ y s fits. tt)
   of_case_key_good line (Negative n) = gives_good _ (λ y s fits. tt)
-  of_case_key_good line (OfEnum m) = made_good (λ g. Some (EnumValue g)) (found_good line unknown_name (given_member h.declared h.within m) (λ g f. f)) (λ g f y s fits. given_leads h.declared y fits h.within m g f)
+  of_case_key_good line (OfEnum m) = made_good (λ g. Some (EnumValue g)) (found_good line unknown_name (given_member h.declared h.within m) (λ g f. f))
+      (λ g f y s fits. given_leads h.declared y fits h.within m g f)
   of_case_key_good line Default = gives_good None (λ y s fits. tt)
   of_case_key_good line NoKey = wrong_good line bad_value
 
@@ -210,13 +244,17 @@ module _ (names : List (List ℕ)) (h : Home) where
   unfolding case_against
   no_text es line t k = both_ways (is_text t) (not_if (is_text t) line left_out (front _ _ (front _ _ (front _ _ (front _ _ (front _ _ k))))))
 
-  case_good : (beside : List Pair) (enum : Option ℕ) (es : List Pair) (p : Pair) → IfAny (IsEnumThere c) enum → IsGood names (λ x. Leads c IsResolvedCase (in_case c x)) (case (keys_of beside enum es) p)
+  case_good : (beside : List Pair) (enum : Option ℕ) (es : List Pair) (p : Pair) → IfAny (IsEnumThere c) enum
+      → IsGood names (λ x. Leads c IsResolvedCase (in_case c x)) (case (keys_of beside enum es) p)
   unfolding case
   case_good beside enum es p e =
-      made_good _ (both_good (case_value_good p.line (expression_of p.key)) (text_good _ p (λ text t. also_good _ _ (λ k. of_type_good beside enum es p.line (type_text text) e (λ b. absurd (no_text beside p.line (type_text text) k b))))))
+      made_good _ (both_good (case_value_good p.line (expression_of p.key))
+      (text_good _ p (λ text t. also_good _ _
+      (λ k. of_type_good beside enum es p.line (type_text text) e (λ b. absurd (no_text beside p.line (type_text text) k b))))))
       (λ p g y s fits. (g.0 y s fits, g.1 y s fits))
 
-  switch_good : (beside : List Pair) (enum : Option ℕ) (es : List Pair) (line : ℕ) (keys : List Pair) → IfAny (IsEnumThere c) enum → IsGood names (IsChoice c) (switch (keys_of beside enum es) line keys)
+  switch_good : (beside : List Pair) (enum : Option ℕ) (es : List Pair) (line : ℕ) (keys : List Pair) → IfAny (IsEnumThere c) enum
+      → IsGood names (IsChoice c) (switch (keys_of beside enum es) line keys)
   unfolding switch
   switch_good beside enum es line keys e = also_good _ _ (λ k.
       made_good (λ p. Switch p.0 p.1)
@@ -225,10 +263,13 @@ module _ (names : List (List ℕ)) (h : Home) where
       (λ p g y s fits. (g.0 y s fits, g.1 y s fits)))
     where
       has_cases : (ps : List Pair) → IsGood names (λ cs. Leads c (λ y. Each (IsResolvedCase y)) (map (in_case c) cs)) (each (case (keys_of beside enum es)) ps)
-      has_cases ps = weaker (each_good (case (keys_of beside enum es)) ps (λ p. case_good beside enum es p e)) (λ cs g. each_leads c IsResolvedCase (in_case c) 0 ps cs g)
+      has_cases ps = weaker (each_good (case (keys_of beside enum es)) ps (λ p. case_good beside enum es p e))
+          (λ cs g. each_leads c IsResolvedCase (in_case c) 0 ps cs g)
 
   -- what an attribute reads: if its type is a text, it has an encoding
-  typed_good : (beside : List Pair) (enum : Option ℕ) (es : List Pair) (p : Pair) → IfAny (IsEnumThere c) enum → ((text : List ℕ) → text_of p.value ≡ Some text → is_text (type_text text) ≡ true → IsEncoded es) → IsGood names (IsChoice c) (typed (keys_of beside enum es) p)
+  typed_good : (beside : List Pair) (enum : Option ℕ) (es : List Pair) (p : Pair) → IfAny (IsEnumThere c) enum
+      → ((text : List ℕ) → text_of p.value ≡ Some text → is_text (type_text text) ≡ true → IsEncoded es)
+      → IsGood names (IsChoice c) (typed (keys_of beside enum es) p)
   unfolding typed
   typed_good beside enum es p e i =
       or_good _ (mapping_of p.value) _ (λ keys m. switch_good beside enum es (line_of p.value) keys e)
@@ -239,8 +280,11 @@ module _ (names : List (List ℕ)) (h : Home) where
   chosen_leads (None, Some x) g y s fits = g y s fits
   chosen_leads (None, None) g y s fits = tt
 
-  pub choice_good : (beside : List Pair) (enum : Option ℕ) (es : List Pair) → IfAny (IsEnumThere c) enum → HasText es → IsGood names (IsChoice c) (choice (keys_of beside enum es))
+  pub choice_good : (beside : List Pair) (enum : Option ℕ) (es : List Pair) → IfAny (IsEnumThere c) enum → HasText es
+      → IsGood names (IsChoice c) (choice (keys_of beside enum es))
   unfolding choice
   choice_good beside enum es e i =
-      made_good content_or_type (both_good (perhaps_good contents (entry_at (codes "contents") es) (λ p t. contents_good p)) (perhaps_good (typed (keys_of beside enum es)) (entry_at (codes "type") es) (λ p t. typed_good beside enum es p e (λ text. i p text t))))
+      made_good content_or_type
+      (both_good (perhaps_good contents (entry_at (codes "contents") es) (λ p t. contents_good p))
+      (perhaps_good (typed (keys_of beside enum es)) (entry_at (codes "type") es) (λ p t. typed_good beside enum es p e (λ text. i p text t))))
       (λ p g. chosen_leads p g.1.0)

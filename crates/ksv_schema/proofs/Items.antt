@@ -1,5 +1,6 @@
 -- The items of `contents`: a loop over them, and that they have no names after dots.
-use Rattle.std.proofs.Common.{◌≡◌, ℕ, suc, ◌+◌, ◌<◌, ◌≤◌, List, [], ◌∷◌, ◌++◌, map, length, get_or, drop, refl, sym, ap, ◌∙◌, add-one, drop-cons, Option, Some, None}
+use Rattle.std.proofs.Common.{◌≡◌, ℕ, suc, ◌+◌, ◌<◌, ◌≤◌, List, [], ◌∷◌, ◌++◌, map, length, get_or, drop, refl, sym, ap, ◌∙◌, add-one, drop-cons, Option, Some}
+use Rattle.std.proofs.Common.{None}
 use Rattle.std.specs.Prelude.{option_map}
 use Rattle.std.proofs.lemmas.List.{drop_all, append_assoc}
 use Rattle.ksv_yaml_tree.specs.Tree.{Tree, line_of}
@@ -32,13 +33,15 @@ pub record AreSoFar (all rest : Reading (List ℕ)) (so_far : Option (List ℕ))
   pub value : joined so_far rest.value ≡ all.value
   pub faults : noted now rest.faults ≡ noted old all.faults
 
-joined_joined : (so_far bs rest : Option (List ℕ)) → joined (joined so_far bs) rest ≡ joined so_far (option_map (λ (p : List ℕ × List ℕ). p.0 ++ p.1) (paired bs rest))
+joined_joined : (so_far bs rest : Option (List ℕ))
+    → joined (joined so_far bs) rest ≡ joined so_far (option_map (λ (p : List ℕ × List ℕ). p.0 ++ p.1) (paired bs rest))
 joined_joined None bs rest = refl
 joined_joined (Some xs) None rest = refl
 joined_joined (Some xs) (Some ys) None = refl
 joined_joined (Some xs) (Some ys) (Some zs) = ap Some (append_assoc xs ys zs)
 
-bytes_step : (all rest r : Reading (List ℕ)) (so_far more : Option (List ℕ)) (old now new : Option Fault) → more ≡ joined so_far r.value → new ≡ noted now r.faults
+bytes_step : (all rest r : Reading (List ℕ)) (so_far more : Option (List ℕ)) (old now new : Option Fault) → more ≡ joined so_far r.value
+    → new ≡ noted now r.faults
     → AreSoFar all (made (λ p. p.0 ++ p.1) (both r rest)) so_far old now → AreSoFar all rest more old new
 bytes_step all rest r so_far more old now new is notes h = record {
   value = ap (λ (o : Option (List ℕ)). joined o rest.value) is ∙ joined_joined so_far r.value rest.value ∙ h.value;
@@ -46,7 +49,8 @@ bytes_step all rest r so_far more old now new is notes h = record {
 }
 
 module _ {X : Type 0} (see : X → Tree) (xs : List X) (all : Reading (List ℕ)) where
-  pub items_step : (i : ℕ) (x : X) (so_far more : Option (List ℕ)) (old now new : Option Fault) → i < length xs → x ≡ get_or xs i x → more ≡ joined so_far (item (see x)).value → new ≡ noted now (item (see x)).faults
+  pub items_step : (i : ℕ) (x : X) (so_far more : Option (List ℕ)) (old now new : Option Fault) → i < length xs → x ≡ get_or xs i x
+      → more ≡ joined so_far (item (see x)).value → new ≡ noted now (item (see x)).faults
       → AreSoFar all (items (map see (drop i xs))) so_far old now → AreSoFar all (items (map see (drop (i + 1) xs))) more old new
   items_step i x so_far more old now new lt is bs notes h =
       let e : items (map see (drop i xs)) ≡ made (λ p. p.0 ++ p.1) (both (item (see x)) (items (map see (drop (i + 1) xs)))) =
@@ -55,9 +59,11 @@ module _ {X : Type 0} (see : X → Tree) (xs : List X) (all : Reading (List ℕ)
       ∙ ap (λ (j : ℕ). made (λ p. p.0 ++ p.1) (both (item (see x)) (items (map see (drop j xs))))) (sym (add-one i)) in
       bytes_step all (items (map see (drop (i + 1) xs))) (item (see x)) so_far more old now new bs notes (rw e at h)
 
-  pub items_end : (i : ℕ) (so_far : Option (List ℕ)) (old now : Option Fault) → length xs ≤ i → AreSoFar all (items (map see (drop i xs))) so_far old now → AreSoFar all (items []) so_far old now
+  pub items_end : (i : ℕ) (so_far : Option (List ℕ)) (old now : Option Fault) → length xs ≤ i → AreSoFar all (items (map see (drop i xs))) so_far old now
+      → AreSoFar all (items []) so_far old now
   items_end i so_far old now le h =
       let e : items (map see (drop i xs)) ≡ items [] = ap (λ (ys : List X). items (map see ys)) (drop_all i xs le) in rw e at h
 
-pub bytes_faults : (all : Reading (List ℕ)) (so_far : Option (List ℕ)) (old now : Option Fault) → AreSoFar all (items []) so_far old now → now ≡ noted old all.faults
+pub bytes_faults : (all : Reading (List ℕ)) (so_far : Option (List ℕ)) (old now : Option Fault) → AreSoFar all (items []) so_far old now
+    → now ≡ noted old all.faults
 bytes_faults all so_far old now h = sym (noted_none now) ∙ h.faults

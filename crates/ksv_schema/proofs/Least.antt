@@ -6,14 +6,16 @@ use Rattle.std.proofs.lemmas.Option.{same_Some}
 use Rattle.ksv_schema.specs.Faults.{Fault, noted, lesser, is_below, IsLeast}
 
 -- what isn't below a middle one isn't below one that is above it
-not_below : (a x b y d z : ℕ) → (nat_lt b a || ((b == a) && nat_lt y x)) ≡ true → (nat_lt b d || ((b == d) && nat_lt y z)) ≡ false → (nat_lt a d || ((a == d) && nat_lt x z)) ≡ false
+not_below : (a x b y d z : ℕ) → (nat_lt b a || ((b == a) && nat_lt y x)) ≡ true → (nat_lt b d || ((b == d) && nat_lt y z)) ≡ false
+    → (nat_lt a d || ((a == d) && nat_lt x z)) ≡ false
 not_below a x b y d z h k = grind (arith, nat_tests)
 
 pub below_trans : (a b d : Fault) → is_below b a ≡ true → is_below b d ≡ false → is_below a d ≡ false
 unfolding is_below
 below_trans a b d h k = not_below a.line a.number b.line b.number d.line d.number h k
 
-not_over_lem : (a x b y d z : ℕ) → (nat_lt a b || ((a == b) && nat_lt x y)) ≡ false → (nat_lt b d || ((b == d) && nat_lt y z)) ≡ false → (nat_lt a d || ((a == d) && nat_lt x z)) ≡ false
+not_over_lem : (a x b y d z : ℕ) → (nat_lt a b || ((a == b) && nat_lt x y)) ≡ false → (nat_lt b d || ((b == d) && nat_lt y z)) ≡ false
+    → (nat_lt a d || ((a == d) && nat_lt x z)) ≡ false
 not_over_lem a x b y d z h k = grind (arith, nat_tests)
 
 pub not_over : (a b d : Fault) → is_below a b ≡ false → is_below b d ≡ false → is_below a d ≡ false
@@ -60,11 +62,13 @@ among so_far f [] h =
     record { here = inl e; first = subst (λ (f : Fault). is_below so_far f ≡ false) e (below_self so_far); others = all_none (λ x. is_below x f ≡ false) }
 among so_far f (g ∷ fs) h = by_test (is_below g so_far) refl (among so_far f fs) (among g f fs)
   where
-    by_test : (b : Bool) → is_below g so_far ≡ b → (noted (Some so_far) fs ≡ Some f → Among so_far f fs) → (noted (Some g) fs ≡ Some f → Among g f fs) → Among so_far f (g ∷ fs)
+    by_test : (b : Bool) → is_below g so_far ≡ b → (noted (Some so_far) fs ≡ Some f → Among so_far f fs) → (noted (Some g) fs ≡ Some f → Among g f fs)
+        → Among so_far f (g ∷ fs)
     by_test true e keeps changes =
         let r = changes (sym (noted_cons (Some so_far) g fs ∙ ap (λ (b : Bool). noted (cond b (Some g) (Some so_far)) fs) e) ∙ h) in
         record {
-          here = inr (elim r.here [ inl same ↦ subst (λ (f : Fault). Contains (g ∷ fs) f) same (contains_first g fs) | inr there ↦ contains_more f g fs there ]);
+          here = inr (elim r.here
+              [ inl same ↦ subst (λ (f : Fault). Contains (g ∷ fs) f) same (contains_first g fs) | inr there ↦ contains_more f g fs there ]);
           first = below_trans so_far g f e r.first;
           others = all_cons (λ x. is_below x f ≡ false) g fs r.first r.others;
         }

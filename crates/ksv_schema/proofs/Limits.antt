@@ -1,6 +1,7 @@
 -- The lowest line by which there are more than a limit of some lines is, in the rising order of all of them, the first one past
 -- the limit.
-use Rattle.std.proofs.Common.{◌≡◌, ℕ, zero, suc, ◌≤◌, ◌<◌, Bool, true, false, List, [], ◌∷◌, length, Option, Some, None, refl, sym, ap, ◌∙◌, arith, cond, inl, inr, ◌⊎◌, ltb-true}
+use Rattle.std.proofs.Common.{◌≡◌, ℕ, zero, suc, ◌≤◌, ◌<◌, Bool, true, false, List, [], ◌∷◌, length, Option, Some, None, refl, sym, ap, ◌∙◌, arith, cond, inl}
+use Rattle.std.proofs.Common.{inr, ◌⊎◌, ltb-true}
 use Rattle.std.specs.Prelude.{nat_lt, nat_le, min, filter, fold, slice_index_or}
 use Rattle.std.specs.List.Sorted.{IsPermutation, IsNonDecreasing}
 use Rattle.std.proofs.lemmas.Bool.Decides.{nat_tests}
@@ -153,7 +154,8 @@ module _ (limit : ℕ) (xs ys : List ℕ) (moved : IsPermutation xs ys) (rises :
   pub line_past-some : limit < length ys → line_past limit xs ≡ Some (slice_index_or ys limit 0)
   unfolding line_past
   line_past-some lt =
-      let c = Contains-permutation ys xs (slice_index_or ys limit 0) (IsPermutation-sym xs ys moved) (limit, lt, same_at ys limit (slice_index_or ys limit 0) 0 lt) in
+      let c = Contains-permutation ys xs (slice_index_or ys limit 0) (IsPermutation-sym xs ys moved)
+      (limit, lt, same_at ys limit (slice_index_or ys limit 0) 0 lt) in
       least_is passes xs None (slice_index_or ys limit 0) c.0 (slice_index_or ys limit 0) (none_before lt) tt (is_past lt) c.1 c.2
 
   -- else none

@@ -1,5 +1,6 @@
 -- Names that are texts, and members whose names are added one after the other.
-use Rattle.std.proofs.Common.{◌≡◌, ℕ, suc, ◌+◌, ◌<◌, ◌≤◌, Bool, true, false, ◌&&◌, cond, List, [], ◌∷◌, map, length, get_or, drop, Some, None, refl, sym, ap, ◌∙◌, add-one, drop-cons}
+use Rattle.std.proofs.Common.{◌≡◌, ℕ, suc, ◌+◌, ◌<◌, ◌≤◌, Bool, true, false, ◌&&◌, cond, List, [], ◌∷◌, map, length, get_or, drop, Some, None, refl, sym, ap}
+use Rattle.std.proofs.Common.{◌∙◌, add-one, drop-cons}
 use Rattle.std.specs.List.{list_all}
 use Rattle.std.specs.Str.{is_utf8}
 use Rattle.ksv_schema_names.specs.Members.{Member}
@@ -34,25 +35,33 @@ module _ (ms : List MemberRow) (i : ℕ) (m : MemberRow) (lt : i < length ms) (i
   front : drop i ms ≡ m ∷ drop (i + 1) ms
   front = drop-cons ms i m lt ∙ ap (λ (x : MemberRow). x ∷ drop (suc i) ms) (sym is) ∙ ap (λ (j : ℕ). m ∷ drop j ms) (sym (add-one i))
 
-  pub added_step : (o p q : List (List ℕ)) (text : List ℕ) → Some text ≡ as_text (row m).name → p ≡ distinct_behind o (text ∷ []) → distinct_behind o (names_in (drop i ms)) ≡ q → distinct_behind p (names_in (drop (i + 1) ms)) ≡ q
+  pub added_step : (o p q : List (List ℕ)) (text : List ℕ) → Some text ≡ as_text (row m).name → p ≡ distinct_behind o (text ∷ [])
+      → distinct_behind o (names_in (drop i ms)) ≡ q → distinct_behind p (names_in (drop (i + 1) ms)) ≡ q
   added_step o p q text h new now =
-      ap (λ (p : List (List ℕ)). distinct_behind p (names_in (drop (i + 1) ms))) (new ∙ ap (λ (n : List ℕ). distinct_behind o (n ∷ [])) (text_is (row m).name text h).0)
+      ap (λ (p : List (List ℕ)). distinct_behind p (names_in (drop (i + 1) ms)))
+      (new ∙ ap (λ (n : List ℕ). distinct_behind o (n ∷ [])) (text_is (row m).name text h).0)
       ∙ sym (ap (λ (xs : List MemberRow). distinct_behind o (names_in xs)) front) ∙ now
 
-  pub texts_step : (b : Bool) (text : List ℕ) → Some text ≡ as_text (row m).name → b ≡ are_texts (map row (drop i ms)) → b ≡ are_texts (map row (drop (i + 1) ms))
+  pub texts_step : (b : Bool) (text : List ℕ) → Some text ≡ as_text (row m).name → b ≡ are_texts (map row (drop i ms))
+      → b ≡ are_texts (map row (drop (i + 1) ms))
   unfolding are_texts
-  texts_step b text h now = now ∙ ap (λ (xs : List MemberRow). are_texts (map row xs)) front ∙ ap (λ (c : Bool). c && are_texts (map row (drop (i + 1) ms))) (text_is (row m).name text h).1
+  texts_step b text h now = now ∙ ap (λ (xs : List MemberRow). are_texts (map row xs)) front
+      ∙ ap (λ (c : Bool). c && are_texts (map row (drop (i + 1) ms))) (text_is (row m).name text h).1
 
   pub texts_stop : (b : Bool) → None ≡ as_text (row m).name → b ≡ are_texts (map row (drop i ms)) → false ≡ b
   unfolding are_texts
-  texts_stop b h now = sym (now ∙ ap (λ (xs : List MemberRow). are_texts (map row xs)) front ∙ ap (λ (c : Bool). c && are_texts (map row (drop (i + 1) ms))) (is_no_text (row m).name h))
+  texts_stop b h now =
+      sym (now ∙ ap (λ (xs : List MemberRow). are_texts (map row xs)) front
+      ∙ ap (λ (c : Bool). c && are_texts (map row (drop (i + 1) ms))) (is_no_text (row m).name h))
 
 pub texts_end : (ms : List MemberRow) (i : ℕ) (b : Bool) → length ms ≤ i → b ≡ are_texts (map row (drop i ms)) → true ≡ b
 unfolding are_texts
 texts_end ms i b le now = sym (now ∙ ap (λ (xs : List MemberRow). are_texts (map row xs)) (drop_all i ms le))
 
 -- the members of each type are texts
-pub all_step : {S : Type 0} (see : S → List Member) (vs : List S) (i : ℕ) (v : S) → i < length vs → v ≡ get_or vs i v → (b : Bool) → are_texts (see v) ≡ true → b ≡ list_all are_texts (map see (drop i vs)) → b ≡ list_all are_texts (map see (drop (i + 1) vs))
+pub all_step : {S : Type 0} (see : S → List Member) (vs : List S) (i : ℕ) (v : S) → i < length vs → v ≡ get_or vs i v → (b : Bool) → are_texts (see v) ≡ true
+    → b ≡ list_all are_texts (map see (drop i vs)) → b ≡ list_all are_texts (map see (drop (i + 1) vs))
 all_step see vs i v lt is b t now =
-    let front : drop i vs ≡ v ∷ drop (i + 1) vs = drop-cons vs i v lt ∙ ap (λ (x : _). x ∷ drop (suc i) vs) (sym is) ∙ ap (λ (j : ℕ). v ∷ drop j vs) (sym (add-one i)) in
+    let front : drop i vs ≡ v ∷ drop (i + 1) vs = drop-cons vs i v lt ∙ ap (λ (x : _). x ∷ drop (suc i) vs) (sym is)
+    ∙ ap (λ (j : ℕ). v ∷ drop j vs) (sym (add-one i)) in
     now ∙ ap (λ (xs : List _). list_all are_texts (map see xs)) front ∙ ap (λ (c : Bool). c && list_all are_texts (map see (drop (i + 1) vs))) t

@@ -37,12 +37,16 @@ no_text = is_utf8-from_IsUtf8 [] (IsUtf8-from_ascii [] IsAscii-nil)
 unnamed_is_text : (role : Role) (k : ℕ) → is_utf8 (unnamed role k) ≡ true
 unnamed_is_text Parameter k = no_text
 unnamed_is_text Instance k = no_text
-unnamed_is_text Attribute k = is_utf8-from_IsUtf8 _ (IsUtf8-append (codes "_unnamed") (decimal k) (IsUtf8-from_ascii _ (IsAscii-from_all (codes "_unnamed") (search known_rules))) (digits-IsUtf8 10 false k (omega arith) (omega arith)))
+unnamed_is_text Attribute k = is_utf8-from_IsUtf8 _
+    (IsUtf8-append (codes "_unnamed") (decimal k) (IsUtf8-from_ascii _ (IsAscii-from_all (codes "_unnamed") (search known_rules)))
+    (digits-IsUtf8 10 false k (omega arith) (omega arith)))
 
 -- the id at a key, or another text
-id_or : (kind : MappingKind) (es : List Pair) (other : List ℕ) → form_in kind (codes "id") ≡ Some forms.Id → keys_faults kind es ≡ [] → is_utf8 other ≡ true → is_utf8 (unwrap_or (text_at (codes "id") es) other) ≡ true
+id_or : (kind : MappingKind) (es : List Pair) (other : List ℕ) → form_in kind (codes "id") ≡ Some forms.Id → keys_faults kind es ≡ [] → is_utf8 other ≡ true
+    → is_utf8 (unwrap_or (text_at (codes "id") es) other) ≡ true
 unfolding is_ignored form_faults
-id_or kind es other f k u = go (text_at (codes "id") es) (λ text t. id_is_text text (text_fits kind (codes "id") forms.Id is_id bad_value es text (λ p. refl) refl f k t))
+id_or kind es other f k u = go (text_at (codes "id") es)
+    (λ text t. id_is_text text (text_fits kind (codes "id") forms.Id is_id bad_value es text (λ p. refl) refl f k t))
   where
     go : (o : Option (List ℕ)) → ((text : List ℕ) → o ≡ Some text → is_utf8 text ≡ true) → is_utf8 (unwrap_or o other) ≡ true
     go None t = u
@@ -62,7 +66,9 @@ key_own : (p : Pair) → Each HasOwnName (members_at_key p)
 unfolding members_at_key
 key_own p = go (bytes_eq p.key (codes "params")) (bytes_eq p.key (codes "seq")) (bytes_eq p.key (codes "instances"))
   where
-    go : (a b c : Bool) → Each HasOwnName (cond a (items_from Parameter 0 (unwrap_or (list_of p.value) [])) (cond b (items_from Attribute 0 (unwrap_or (list_of p.value) [])) (cond c (map instance (unwrap_or (mapping_of p.value) [])) [])))
+    go : (a b c : Bool) → Each HasOwnName
+        (cond a (items_from Parameter 0 (unwrap_or (list_of p.value) []))
+        (cond b (items_from Attribute 0 (unwrap_or (list_of p.value) [])) (cond c (map instance (unwrap_or (mapping_of p.value) [])) [])))
     go true b c = items_own Parameter 0 (unwrap_or (list_of p.value) [])
     go false true c = items_own Attribute 0 (unwrap_or (list_of p.value) [])
     go false false true = each_mapped HasOwnName instance (unwrap_or (mapping_of p.value) []) (λ p e. absurd cc)
@@ -77,7 +83,8 @@ members_own r = of_keys (keys_of r)
     of_keys (p ∷ ps) = each_and HasOwnName (members_at_key p) (flat_map members_at_key ps) (key_own p) (of_keys ps)
 
 -- the name of a member without faults is a text
-pub name_is_text : (role : Role) (name : List ℕ) (t : Tree) (es : List Pair) → HasOwnName (record { role = role; line = 0; name = name; value = t }) → (is_instance role && not (is_id name)) ≡ false → mapping_of t ≡ Some es → keys_faults (kind_of role es) es ≡ [] → is_utf8 name ≡ true
+pub name_is_text : (role : Role) (name : List ℕ) (t : Tree) (es : List Pair) → HasOwnName (record { role = role; line = 0; name = name; value = t })
+    → (is_instance role && not (is_id name)) ≡ false → mapping_of t ≡ Some es → keys_faults (kind_of role es) es ≡ [] → is_utf8 name ≡ true
 unfolding form_in form_among
 name_is_text Instance name t es own i e k = id_is_text name (not-false (is_id name) i)
 name_is_text Parameter name t es own i e k = let n = own refl in rw (n.1, e) (id_or kinds.Parameter es _ refl k (unnamed_is_text Parameter n.0))
@@ -105,7 +112,8 @@ module _ (r : Row) where
 
     key_keeps : (n : ℕ) (es : Entries) (rows : List Row) → IsFirst rows → IsFirst (with_key n es rows)
     key_keeps n no_entries rows h = h
-    key_keeps n (entry line key value es) rows h = either (bytes_eq key (codes "types")) (with_named n value rows) (with_key n es rows) (named_keep n value rows h) (key_keeps n es rows h)
+    key_keeps n (entry line key value es) rows h = either (bytes_eq key (codes "types")) (with_named n value rows) (with_key n es rows)
+        (named_keep n value rows h) (key_keeps n es rows h)
 
     named_keep : (n : ℕ) (t : Tree) (rows : List Row) → IsFirst rows → IsFirst (with_named n t rows)
     named_keep n (Map _ es) rows h = each_keeps n es rows h
@@ -123,7 +131,11 @@ AreTyped rs = Each (λ r. is_utf8 r.id ≡ true) rs
 later_texts : (n : ℕ) (rs : List Row) → all_types_faults (n + 1) rs ≡ [] → AreTyped rs
 unfolding type_faults
 later_texts n [] k = tt
-later_texts n (r ∷ rs) k = (id_is_text r.id (later n (is_id r.id) (not_if (not (n + 1 == 0) && not (is_id r.id)) r.line bad_value (back _ _ (front _ _ k)))), later_texts (n + 1) rs (back _ _ k))
+later_texts n (r ∷ rs) k = (
+  id_is_text r.id (later n (is_id r.id) (not_if (not (n + 1 == 0) && not (is_id r.id)) r.line bad_value (back _ _ (front _ _ k)))),
+  later_texts (n + 1) rs
+      (back _ _ k),
+)
   where
     later : (n : ℕ) (b : Bool) → (not (n + 1 == 0) && not b) ≡ false → b ≡ true
     later n b h = grind (arith, nat_tests)
@@ -137,4 +149,5 @@ ids_are_texts t k = go (with_types 0 t (root_row t ∷ [])) (types_keep (root_ro
 
     go : (rows : List Row) → IsFirst (root_row t) rows → all_types_faults 0 rows ≡ [] → AreTyped rows
     go [] h k = tt
-    go (r ∷ rs) h k = let same : root_row t ≡ r = cc in subst (λ (r : Row). type_faults 0 r ≡ [] → AreTyped (r ∷ rs)) same (λ k1. (root_text k1, later_texts 0 rs (back _ _ k))) (front _ _ k)
+    go (r ∷ rs) h k = let same : root_row t ≡ r = cc in subst (λ (r : Row). type_faults 0 r ≡ [] → AreTyped (r ∷ rs)) same
+        (λ k1. (root_text k1, later_texts 0 rs (back _ _ k))) (front _ _ k)

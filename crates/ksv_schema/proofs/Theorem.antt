@@ -56,7 +56,8 @@ neither_below : (f g : Fault) → is_below f g ≡ false → is_below g f ≡ fa
 unfolding is_below
 neither_below f g h k =
     let s = same_pair f.line f.number g.line g.number h k in
-    ap (λ (n : ℕ). let x : Fault = record { line = n; number = f.number } in x) s.0 ∙ ap (λ (n : ℕ). let x : Fault = record { line = g.line; number = n } in x) s.1
+    ap (λ (n : ℕ). let x : Fault = record { line = n; number = f.number } in x) s.0
+    ∙ ap (λ (n : ℕ). let x : Fault = record { line = g.line; number = n } in x) s.1
 
 of_all : (f g : Fault) (fs : List Fault) → All (λ x. is_below x f ≡ false) fs → Contains fs g → is_below g f ≡ false
 of_all f g fs all (k, below, is) = subst (λ (x : Fault). is_below x f ≡ false) is (all k g below)

@@ -26,16 +26,19 @@ use Rattle.ksv_desc.specs.Names.{distinct_behind}
 use Rattle.ksv_desc.specs.Description.{Description, Numbered, Enum}
 use Rattle.ksv_desc.specs.Resolved.{IsThere, IsMemberOf}
 use Rattle.ksv_desc.proofs.Tabled.{is_table}
-use Rattle.ksv_schema.proofs.Good.{front, back, IsGood, gives_good, wrong_good, also_good, made_good, both_good, if_good, or_good, must_good, text_good, mapping_good, there_map, there_bind, EachOf, each_at, each_there, each_good, each_from_good}
+use Rattle.ksv_schema.proofs.Good.{front, back, IsGood, gives_good, wrong_good, also_good, made_good, both_good, if_good, or_good, must_good, text_good}
+use Rattle.ksv_schema.proofs.Good.{mapping_good, there_map, there_bind, EachOf, each_at, each_there, each_good, each_from_good}
 use Rattle.ksv_schema.proofs.FaultlessKeys.{text_fits, meta_faultless}
 use Rattle.ksv_schema.proofs.Fields.{AreEncodings}
 
 -- ---- encodings in force
 
 -- the encoding that a type without faults sets
-type_encoding : (n : ℕ) (r : Row) (text : List ℕ) → type_faults n r ≡ [] → text_at (codes "encoding") (entries_at (codes "meta") (keys_of r)) ≡ Some text → is_some (encoding_named text) ≡ true
+type_encoding : (n : ℕ) (r : Row) (text : List ℕ) → type_faults n r ≡ [] → text_at (codes "encoding") (entries_at (codes "meta") (keys_of r)) ≡ Some text
+    → is_some (encoding_named text) ≡ true
 unfolding is_ignored form_faults form_in form_among
-type_encoding n r text k t = text_fits (cond (is_root n) kinds.RootMeta kinds.Meta) (codes "encoding") forms.Coding (λ text. is_some (encoding_named text)) left_out _ text (λ p. refl) refl (coded (is_root n)) (meta_faultless n r k) t
+type_encoding n r text k t = text_fits (cond (is_root n) kinds.RootMeta kinds.Meta) (codes "encoding") forms.Coding (λ text. is_some (encoding_named text))
+    left_out _ text (λ p. refl) refl (coded (is_root n)) (meta_faultless n r k) t
   where
     coded : (b : Bool) → form_in (cond b kinds.RootMeta kinds.Meta) (codes "encoding") ≡ Some forms.Coding
     coded true = refl
@@ -52,7 +55,8 @@ are_encodings d k n text e =
     let r = is_bound (setting (codes "encoding") d.types) _ text e in
     go (slice_get d.types r.0) (faultless_at 0 d.types r.0) r.2
   where
-    go : (o : Option Row) → ((r : Row) → all_types_faults 0 d.types ≡ [] → o ≡ Some r → (n : ℕ) × (type_faults n r ≡ [])) → text_at (codes "encoding") (entries_at (codes "meta") (option_map_or keys_of o [])) ≡ Some text → is_some (encoding_named text) ≡ true
+    go : (o : Option Row) → ((r : Row) → all_types_faults 0 d.types ≡ [] → o ≡ Some r → (n : ℕ) × (type_faults n r ≡ []))
+        → text_at (codes "encoding") (entries_at (codes "meta") (option_map_or keys_of o [])) ≡ Some text → is_some (encoding_named text) ≡ true
     go None f t = absurd cc
     go (Some r) f t = let g = f r k refl in type_encoding g.0 r text g.1 t
 
@@ -69,12 +73,15 @@ abbrev Exists : {A : Type 0} → Option A → Type 0
 Exists o = IsThere (λ x. Unit {0}) o
 
 -- the number of an entry is one of those that are read
-number_stated : (test : Pair → Bool) (n : ℕ) (cs : List Pair) (ms : List Numbered) (c : Pair) (z : ℤ) → EachOf (λ i. HasNumber) n cs ms → find test cs ≡ Some c → number_of c ≡ Some z → Exists (find (λ m. int_eq z m.number) ms)
+number_stated : (test : Pair → Bool) (n : ℕ) (cs : List Pair) (ms : List Numbered) (c : Pair) (z : ℤ) → EachOf (λ i. HasNumber) n cs ms → find test cs ≡ Some c
+    → number_of c ≡ Some z → Exists (find (λ m. int_eq z m.number) ms)
 number_stated test n [] ms c z s f e = absurd cc
 number_stated test n (y ∷ ys) [] c z s f e = absurd s
 number_stated test n (y ∷ ys) (m ∷ ms) c z s f e = go (test y) (int_eq z m.number) refl f (number_stated test (n + 1) ys ms c z s.1)
   where
-    go : (b same : Bool) → int_eq z m.number ≡ same → cond b (Some y) (find test ys) ≡ Some c → (find test ys ≡ Some c → number_of c ≡ Some z → Exists (find (λ m. int_eq z m.number) ms)) → Exists (cond same (Some m) (find (λ m. int_eq z m.number) ms))
+    go : (b same : Bool) → int_eq z m.number ≡ same → cond b (Some y) (find test ys) ≡ Some c
+        → (find test ys ≡ Some c → number_of c ≡ Some z → Exists (find (λ m. int_eq z m.number) ms))
+        → Exists (cond same (Some m) (find (λ m. int_eq z m.number) ms))
     go b true q f later = tt
     go true false q f later =
         let same : y ≡ c = cc in
@@ -84,16 +91,19 @@ number_stated test n (y ∷ ys) (m ∷ ms) c z s f e = go (test y) (int_eq z m.n
     go false false q f later = later f e
 
 -- a member of an enum that is found is one of those that are read
-pub member_stated : (enums : List Row) (x : Description) → EachOf (λ i. HasNumbers) 0 enums x.enums → (e : ℕ) (id : List ℕ) (z : ℤ) → number_of_id enums e id ≡ Some z → IsMemberOf x (enum_member e z)
+pub member_stated : (enums : List Row) (x : Description) → EachOf (λ i. HasNumbers) 0 enums x.enums → (e : ℕ) (id : List ℕ) (z : ℤ)
+    → number_of_id enums e id ≡ Some z → IsMemberOf x (enum_member e z)
 unfolding number_of_id keys_at
 member_stated enums x s e id z h = at (slice_get enums e) refl h
   where
-    at : (o : Option Row) → slice_get enums e ≡ o → option_and_then number_of (find (is_named id) (option_map_or keys_of o [])) ≡ Some z → IsMemberOf x (enum_member e z)
+    at : (o : Option Row) → slice_get enums e ≡ o → option_and_then number_of (find (is_named id) (option_map_or keys_of o [])) ≡ Some z
+        → IsMemberOf x (enum_member e z)
     at None g h = absurd cc
     at (Some r) g h =
         let c = is_bound number_of (find (is_named id) (keys_of r)) z h in
         there_bind (λ (y : Enum). (k : ℕ) × HasNumbers r y) (λ (id : List ℕ). Unit {0}) _ (slice_get x.enums e)
-        (λ y n. there_map (λ (m : Numbered). Unit {0}) (λ (id : List ℕ). Unit {0}) (λ m. m.id) (find (λ m. int_eq z m.number) y.members) (λ m u. tt) (number_stated (is_named id) 0 (keys_of r) y.members c.0 z n.1 c.1 c.2))
+        (λ y n. there_map (λ (m : Numbered). Unit {0}) (λ (id : List ℕ). Unit {0}) (λ m. m.id) (find (λ m. int_eq z m.number) y.members) (λ m u. tt)
+        (number_stated (is_named id) 0 (keys_of r) y.members c.0 z n.1 c.1 c.2))
         (each_at (λ i. HasNumbers) 0 enums x.enums e r s g)
 
 module _ (names : List (List ℕ)) where
@@ -109,7 +119,9 @@ module _ (names : List (List ℕ)) where
   unfolding entry_id
   entry_id_good p =
       or_good (id_text p.line) (text_of p.value) _ (λ text t. id_good p.line text)
-      (λ t. mapping_good _ p (λ es. also_good _ _ (λ k. must_good (line_of p.value) id (entry_at (codes "id") es) (λ p. text_good (id_text p.line) p (λ text t. id_good p.line text)))))
+      (λ t. mapping_good _ p
+      (λ es. also_good _ _
+      (λ k. must_good (line_of p.value) id (entry_at (codes "id") es) (λ p. text_good (id_text p.line) p (λ text t. id_good p.line text)))))
 
   constant_good : (before : List Pair) (p : Pair) → IsGood names (HasNumber p) (constant before p)
   unfolding constant number_of
@@ -118,7 +130,9 @@ module _ (names : List (List ℕ)) where
   enum_good : (r : Row) → IsGood names (HasNumbers r) (enum r)
   enum_good r =
       made_good _
-      (both_good (id_good r.line r.id) (also_good _ _ (λ k. each_from_good (λ p. Unit {0}) (λ i. constant (take i (keys_of r))) 0 (keys_of r) (each_there (keys_of r)) (λ i p u. constant_good (take i (keys_of r)) p))))
+      (both_good (id_good r.line r.id)
+      (also_good _ _ (λ k. each_from_good (λ p. Unit {0}) (λ i. constant (take i (keys_of r))) 0 (keys_of r) (each_there (keys_of r))
+      (λ i p u. constant_good (take i (keys_of r)) p))))
       (λ p g. g.1)
 
 -- whatever the names are

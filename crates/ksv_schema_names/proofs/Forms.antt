@@ -17,11 +17,13 @@ use Rattle.ksv_schema_names.specs.Members.{member_named}
 use Rattle.ksv_schema_names.specs.declared.position.NameFault.{NameFault}
 use Rattle.ksv_schema_names.specs.declared.position.NameFault.TheVariants.{Unknown}
 use Rattle.ksv_schema_names.specs.declared.position.Position.{Position}
-use Rattle.ksv_schema_names.specs.Names.{Behind, Dot, Other, part_faults, list_faults, wrong_if, special_faults, special_field_faults, is_member, cast_faults, is_call, least}
+use Rattle.ksv_schema_names.specs.Names.{Behind, Dot, Other, part_faults, list_faults, wrong_if, special_faults, special_field_faults, is_member, cast_faults}
+use Rattle.ksv_schema_names.specs.Names.{is_call, least}
 use Rattle.ksv_desc.specs.Resolved.{count}
 use Rattle.ksv_schema_names.specs.Code.{faults_at}
 use Rattle.ksv_schema_names.proofs.Noted.{least_then}
-use Rattle.ksv_desc.proofs.Views.{view_literal, view_name, view_special, view_member, view_unary, view_binary, view_logical, view_choice, view_field, view_special_field, view_call, view_index, view_cast}
+use Rattle.ksv_desc.proofs.Views.{view_literal, view_name, view_special, view_member, view_unary, view_binary, view_logical, view_choice, view_field}
+use Rattle.ksv_desc.proofs.Views.{view_special_field, view_call, view_index, view_cast}
 
 -- the faults of arguments, one after the other
 pub list_flat : (d : Declared) (n : ℕ) (p : Position) (ts : List Tree) → list_faults d n p (arguments_of ts) ≡ flat_map (part_faults d n p Other) ts
@@ -62,7 +64,8 @@ module _ (d : Declared) (n : ℕ) (p : Position) (b : Behind) where
   unfolding faults_at part_faults
   of_logical op q r e f = ap (part_faults d n p b) (view_logical op q r e f)
 
-  pub of_choice : (q r s : _) (e f g : Expr) → faults_at d n p b (Choice' q e r f s g) ≡ faults_at d n p Other e ++ faults_at d n p Other f ++ faults_at d n p Other g
+  pub of_choice : (q r s : _) (e f g : Expr) → faults_at d n p b (Choice' q e r f s g) ≡ faults_at d n p Other e ++ faults_at d n p Other f
+      ++ faults_at d n p Other g
   unfolding faults_at part_faults
   of_choice q r s e f g = ap (part_faults d n p b) (view_choice q r s e f g)
 
@@ -74,14 +77,19 @@ module _ (d : Declared) (n : ℕ) (p : Position) (b : Behind) where
   unfolding faults_at part_faults
   of_special_field q e s = ap (part_faults d n p b) (view_special_field q e s)
 
-  pub of_call : (a : Box Expr Global) (m : String Global) (es : Vec Expr Global) → faults_at d n p b (made.Call a m es) ≡ wrong_if (not (is_call (string_bytes m) (length es.items))) Unknown ++ faults_at d n p Other a.value ++ list_faults d n p (arguments_of (map view es.items))
+  pub of_call : (a : Box Expr Global) (m : String Global) (es : Vec Expr Global)
+      → faults_at d n p b (made.Call a m es) ≡ wrong_if (not (is_call (string_bytes m) (length es.items))) Unknown ++ faults_at d n p Other a.value
+      ++ list_faults d n p (arguments_of (map view es.items))
   unfolding faults_at part_faults
   of_call a m es =
       ap (part_faults d n p b) (view_call a m es)
-      ∙ ap (λ (k : ℕ). wrong_if (not (is_call (string_bytes m) k)) Unknown ++ faults_at d n p Other a.value ++ list_faults d n p (arguments_of (map view es.items))) (count_map es.items)
+      ∙ ap (λ (k : ℕ). wrong_if (not (is_call (string_bytes m) k)) Unknown ++ faults_at d n p Other a.value
+      ++ list_faults d n p (arguments_of (map view es.items))) (count_map es.items)
 
   -- a call whose parts were noted one after the other
-  pub noted_call : (o x y z : Option NameFault) (e : Expr) (a : Box Expr Global) (m : String Global) (es : Vec Expr Global) → e ≡ made.Call a m es → x ≡ least o (wrong_if (not (is_call (string_bytes m) (length es.items))) Unknown) → y ≡ least x (faults_at d n p Other a.value) → z ≡ least y (list_faults d n p (arguments_of (map view es.items))) → z ≡ least o (faults_at d n p b e)
+  pub noted_call : (o x y z : Option NameFault) (e : Expr) (a : Box Expr Global) (m : String Global) (es : Vec Expr Global) → e ≡ made.Call a m es
+      → x ≡ least o (wrong_if (not (is_call (string_bytes m) (length es.items))) Unknown) → y ≡ least x (faults_at d n p Other a.value)
+      → z ≡ least y (list_faults d n p (arguments_of (map view es.items))) → z ≡ least o (faults_at d n p b e)
   noted_call o x y z e a m es is named object all =
       least_then o y z _ _ (least_then o x y _ _ named object) all ∙ sym (ap (λ (f : Expr). least o (faults_at d n p b f)) is ∙ ap (least o) (of_call a m es))
 

@@ -1,5 +1,6 @@
 -- What is found leads somewhere: places in lists, types, names, enums' members.
-use Rattle.std.proofs.Common.{◌≡◌, ℕ, zero, suc, ◌+◌, ◌<◌, Bool, true, false, cond, ◌&&◌, List, [], ◌∷◌, ◌++◌, map, length, Option, Some, None, is_some, is_none, slice_get, option_and_then, refl, sym, ap, ◌∙◌, arith}
+use Rattle.std.proofs.Common.{◌≡◌, ℕ, zero, suc, ◌+◌, ◌<◌, Bool, true, false, cond, ◌&&◌, List, [], ◌∷◌, ◌++◌, map, length, Option, Some, None, is_some}
+use Rattle.std.proofs.Common.{is_none, slice_get, option_and_then, refl, sym, ap, ◌∙◌, arith}
 use Rattle.std.specs.List.{position_from, list_all}
 use Rattle.std.specs.Option.{option_map_or}
 use Rattle.std.specs.Str.{bytes_eq}
@@ -42,7 +43,8 @@ pub record IsPlace {A : Type 0} (t : A → Bool) (i : ℕ) (xs : List A) (k : �
   pub there : slice_get xs offset ≡ Some item
   pub passes : t item ≡ true
 
-by_test : {A : Type 0} (t : A → Bool) (i : ℕ) (x : A) (xs : List A) (k : ℕ) → (position_from t (i + 1) xs ≡ Some k → IsPlace t (i + 1) xs k) → (b : Bool) → t x ≡ b → cond b (Some i) (position_from t (i + 1) xs) ≡ Some k → IsPlace t i (x ∷ xs) k
+by_test : {A : Type 0} (t : A → Bool) (i : ℕ) (x : A) (xs : List A) (k : ℕ) → (position_from t (i + 1) xs ≡ Some k → IsPlace t (i + 1) xs k) → (b : Bool)
+    → t x ≡ b → cond b (Some i) (position_from t (i + 1) xs) ≡ Some k → IsPlace t i (x ∷ xs) k
 by_test t i x xs k later true passes found =
     let same : i ≡ k = cc in
     record { offset = 0; is = omega arith; item = x; there = refl; passes = passes }
@@ -76,7 +78,8 @@ nearest_within types rows name n k h = let m = is_bound (row_in rows name) _ k h
 
 along_within : (types : List Row) (n : ℕ) (path : List (List ℕ)) (k : ℕ) → n < length types → type_along types n path ≡ Some k → k < length types
 along_within types n [] k below h = let same : n ≡ k = cc in omega arith
-along_within types n (name ∷ names) k below h = let m = is_bound (λ m. type_along types m names) (row_in types name n) k h in along_within types m.0 names k (row_within types name n m.0 m.1) m.2
+along_within types n (name ∷ names) k below h = let m =
+    is_bound (λ m. type_along types m names) (row_in types name n) k h in along_within types m.0 names k (row_within types name n m.0 m.1) m.2
 
 pub type_within : (types : List Row) (n : ℕ) (path : List (List ℕ)) (k : ℕ) → type_named types n path ≡ Some k → k < length types
 unfolding type_named

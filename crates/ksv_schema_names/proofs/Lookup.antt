@@ -1,5 +1,6 @@
 -- Names that are looked up.
-use Rattle.std.proofs.Common.{◌≡◌, ◌∙◌, ap, sym, refl, ℕ, zero, suc, ◌+◌, ◌<◌, Bool, true, false, cond, length, List, [], ◌∷◌, ◌++◌, map, Option, Some, append_assoc, arith}
+use Rattle.std.proofs.Common.{◌≡◌, ◌∙◌, ap, sym, refl, ℕ, zero, suc, ◌+◌, ◌<◌, Bool, true, false, cond, length, List, [], ◌∷◌, ◌++◌, map, Option, Some}
+use Rattle.std.proofs.Common.{append_assoc, arith}
 use Rattle.std.specs.Prelude.{find, filter, count_by}
 use Rattle.std.specs.Option.{option_map_or}
 use Rattle.std.proofs.lemmas.List.{append-nil, map-append}
@@ -11,24 +12,30 @@ use Rattle.ksv_schema_names.specs.View.{member_of}
 use Rattle.ksv_schema_names.specs.Types.{outer_of, around, enum_behind, enum_from}
 
 -- the last name of a path is that of the enum
-last_name : (types enums : List Row) (n : ℕ) (before path : List (List ℕ)) (name : List ℕ) → enum_from types enums n before (path ++ name ∷ []) ≡ enum_behind types enums n (before ++ path) name
+last_name : (types enums : List Row) (n : ℕ) (before path : List (List ℕ)) (name : List ℕ)
+    → enum_from types enums n before (path ++ name ∷ []) ≡ enum_behind types enums n (before ++ path) name
 last_name types enums n before [] name = ap (λ (p : List (List ℕ)). enum_behind types enums n p name) (sym (append-nil before))
 last_name types enums n before (first ∷ []) name = refl
 last_name types enums n before (first ∷ next ∷ path) name =
-    last_name types enums n (before ++ first ∷ []) (next ∷ path) name ∙ ap (λ (p : List (List ℕ)). enum_behind types enums n p name) (append_assoc before (first ∷ []) (next ∷ path))
+    last_name types enums n (before ++ first ∷ []) (next ∷ path) name
+    ∙ ap (λ (p : List (List ℕ)). enum_behind types enums n p name) (append_assoc before (first ∷ []) (next ∷ path))
 
-pub last_named : {S : Type 0} (see : S → List ℕ) (types enums : List Row) (n : ℕ) (path before : List S) (last : S) → path ≡ before ++ last ∷ [] → enum_from types enums n [] (map see path) ≡ enum_behind types enums n (map see before) (see last)
+pub last_named : {S : Type 0} (see : S → List ℕ) (types enums : List Row) (n : ℕ) (path before : List S) (last : S) → path ≡ before ++ last ∷ []
+    → enum_from types enums n [] (map see path) ≡ enum_behind types enums n (map see before) (see last)
 last_named see types enums n path before last is =
-    ap (λ (p : List _). enum_from types enums n [] (map see p)) is ∙ ap (enum_from types enums n []) (map-append see before (last ∷ [])) ∙ last_name types enums n [] (map see before) (see last)
+    ap (λ (p : List _). enum_from types enums n [] (map see p)) is ∙ ap (enum_from types enums n []) (map-append see before (last ∷ []))
+    ∙ last_name types enums n [] (map see before) (see last)
 
 -- one type further outwards
-pub further : (types : List Row) (p : ℕ → Bool) (left step size at m : ℕ) (whole : Option ℕ) → left + step ≡ size → step < size → false ≡ p at → Some m ≡ outer_of types at → find p (around left types at) ≡ whole
+pub further : (types : List Row) (p : ℕ → Bool) (left step size at m : ℕ) (whole : Option ℕ) → left + step ≡ size → step < size → false ≡ p at
+    → Some m ≡ outer_of types at → find p (around left types at) ≡ whole
     → (k : ℕ) × (k + (step + 1) ≡ size) × (find p (around k types m) ≡ whole)
 further types p zero step size at m whole e lt not_here out h = absurd (omega arith)
 further types p (suc k) step size at m whole e lt not_here out h = (
   k,
   omega arith,
-  ap (λ (o : Option ℕ). find p (option_map_or (around k types) o [])) out ∙ ap (λ (b : Bool). cond b (Some at) (find p (option_map_or (around k types) (outer_of types at) []))) not_here ∙ h,
+  ap (λ (o : Option ℕ). find p (option_map_or (around k types) o [])) out
+      ∙ ap (λ (b : Bool). cond b (Some at) (find p (option_map_or (around k types) (outer_of types at) []))) not_here ∙ h,
 )
 
 -- ---- members of a type
@@ -38,7 +45,8 @@ as_many [] = refl
 as_many (m ∷ ms) = go (is_in_params m.role) (as_many ms)
   where
     go : (b : Bool) → length (filter (λ (m : MemberOfCode). is_in_params m.role) ms) ≡ length (filter is_parameter (map member_of ms))
-        → length (cond b (m ∷ filter (λ (m : MemberOfCode). is_in_params m.role) ms) (filter (λ (m : MemberOfCode). is_in_params m.role) ms)) ≡ length (cond b (member_of m ∷ filter is_parameter (map member_of ms)) (filter is_parameter (map member_of ms)))
+        → length (cond b (m ∷ filter (λ (m : MemberOfCode). is_in_params m.role) ms) (filter (λ (m : MemberOfCode). is_in_params m.role) ms))
+        ≡ length (cond b (member_of m ∷ filter is_parameter (map member_of ms)) (filter is_parameter (map member_of ms)))
     go true later = ap suc later
     go false later = later
 

@@ -1,5 +1,6 @@
 -- The least fault, of one part after the other.
-use Rattle.std.proofs.Common.{◌≡◌, ℕ, suc, if◌then◌else◌, ◌+◌, ◌<◌, ◌≤◌, List, [], ◌∷◌, ◌++◌, Option, Some, map, length, get_or, drop, refl, sym, ap, ◌∙◌, add-one, drop-cons}
+use Rattle.std.proofs.Common.{◌≡◌, ℕ, suc, if◌then◌else◌, ◌+◌, ◌<◌, ◌≤◌, List, [], ◌∷◌, ◌++◌, Option, Some, map, length, get_or, drop, refl, sym, ap, ◌∙◌}
+use Rattle.std.proofs.Common.{add-one, drop-cons}
 use Rattle.std.specs.List.{flat_map, list_any}
 use Rattle.std.proofs.lemmas.List.{drop_all}
 use Rattle.std.proofs.lemmas.List.Sums.{fold-append}
@@ -25,7 +26,8 @@ pub ruleset steps = (least_none, least_append)
 -- ---- a loop over parts
 
 module _ {X A : Type 0} (see : X → A) (f : A → List NameFault) (xs : List X) where
-  pub least_step : (i : ℕ) (x : X) (o p q : Option NameFault) → i < length xs → x ≡ get_or xs i x → p ≡ least o (f (see x)) → least o (flat_map f (map see (drop i xs))) ≡ q → least p (flat_map f (map see (drop (i + 1) xs))) ≡ q
+  pub least_step : (i : ℕ) (x : X) (o p q : Option NameFault) → i < length xs → x ≡ get_or xs i x → p ≡ least o (f (see x))
+      → least o (flat_map f (map see (drop i xs))) ≡ q → least p (flat_map f (map see (drop (i + 1) xs))) ≡ q
   least_step i x o p q lt is new now =
       ap (λ (j : ℕ). least p (flat_map f (map see (drop j xs)))) (add-one i)
       ∙ ap (λ (p : Option NameFault). least p (flat_map f (map see (drop (suc i) xs)))) (new ∙ ap (λ (y : X). least o (f (see y))) is)

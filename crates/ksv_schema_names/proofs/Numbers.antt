@@ -13,10 +13,12 @@ use Rattle.ksv_expr_tree.specs.declared.tree.UnaryOperator.{UnaryOperator}
 use Rattle.ksv_expr_tree.specs.declared.tree.BinaryOperator.{BinaryOperator}
 use Rattle.ksv_expr_tree.specs.declared.tree.LogicalOperator.{LogicalOperator}
 use Rattle.ksv_expr_tree.specs.declared.tree.EnumMember.{EnumMember}
-use Rattle.ksv_expr_tree.specs.Tree.{Tree, MemberPath, view, name_of, path_of, member_of, arguments_of, argument, named, member, unary, binary, logical, choice, field, special_field, call, index, cast}
+use Rattle.ksv_expr_tree.specs.Tree.{Tree, MemberPath, view, name_of, path_of, member_of, arguments_of, argument, named, member, unary, binary, logical, choice}
+use Rattle.ksv_expr_tree.specs.Tree.{field, special_field, call, index, cast}
 use Rattle.ksv_schema_names.specs.Rows.{Declared}
 use Rattle.ksv_schema_names.specs.Numbered.{numbered, all_numbered, numbered_word, numbered_type, numbered_member, given_member}
-use Rattle.ksv_desc.proofs.Views.{view_literal, view_name, view_special, view_member, view_unary, view_binary, view_logical, view_choice, view_field, view_special_field, view_call, view_index, view_cast}
+use Rattle.ksv_desc.proofs.Views.{view_literal, view_name, view_special, view_member, view_unary, view_binary, view_logical, view_choice, view_field}
+use Rattle.ksv_desc.proofs.Views.{view_special_field, view_call, view_index, view_cast}
 
 -- a name, a type's name or a member that lay in the expression
 pub piece : {A B : Type 0} (see : A → B) (f : B → B) (x y : A) → x ≡ y → (new : A) → see new ≡ f (see x) → see new ≡ f (see y)
@@ -31,7 +33,8 @@ given_is d n m g is = ap (with_given m) is
 
 module _ (d : Declared) (s : List (List ℕ)) (n : ℕ) where
   -- a part that lay in a box
-  pub part : (new now : Expr) (b b' : Box Expr Global) → view new ≡ numbered d s n (view now) → now ≡ b.value → b ≡ b' → view new ≡ numbered d s n (view b'.value)
+  pub part : (new now : Expr) (b b' : Box Expr Global) → view new ≡ numbered d s n (view now) → now ≡ b.value → b ≡ b'
+      → view new ≡ numbered d s n (view b'.value)
   part new now b b' there lent is = there ∙ ap (λ (e : Expr). numbered d s n (view e)) (lent ∙ ap (λ (x : Box Expr Global). x.value) is)
 
   pub literal_numbered : (l : Literal) → view (made.Literal l) ≡ numbered d s n (view (made.Literal l))
@@ -50,57 +53,72 @@ module _ (d : Declared) (s : List (List ℕ)) (n : ℕ) where
   unfolding numbered
   member_numbered v w is = view_member w ∙ ap member is ∙ sym (ap (numbered d s n) (view_member v))
 
-  pub unary_numbered : (op : UnaryOperator) (p p' : _) (a a' : Expr) → view a' ≡ numbered d s n (view a) → view (Unary' op p' a') ≡ numbered d s n (view (Unary' op p a))
+  pub unary_numbered : (op : UnaryOperator) (p p' : _) (a a' : Expr) → view a' ≡ numbered d s n (view a)
+      → view (Unary' op p' a') ≡ numbered d s n (view (Unary' op p a))
   unfolding numbered
   unary_numbered op p p' a a' is = view_unary op p' a' ∙ ap (unary op) is ∙ sym (ap (numbered d s n) (view_unary op p a))
 
-  pub binary_numbered : (op : BinaryOperator) (p q p' q' : _) (a b a' b' : Expr) → view a' ≡ numbered d s n (view a) → view b' ≡ numbered d s n (view b) → view (Binary' op p' a' q' b') ≡ numbered d s n (view (Binary' op p a q b))
+  pub binary_numbered : (op : BinaryOperator) (p q p' q' : _) (a b a' b' : Expr) → view a' ≡ numbered d s n (view a) → view b' ≡ numbered d s n (view b)
+      → view (Binary' op p' a' q' b') ≡ numbered d s n (view (Binary' op p a q b))
   unfolding numbered
   binary_numbered op p q p' q' a b a' b' left right =
       view_binary op p' q' a' b' ∙ ap (λ (t : Tree). binary op t (view b')) left ∙ ap (binary op (numbered d s n (view a))) right
       ∙ sym (ap (numbered d s n) (view_binary op p q a b))
 
-  pub logical_numbered : (op : LogicalOperator) (p q p' q' : _) (a b a' b' : Expr) → view a' ≡ numbered d s n (view a) → view b' ≡ numbered d s n (view b) → view (Logical' op p' a' q' b') ≡ numbered d s n (view (Logical' op p a q b))
+  pub logical_numbered : (op : LogicalOperator) (p q p' q' : _) (a b a' b' : Expr) → view a' ≡ numbered d s n (view a) → view b' ≡ numbered d s n (view b)
+      → view (Logical' op p' a' q' b') ≡ numbered d s n (view (Logical' op p a q b))
   unfolding numbered
   logical_numbered op p q p' q' a b a' b' left right =
       view_logical op p' q' a' b' ∙ ap (λ (t : Tree). logical op t (view b')) left ∙ ap (logical op (numbered d s n (view a))) right
       ∙ sym (ap (numbered d s n) (view_logical op p q a b))
 
-  pub choice_numbered : (p q r p' q' r' : _) (a b c a' b' c' : Expr) → view a' ≡ numbered d s n (view a) → view b' ≡ numbered d s n (view b) → view c' ≡ numbered d s n (view c) → view (Choice' p' a' q' b' r' c') ≡ numbered d s n (view (Choice' p a q b r c))
+  pub choice_numbered : (p q r p' q' r' : _) (a b c a' b' c' : Expr) → view a' ≡ numbered d s n (view a) → view b' ≡ numbered d s n (view b)
+      → view c' ≡ numbered d s n (view c) → view (Choice' p' a' q' b' r' c') ≡ numbered d s n (view (Choice' p a q b r c))
   unfolding numbered
   choice_numbered p q r p' q' r' a b c a' b' c' first second third =
-      view_choice p' q' r' a' b' c' ∙ ap (λ (t : Tree). choice t (view b') (view c')) first ∙ ap (λ (t : Tree). choice (numbered d s n (view a)) t (view c')) second
+      view_choice p' q' r' a' b' c' ∙ ap (λ (t : Tree). choice t (view b') (view c')) first
+      ∙ ap (λ (t : Tree). choice (numbered d s n (view a)) t (view c')) second
       ∙ ap (choice (numbered d s n (view a)) (numbered d s n (view b))) third ∙ sym (ap (numbered d s n) (view_choice p q r a b c))
 
-  pub field_numbered : (p p' : _) (a a' : Expr) (v w : Name) → view a' ≡ numbered d s n (view a) → name_of w ≡ numbered_word s (name_of v) → view (Field' p' a' w) ≡ numbered d s n (view (Field' p a v))
+  pub field_numbered : (p p' : _) (a a' : Expr) (v w : Name) → view a' ≡ numbered d s n (view a) → name_of w ≡ numbered_word s (name_of v)
+      → view (Field' p' a' w) ≡ numbered d s n (view (Field' p a v))
   unfolding numbered
   field_numbered p p' a a' v w object is =
-      view_field p' a' w ∙ ap (λ (t : Tree). field t (name_of w)) object ∙ ap (field (numbered d s n (view a))) is ∙ sym (ap (numbered d s n) (view_field p a v))
+      view_field p' a' w ∙ ap (λ (t : Tree). field t (name_of w)) object ∙ ap (field (numbered d s n (view a))) is
+      ∙ sym (ap (numbered d s n) (view_field p a v))
 
-  pub special_field_numbered : (p p' : _) (a a' : Expr) (x : SpecialName) → view a' ≡ numbered d s n (view a) → view (SpecialField' p' a' x) ≡ numbered d s n (view (SpecialField' p a x))
+  pub special_field_numbered : (p p' : _) (a a' : Expr) (x : SpecialName) → view a' ≡ numbered d s n (view a)
+      → view (SpecialField' p' a' x) ≡ numbered d s n (view (SpecialField' p a x))
   unfolding numbered
   special_field_numbered p p' a a' x object =
       view_special_field p' a' x ∙ ap (λ (t : Tree). special_field t x) object ∙ sym (ap (numbered d s n) (view_special_field p a x))
 
-  pub call_numbered : (e : Expr) (a a' : Box Expr Global) (m m' : String Global) (es es' : Vec Expr Global) → e ≡ made.Call a m es → m' ≡ m → view a'.value ≡ numbered d s n (view a.value) → arguments_of (map view es'.items) ≡ all_numbered d s n (arguments_of (map view es.items)) → view (made.Call a' m' es') ≡ numbered d s n (view e)
+  pub call_numbered : (e : Expr) (a a' : Box Expr Global) (m m' : String Global) (es es' : Vec Expr Global) → e ≡ made.Call a m es → m' ≡ m
+      → view a'.value ≡ numbered d s n (view a.value) → arguments_of (map view es'.items) ≡ all_numbered d s n (arguments_of (map view es.items))
+      → view (made.Call a' m' es') ≡ numbered d s n (view e)
   unfolding numbered
   call_numbered e a a' m m' es es' is same object all =
       view_call a' m' es' ∙ ap (λ (x : String Global). call (view a'.value) (string_bytes x) (arguments_of (map view es'.items))) same
       ∙ ap (λ (t : Tree). call t (string_bytes m) (arguments_of (map view es'.items))) object ∙ ap (call (numbered d s n (view a.value)) (string_bytes m)) all
       ∙ sym (ap (numbered d s n) (ap view is ∙ view_call a m es))
 
-  pub index_numbered : (p q p' q' : _) (a b a' b' : Expr) → view a' ≡ numbered d s n (view a) → view b' ≡ numbered d s n (view b) → view (Index' p' a' q' b') ≡ numbered d s n (view (Index' p a q b))
+  pub index_numbered : (p q p' q' : _) (a b a' b' : Expr) → view a' ≡ numbered d s n (view a) → view b' ≡ numbered d s n (view b)
+      → view (Index' p' a' q' b') ≡ numbered d s n (view (Index' p a q b))
   unfolding numbered
   index_numbered p q p' q' a b a' b' left right =
-      view_index p' q' a' b' ∙ ap (λ (t : Tree). index t (view b')) left ∙ ap (index (numbered d s n (view a))) right ∙ sym (ap (numbered d s n) (view_index p q a b))
+      view_index p' q' a' b' ∙ ap (λ (t : Tree). index t (view b')) left ∙ ap (index (numbered d s n (view a))) right
+      ∙ sym (ap (numbered d s n) (view_index p q a b))
 
-  pub cast_numbered : (p p' : _) (a a' : Expr) (t t' : TypeName) → view a' ≡ numbered d s n (view a) → path_of t' ≡ numbered_type d n (path_of t) → view (Cast' p' a' t') ≡ numbered d s n (view (Cast' p a t))
+  pub cast_numbered : (p p' : _) (a a' : Expr) (t t' : TypeName) → view a' ≡ numbered d s n (view a) → path_of t' ≡ numbered_type d n (path_of t)
+      → view (Cast' p' a' t') ≡ numbered d s n (view (Cast' p a t))
   unfolding numbered
   cast_numbered p p' a a' t t' object is =
       view_cast p' a' t' ∙ ap (λ (u : Tree). cast u (path_of t')) object ∙ ap (cast (numbered d s n (view a))) is ∙ sym (ap (numbered d s n) (view_cast p a t))
 
   -- arguments each of which was given its numbers
-  pub each_numbered : (xs ys : List Expr) → length xs ≡ length ys → ((k : ℕ) (z : Expr) → k < length ys → view (get_or xs k z) ≡ numbered d s n (view (get_or ys k z))) → arguments_of (map view xs) ≡ all_numbered d s n (arguments_of (map view ys))
+  pub each_numbered : (xs ys : List Expr) → length xs ≡ length ys
+      → ((k : ℕ) (z : Expr) → k < length ys → view (get_or xs k z) ≡ numbered d s n (view (get_or ys k z)))
+      → arguments_of (map view xs) ≡ all_numbered d s n (arguments_of (map view ys))
   unfolding numbered
   each_numbered [] [] same each = refl
   each_numbered [] (y ∷ ys) same each = absurd (omega arith)
@@ -110,7 +128,9 @@ module _ (d : Declared) (s : List (List ℕ)) (n : ℕ) where
       ∙ ap (argument (numbered d s n (view y))) (each_numbered xs ys (omega arith) (λ k z below. each (suc k) z (omega arith)))
 
   -- the same of arguments in a vector v, which are written over
-  pub refilled : (xs ws : List Expr) (v es : Vec Expr Global) → xs ≡ v.items → v ≡ es → length ws ≡ length xs → arguments_of (map view ws) ≡ all_numbered d s n (arguments_of (map view xs)) → arguments_of (map view (with_items v ws).items) ≡ all_numbered d s n (arguments_of (map view es.items))
+  pub refilled : (xs ws : List Expr) (v es : Vec Expr Global) → xs ≡ v.items → v ≡ es → length ws ≡ length xs
+      → arguments_of (map view ws) ≡ all_numbered d s n (arguments_of (map view xs))
+      → arguments_of (map view (with_items v ws).items) ≡ all_numbered d s n (arguments_of (map view es.items))
   refilled xs ws v es lent is same all =
       let long : length ws ≡ v.len = same ∙ ap length lent ∙ sym v.ok.0 in
       ap (λ (l : List Expr). arguments_of (map view l)) (with_items_is v ws long) ∙ all

@@ -26,9 +26,11 @@ module _ {S : Type 0} (rows : List RowOfCode) where
   ArePlacedFrom k places = firsts.AreFirstFrom seen_named rows k (λ key. place_at places key.0 key.1)
 
   pub none_yet : (k : ℕ) (places : Places S) → k ≡ length rows → places.entries ≡ [] → ArePlacedFrom k places
-  none_yet k places all empty = firsts.none_yet seen_named rows k _ all (λ key. ap (λ (es : List ((ℕ × Bor (List ℕ)) × ℕ)). lookup (λ k. key.0 == k.0 && bytes_eq key.1 k.1.now) es) empty)
+  none_yet k places all empty = firsts.none_yet seen_named rows k _ all
+      (λ key. ap (λ (es : List ((ℕ × Bor (List ℕ)) × ℕ)). lookup (λ k. key.0 == k.0 && bytes_eq key.1 k.1.now) es) empty)
 
-  pub one_before : (k j : ℕ) (row : RowOfCode) (places more : Places S) → k ≡ suc j → j < length rows → row ≡ get_or rows j row → Puts places more j (row_of row) → ArePlacedFrom k places → ArePlacedFrom j more
+  pub one_before : (k j : ℕ) (row : RowOfCode) (places more : Places S) → k ≡ suc j → j < length rows → row ≡ get_or rows j row
+      → Puts places more j (row_of row) → ArePlacedFrom k places → ArePlacedFrom j more
   one_before k j row places more next within is put from = firsts.one_before seen_named rows k j row _ _ next within is (λ key. put.found key.0 key.1) from
 
   -- of all rows
@@ -41,7 +43,8 @@ module _ {S : Type 0} (rows : List RowOfCode) where
   }
 
 -- a row that is found is one of them
-pub row_inside : (rows : List RowOfCode) (name : List ℕ) (n : ℕ) (place : Option ℕ) → place ≡ row_in (map row_of rows) name n → IfSome place (λ k. k < length rows)
+pub row_inside : (rows : List RowOfCode) (name : List ℕ) (n : ℕ) (place : Option ℕ) → place ≡ row_in (map row_of rows) name n
+    → IfSome place (λ k. k < length rows)
 row_inside rows name n None is = tt
 row_inside rows name n (Some k) is =
     let below : k < length (map row_of rows) = row_within (map row_of rows) name n k (sym is) in

@@ -1,12 +1,14 @@
 -- An expression of which nothing is wrong leads somewhere with each name that is numbered.
-use Rattle.std.proofs.Common.{◌≡◌, ℕ, zero, suc, ◌<◌, ℤ, Bool, true, false, not, cond, List, [], ◌∷◌, ◌++◌, map, Option, Some, None, is_some, is_none, slice_get, option_and_then, option_map, refl, sym, ap, subst, ◌∙◌, arith, length}
+use Rattle.std.proofs.Common.{◌≡◌, ℕ, zero, suc, ◌<◌, ℤ, Bool, true, false, not, cond, List, [], ◌∷◌, ◌++◌, map, Option, Some, None, is_some, is_none}
+use Rattle.std.proofs.Common.{slice_get, option_and_then, option_map, refl, sym, ap, subst, ◌∙◌, arith, length}
 use Rattle.std.specs.Option.{option_map_or}
 use Rattle.std.specs.List.{list_all}
 use Rattle.std.proofs.lemmas.List.{map-append}
 use Rattle.std.specs.Str.{bytes_eq}
 use Rattle.std.proofs.lemmas.Bool.{and_parts, not-false}
 use Rattle.std.proofs.lemmas.List.Folds.{list_all-append}
-use Rattle.ksv_expr_tree.specs.Tree.{Tree, literal, named, special, member, unary, binary, logical, choice, field, special_field, call, index, cast, Arguments, no_arguments, argument, Word, MemberPath, TypePath}
+use Rattle.ksv_expr_tree.specs.Tree.{Tree, literal, named, special, member, unary, binary, logical, choice, field, special_field, call, index, cast, Arguments}
+use Rattle.ksv_expr_tree.specs.Tree.{no_arguments, argument, Word, MemberPath, TypePath}
 use Rattle.ksv_schema_names.specs.Members.{Member, members_of, all_members, members_within, member_named}
 use Rattle.ksv_schema_names.specs.Types.{type_named}
 use Rattle.ksv_schema_names.specs.Enums.{number_of_id}
@@ -45,19 +47,25 @@ is_named x w h =
     is_there (λ n. slice_get x.names n ≡ Some w.text) (number_in x.names w.text) found.0 found.1 (ap (slice_get x.names) at ∙ place.there ∙ ap Some (sym same))
 
 -- the members of a type are among all of them
-passes_within : (p : List ℕ → Bool) (types : List Row) (n : ℕ) → list_all p (map (λ m. m.name) (all_members types)) ≡ true → list_all p (map (λ m. m.name) (members_within types n)) ≡ true
+passes_within : (p : List ℕ → Bool) (types : List Row) (n : ℕ) → list_all p (map (λ m. m.name) (all_members types)) ≡ true
+    → list_all p (map (λ m. m.name) (members_within types n)) ≡ true
 unfolding members_within
 passes_within p [] n h = refl
 passes_within p (r ∷ rs) n h =
-    let two = and_parts _ _ (sym (list_all-append p (map (λ m. m.name) (members_of r)) (map (λ m. m.name) (all_members rs))) ∙ ap (list_all p) (sym (map-append (λ (m : Member). m.name) (members_of r) (all_members rs))) ∙ h) in
+    let two = and_parts _ _
+    (sym (list_all-append p (map (λ m. m.name) (members_of r)) (map (λ m. m.name) (all_members rs)))
+    ∙ ap (list_all p) (sym (map-append (λ (m : Member). m.name) (members_of r) (all_members rs))) ∙ h) in
     go n two.0 (λ k. passes_within p rs k two.1)
   where
-    go : (n : ℕ) → list_all p (map (λ m. m.name) (members_of r)) ≡ true → ((k : ℕ) → list_all p (map (λ m. m.name) (option_map_or members_of (slice_get rs k) [])) ≡ true) → list_all p (map (λ m. m.name) (option_map_or members_of (slice_get (r ∷ rs) n) [])) ≡ true
+    go : (n : ℕ) → list_all p (map (λ m. m.name) (members_of r)) ≡ true
+        → ((k : ℕ) → list_all p (map (λ m. m.name) (option_map_or members_of (slice_get rs k) [])) ≡ true)
+        → list_all p (map (λ m. m.name) (option_map_or members_of (slice_get (r ∷ rs) n) [])) ≡ true
     go zero here later = here
     go (suc k) here later = later k
 
 -- the name of a member has a number
-has_number : (d : Declared) (names : List (List ℕ)) (n : ℕ) (text : List ℕ) → has_names names (map (λ m. m.name) (all_members d.types)) ≡ true → is_none (member_named d.types n text) ≡ false → is_some (number_in names text) ≡ true
+has_number : (d : Declared) (names : List (List ℕ)) (n : ℕ) (text : List ℕ) → has_names names (map (λ m. m.name) (all_members d.types)) ≡ true
+    → is_none (member_named d.types n text) ≡ false → is_some (number_in names text) ≡ true
 unfolding member_named
 has_number d names n text all known =
     let ms = members_within d.types n in
@@ -66,12 +74,15 @@ has_number d names n text all known =
     let same : place.item.name ≡ text = same_text place.item.name text place.passes in
     let there = get_map (λ (m : Member). m.name) ms place.offset place.item place.there in
     ap (λ (t : List ℕ). is_some (number_in names t)) (sym same)
-    ∙ one_passes (λ w. is_some (number_in names w)) (map (λ m. m.name) ms) place.offset place.item.name (passes_within (λ w. is_some (number_in names w)) d.types n all) there
+    ∙ one_passes (λ w. is_some (number_in names w)) (map (λ m. m.name) ms) place.offset place.item.name
+    (passes_within (λ w. is_some (number_in names w)) d.types n all) there
 
-is_typed : (d : Declared) (x : Description) (n : ℕ) (t : TypePath) → length x.types ≡ length d.types → cast_faults d n t ≡ [] → IsThere (IsType x) (type_named d.types n t.path)
+is_typed : (d : Declared) (x : Description) (n : ℕ) (t : TypePath) → length x.types ≡ length d.types → cast_faults d n t ≡ []
+    → IsThere (IsType x) (type_named d.types n t.path)
 unfolding cast_faults
 is_typed d x n t as_many h = by_language (is_some (built_in_at t.path)) h where
-  by_language : (b : Bool) → cond b (LeftOut ∷ []) (wrong_if (is_none (type_named d.types n t.path)) Unknown) ≡ [] → IsThere (IsType x) (type_named d.types n t.path)
+  by_language : (b : Bool) → cond b (LeftOut ∷ []) (wrong_if (is_none (type_named d.types n t.path)) Unknown) ≡ []
+      → IsThere (IsType x) (type_named d.types n t.path)
   by_language true wrong = absurd (cc)
   by_language false right =
       let found = not_none (type_named d.types n t.path) (not_wrong _ _ right) in
@@ -96,7 +107,8 @@ member_given d n m h = by_enum (enum_at d n m) h where
   by_number e None found = absurd (cc)
   by_number e (Some z) found = (enum_member e z, refl)
 
-  by_enum : (o : Option ℕ) → is_some (option_and_then (λ e. number_of_id d.enums e m.name) o) ≡ true → (g : EnumMember) × (option_and_then (λ e. option_map (enum_member e) (number_of_id d.enums e m.name)) o ≡ Some g)
+  by_enum : (o : Option ℕ) → is_some (option_and_then (λ e. number_of_id d.enums e m.name) o) ≡ true
+      → (g : EnumMember) × (option_and_then (λ e. option_map (enum_member e) (number_of_id d.enums e m.name)) o ≡ Some g)
   by_enum None found = absurd (cc)
   by_enum (Some e) found = by_number e (number_of_id d.enums e m.name) found
 
@@ -117,7 +129,8 @@ module _ (d : Declared) (x : Description) (n : ℕ) (p : Position) (fits : Fits 
     resolved b (literal c) has h = tt
     resolved b (named w) has h = is_named x w (has_number d names n w.text fits.members (not_wrong _ _ h))
     resolved b (special s) has h = tt
-    resolved b (member m) has h = let g = member_given d n m (not-false _ (not_wrong _ _ h)) in is_there (IsMemberOf x) _ g.0 g.1 (given_leads d x fits n m g.0 g.1)
+    resolved b (member m) has h = let g = member_given d n m (not-false _ (not_wrong _ _ h)) in is_there (IsMemberOf x) _ g.0 g.1
+        (given_leads d x fits n m g.0 g.1)
     resolved b (unary op v) has h = resolved Other v has h
     resolved b (binary op v y) has h =
         let hs = two (dotted v) (dotted y) has in

@@ -40,7 +40,10 @@ in_keys n no_entries rows = refl
 in_keys n (entry line key value es) rows = go (bytes_eq key (codes "types")) (in_keys n es rows)
   where
     go : (b : Bool) → with_each n (named_in (pairs es)) rows ≡ with_key n es rows
-        → with_each n (entries_of (unwrap_or (option_and_then (λ p. mapping_of p.value) (cond b (Some (record { line = line; key = key; value = value })) (entry_at (codes "types") (pairs es)))) [])) rows ≡ cond b (with_named n value rows) (with_key n es rows)
+        → with_each n (entries_of
+        (unwrap_or (option_and_then (λ p. mapping_of p.value)
+        (cond b (Some (record { line = line; key = key; value = value })) (entry_at (codes "types") (pairs es)))) [])) rows
+        ≡ cond b (with_named n value rows) (with_key n es rows)
     go true later = of_value n value rows
     go false later = later
 
@@ -49,12 +52,16 @@ keys_weight no_entries = omega arith
 keys_weight (entry line key value es) = go (bytes_eq key (codes "types")) (keys_weight es)
   where
     go : (b : Bool) → weights (named_in (pairs es)) ≤ weights es
-        → weights (entries_of (unwrap_or (option_and_then (λ p. mapping_of p.value) (cond b (Some (record { line = line; key = key; value = value })) (entry_at (codes "types") (pairs es)))) [])) ≤ weight value + weights es + 1
+        → weights (entries_of
+        (unwrap_or (option_and_then (λ p. mapping_of p.value)
+        (cond b (Some (record { line = line; key = key; value = value })) (entry_at (codes "types") (pairs es)))) [])) ≤ weight value + weights es
+        + 1
     go true later = let l = value_weight value in omega (arith, l)
     go false later = omega (arith, later)
 
 -- the loop over the types in a type, where it begins
-pub all_named : (n : ℕ) (t : Tree) (rows : List Row) (ps : List Pair) → ps ≡ entries_at (codes "types") (entries_in t) → with_each n (entries_of ps) rows ≡ with_types n t rows
+pub all_named : (n : ℕ) (t : Tree) (rows : List Row) (ps : List Pair) → ps ≡ entries_at (codes "types") (entries_in t)
+    → with_each n (entries_of ps) rows ≡ with_types n t rows
 all_named n (Text _ _ _) rows ps e = ap (λ (ps : List Pair). with_each n (entries_of ps) rows) e
 all_named n (Seq _ _) rows ps e = ap (λ (ps : List Pair). with_each n (entries_of ps) rows) e
 all_named n (Map _ es) rows ps e = ap (λ (ps : List Pair). with_each n (entries_of ps) rows) e ∙ in_keys n es rows
@@ -62,4 +69,5 @@ all_named n (Map _ es) rows ps e = ap (λ (ps : List Pair). with_each n (entries
 pub smaller_named : (t : Tree) (ps : List Pair) → ps ≡ entries_at (codes "types") (entries_in t) → weights (entries_of ps) ≤ weight t
 smaller_named (Text _ _ _) ps e = let w : weights (entries_of ps) ≡ 0 = ap (λ (ps : List Pair). weights (entries_of ps)) e in omega arith
 smaller_named (Seq _ _) ps e = let w : weights (entries_of ps) ≡ 0 = ap (λ (ps : List Pair). weights (entries_of ps)) e in omega arith
-smaller_named (Map _ es) ps e = let w : weights (entries_of ps) ≡ weights (named_in (pairs es)) = ap (λ (ps : List Pair). weights (entries_of ps)) e in let l = keys_weight es in omega (arith, w, l)
+smaller_named (Map _ es) ps e = let w : weights (entries_of ps) ≡ weights (named_in (pairs es)) = ap (λ (ps : List Pair). weights (entries_of ps)) e in let l =
+    keys_weight es in omega (arith, w, l)

@@ -1,5 +1,6 @@
 -- One line that is answered over a device, in the terms of a run.
-use Rattle.std.proofs.Common.{◌≡◌, ◌∙◌, ◌+◌, ◌<◌, ℕ, Bool, true, false, List, [], ◌∷◌, ◌++◌, length, take, drop, get_or, Result, Ok, Err, ap, sym, subst, refl, append_assoc, inl, inr, true≢false, if◌then◌else◌}
+use Rattle.std.proofs.Common.{◌≡◌, ◌∙◌, ◌+◌, ◌<◌, ℕ, Bool, true, false, List, [], ◌∷◌, ◌++◌, length, take, drop, get_or, Result, Ok, Err, ap, sym, subst, refl}
+use Rattle.std.proofs.Common.{append_assoc, inl, inr, true≢false, if◌then◌else◌}
 use Rattle.std.specs.Prelude.{IsTrue}
 use Rattle.std.proofs.lemmas.Bool.Decides.{eqb_tells}
 use Rattle.std.proofs.lemmas.List.{append-nil, drop_more, take-append-drop, take_more}
@@ -40,7 +41,8 @@ answers old new line tells before written reply result is fair kept remembers wr
 }
 
 -- The same by a description of the run.
-pub record Answers (d : Description) (now : Explored) (line : List ℕ) (now' : Explored) (tells : Bool) (before written : Taken) (result : Result Bool Failed) : Type 0 where
+pub record Answers (d : Description) (now : Explored) (line : List ℕ) (now' : Explored) (tells : Bool) (before written : Taken)
+    (result : Result Bool Failed) : Type 0 where
   pub event : Event
   pub line_is : event.line ≡ line
   pub fair : is_fair d now.bytes event ≡ true
@@ -68,24 +70,29 @@ split_input taken piece left i lt is =
     ∙ sym (append_assoc taken (take i piece) (10 ∷ (drop (i + 1) piece ++ left)))
 
 -- An LF in a piece: the session goes on, or ends, or a write fails.
-pub at_line_end : (d : Description) (begin taken : List ℕ) (now : Explored) (line : List ℕ) (before written : Taken) (now' : Explored) (written' : Taken) (piece left : List ℕ) (i : ℕ) (tells : Bool)
+pub at_line_end : (d : Description) (begin taken : List ℕ) (now : Explored) (line : List ℕ) (before written : Taken) (now' : Explored) (written' : Taken)
+    (piece left : List ℕ) (i : ℕ) (tells : Bool)
     → i < length piece → get_or piece i 0 ≡ 10
     → Stands d begin (taken ++ take i piece) now line tells before written
     → (result : Result Bool Failed) → Answers d now line now' tells written written' result
     → Fed d begin ((taken ++ take i piece) ++ 10 ∷ []) (taken ++ (piece ++ left)) now' [] tells before written' result
 at_line_end d begin taken now line before written now' written' piece left i tells lt is s (Ok true) a =
     quit_line d begin (taken ++ take i piece) now line before written now' written' (taken ++ (piece ++ left)) (lines_of (drop (i + 1) piece ++ left)) tells s
-    (ap lines_of (split_input taken piece left i lt is) ∙ lines_behind d begin (taken ++ take i piece) now line before written (drop (i + 1) piece ++ left) tells s)
+    (ap lines_of (split_input taken piece left i lt is)
+    ∙ lines_behind d begin (taken ++ take i piece) now line before written (drop (i + 1) piece ++ left) tells s)
     a.event a.line_is a.fair (sym a.wrote.0) a.bytes a.keeps a.wrote.1
 at_line_end d begin taken now line before written now' written' piece left i tells lt is s (Ok false) a =
-    answered_line d begin (taken ++ take i piece) now line before written now' written' tells s a.event a.line_is a.fair (sym a.wrote.0) a.bytes a.keeps a.wrote.1
+    answered_line d begin (taken ++ take i piece) now line before written now' written' tells s a.event a.line_is a.fair (sym a.wrote.0) a.bytes a.keeps
+    a.wrote.1
 at_line_end d begin taken now line before written now' written' piece left i tells lt is s (Err failed) a =
     broken_line d begin (taken ++ take i piece) now line before written now' written' (taken ++ (piece ++ left)) (lines_of (drop (i + 1) piece ++ left)) tells s
-    (ap lines_of (split_input taken piece left i lt is) ∙ lines_behind d begin (taken ++ take i piece) now line before written (drop (i + 1) piece ++ left) tells s)
+    (ap lines_of (split_input taken piece left i lt is)
+    ∙ lines_behind d begin (taken ++ take i piece) now line before written (drop (i + 1) piece ++ left) tells s)
     a.event a.line_is a.fair a.bytes a.keeps a.wrote
 
 -- The same by what `answer_line` says.
-pub fed_at : (d : Description) (begin taken line line' : List ℕ) (before written written' : Taken) (piece left : List ℕ) (i : ℕ) (tells : Bool) (old new : Explored)
+pub fed_at : (d : Description) (begin taken line line' : List ℕ) (before written written' : Taken) (piece left : List ℕ) (i : ℕ) (tells : Bool)
+    (old new : Explored)
     → i < length piece → get_or piece i 0 ≡ 10 → description_of old ≡ d → line' ≡ line
     → Stands d begin (taken ++ take i piece) old line tells before written
     → (result : Result Bool Failed) → Answered old line' new tells written written' result

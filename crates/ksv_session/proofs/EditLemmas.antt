@@ -8,12 +8,14 @@ use Rattle.ksv_bytes.specs.declared.edit.EditRefusal.TheVariants.{NothingToDo, O
 use Rattle.ksv_bytes.specs.declared.uses.Change.TheVariants as changes
 
 -- what passes its checks is the edit's
-passed_two : (first second : Bool) (made after : List ℕ) (e f : EditRefusal) → (if first then Err e else if second then Err f else Ok made) ≡ Ok after → (first ≡ false) × (after ≡ made)
+passed_two : (first second : Bool) (made after : List ℕ) (e f : EditRefusal) → (if first then Err e else if second then Err f else Ok made) ≡ Ok after
+    → (first ≡ false) × (after ≡ made)
 passed_two true second made after e f is = absurd (cc)
 passed_two false true made after e f is = absurd (cc)
 passed_two false false made after e f is = (refl, cc)
 
-passed_three : (first second third : Bool) (made after : List ℕ) (e f g : EditRefusal) → (if first then Err e else if second then Err f else if third then Err g else Ok made) ≡ Ok after → (first ≡ false) × (after ≡ made)
+passed_three : (first second third : Bool) (made after : List ℕ) (e f g : EditRefusal)
+    → (if first then Err e else if second then Err f else if third then Err g else Ok made) ≡ Ok after → (first ≡ false) × (after ≡ made)
 passed_three true second third made after e f g is = absurd (cc)
 passed_three false true third made after e f g is = absurd (cc)
 passed_three false false true made after e f g is = absurd (cc)
@@ -26,7 +28,8 @@ overwrite_makes b at h after is =
 
 pub insert_makes : (b : List ℕ) (at : ℕ) (h after : List ℕ) → insert b at h ≡ Ok after → Makes (changes.Insert at (length h)) b after
 insert_makes b at h after is =
-    let passed = passed_three (nat_lt (length b) at) (length h == 0) (nat_lt file_limit (length b + length h)) (take at b ++ h ++ drop at b) after Outside NothingToDo TooLarge is in
+    let passed = passed_three (nat_lt (length b) at) (length h == 0) (nat_lt file_limit (length b + length h)) (take at b ++ h ++ drop at b) after Outside
+    NothingToDo TooLarge is in
     (h, refl, ltb-false (length b) at passed.0, passed.1)
 
 pub delete_makes : (b : List ℕ) (at count : ℕ) (after : List ℕ) → delete b at count ≡ Ok after → Makes (changes.Delete at count) b after

@@ -1,5 +1,6 @@
 -- What an engine keeps after a question and after an edit, in the words of the session's fold.
-use Rattle.std.proofs.Common.{Result, Ok, ◌≡◌, ◌↔◌, ℕ, zero, suc, ◌+◌, ◌-◌, ◌^◌, min, Bool, true, false, not, cond, ◌||◌, nat_eq, List, [], ◌∷◌, ◌++◌, map, filter, fold, Option, Some, None, if◌then◌else◌, refl, sym, ap, ◌∙◌, subst, arith, append_assoc}
+use Rattle.std.proofs.Common.{Result, Ok, ◌≡◌, ◌↔◌, ℕ, zero, suc, ◌+◌, ◌-◌, ◌^◌, min, Bool, true, false, not, cond, ◌||◌, nat_eq, List, [], ◌∷◌, ◌++◌, map}
+use Rattle.std.proofs.Common.{filter, fold, Option, Some, None, if◌then◌else◌, refl, sym, ap, ◌∙◌, subst, arith, append_assoc}
 use Rattle.std.specs.Cmp.{nat_eq_equiv}
 use Rattle.std.specs.Prelude.{IsTrue}
 use Rattle.std.specs.List.{AllByRecursion, IsDistinct, flat_map, list_any, sum_by}
@@ -53,19 +54,23 @@ node_of : (ns : List Node) (q : ℕ) → list_any (nat_eq q) (map node_number ns
 node_of [] q e = absurd (cc)
 node_of (n ∷ ns) q e = by (node_of ns q) (nat_eq q (node_number n)) refl e
   where
-    by : (list_any (nat_eq q) (map node_number ns) ≡ true → (m : Node) × (node_number m ≡ q)) → (b : Bool) → nat_eq q (node_number n) ≡ b → (b || list_any (nat_eq q) (map node_number ns)) ≡ true → (m : Node) × (node_number m ≡ q)
+    by : (list_any (nat_eq q) (map node_number ns) ≡ true → (m : Node) × (node_number m ≡ q)) → (b : Bool) → nat_eq q (node_number n) ≡ b
+        → (b || list_any (nat_eq q) (map node_number ns)) ≡ true → (m : Node) × (node_number m ≡ q)
     by rest true is h = (n, sym (eqb_true q (node_number n) is))
     by rest false is h = rest h
 
-found_too : (ns ms : List Node) → ((n : Node) → is_among node_number ns n ≡ is_among node_number ms n) → (q : ℕ) → list_any (nat_eq q) (map node_number ns) ≡ true → list_any (nat_eq q) (map node_number ms) ≡ true
+found_too : (ns ms : List Node) → ((n : Node) → is_among node_number ns n ≡ is_among node_number ms n) → (q : ℕ)
+    → list_any (nat_eq q) (map node_number ns) ≡ true → list_any (nat_eq q) (map node_number ms) ≡ true
 found_too ns ms same q e =
     let n = node_of ns q e in
     ap (λ k. list_any (nat_eq k) (map node_number ms)) (sym n.1) ∙ sym (same n.0) ∙ ap (λ k. list_any (nat_eq k) (map node_number ns)) n.1 ∙ e
 
-found_alike : (ns ms : List Node) → ((n : Node) → is_among node_number ns n ≡ is_among node_number ms n) → (q : ℕ) → list_any (nat_eq q) (map node_number ns) ≡ list_any (nat_eq q) (map node_number ms)
+found_alike : (ns ms : List Node) → ((n : Node) → is_among node_number ns n ≡ is_among node_number ms n) → (q : ℕ)
+    → list_any (nat_eq q) (map node_number ns) ≡ list_any (nat_eq q) (map node_number ms)
 found_alike ns ms same q = by (list_any (nat_eq q) (map node_number ns)) refl (list_any (nat_eq q) (map node_number ms)) refl
   where
-    by : (a : Bool) → list_any (nat_eq q) (map node_number ns) ≡ a → (b : Bool) → list_any (nat_eq q) (map node_number ms) ≡ b → list_any (nat_eq q) (map node_number ns) ≡ list_any (nat_eq q) (map node_number ms)
+    by : (a : Bool) → list_any (nat_eq q) (map node_number ns) ≡ a → (b : Bool) → list_any (nat_eq q) (map node_number ms) ≡ b
+        → list_any (nat_eq q) (map node_number ns) ≡ list_any (nat_eq q) (map node_number ms)
     by true e true f = e ∙ sym f
     by false e false f = e ∙ sym f
     by true e false f = e ∙ sym (found_too ns ms same q e)
@@ -76,7 +81,8 @@ the_same ns ms once each same = record {
   once = once;
   each = each;
   same = same;
-  size = sym (length-map ns node_number) ∙ length-from_same_keys nat_eq_equiv (map node_number ns) (map node_number ms) once each (found_alike ns ms same) ∙ length-map ms node_number;
+  size = sym (length-map ns node_number) ∙ length-from_same_keys nat_eq_equiv (map node_number ns) (map node_number ms) once each (found_alike ns ms same)
+      ∙ length-map ms node_number;
 }
 
 once_with : (kept ms : List Node) → IsEachOnce kept → IsEachOnce (kept ++ fresh node_number kept ms)
@@ -86,9 +92,12 @@ once_with kept (m ∷ ms) once = by (once_with kept ms once) (λ more. once_with
     more : is_among node_number kept m ≡ false → IsEachOnce (kept ++ m ∷ [])
     more e = subst (IsDistinct nat_eq) (sym (map-append node_number kept (m ∷ []))) (IsDistinct-push nat_eq_equiv (map node_number kept) (node_number m) once e)
 
-    by : IsEachOnce (kept ++ fresh node_number kept ms) → (IsEachOnce (kept ++ m ∷ []) → IsEachOnce ((kept ++ m ∷ []) ++ fresh node_number (kept ++ m ∷ []) ms)) → (b : Bool) → is_among node_number kept m ≡ b → IsEachOnce (kept ++ fresh node_number kept (m ∷ ms))
+    by : IsEachOnce (kept ++ fresh node_number kept ms) → (IsEachOnce (kept ++ m ∷ []) → IsEachOnce ((kept ++ m ∷ []) ++ fresh node_number (kept ++ m ∷ []) ms))
+        → (b : Bool) → is_among node_number kept m ≡ b → IsEachOnce (kept ++ fresh node_number kept (m ∷ ms))
     by here there true e = subst IsEachOnce (sym (ap (λ ns. kept ++ ns) (fresh-in node_number kept m ms e))) here
-    by here there false e = subst IsEachOnce (append_assoc kept (m ∷ []) (fresh node_number (kept ++ m ∷ []) ms) ∙ sym (ap (λ ns. kept ++ ns) (fresh-out node_number kept m ms e))) (there (more e))
+    by here there false e =
+        subst IsEachOnce (append_assoc kept (m ∷ []) (fresh node_number (kept ++ m ∷ []) ms)
+        ∙ sym (ap (λ ns. kept ++ ns) (fresh-out node_number kept m ms e))) (there (more e))
 
 numbers_left : (P : ℕ → Type 0) (p : Node → Bool) (ns : List Node) → AllByRecursion P (map node_number ns) → AllByRecursion P (map node_number (filter p ns))
 numbers_left P p [] h = tt
@@ -103,7 +112,8 @@ once_left p [] h = h
 once_left p (n ∷ ns) h = by (p n) (once_left p ns (IsDistinct-tail nat_eq (node_number n) (map node_number ns) h))
   where
     by : (b : Bool) → IsEachOnce (filter p ns) → IsEachOnce (cond b (n ∷ filter p ns) (filter p ns))
-    by true rest = IsDistinct-cons nat_eq (node_number n) (map node_number (filter p ns)) (numbers_left (λ y. nat_eq (node_number n) y ≡ false) p ns (IsDistinct-head nat_eq (node_number n) (map node_number ns) h)) rest
+    by true rest = IsDistinct-cons nat_eq (node_number n) (map node_number (filter p ns))
+        (numbers_left (λ y. nat_eq (node_number n) y ≡ false) p ns (IsDistinct-head nat_eq (node_number n) (map node_number ns) h)) rest
     by false rest = rest
 
 -- ---- turns
@@ -176,7 +186,8 @@ module _ (d : Description) (b : List ℕ) where
     turns_are =
         ap (λ c. if c then None else counted (costs w (fresh node_number old (completed_by w ns))) (Some 0)) (circles_are ns)
         ∙ ap (λ t. if list_any (meets_circle d b []) ns then None else t)
-        (ap (λ ms. counted (costs w ms) (Some 0)) (fresh_same node_number old kept (completed_by w ns) same.same ∙ ap (fresh node_number kept) (completed_are ns))
+        (ap (λ ms. counted (costs w ms) (Some 0))
+        (fresh_same node_number old kept (completed_by w ns) same.same ∙ ap (fresh node_number kept) (completed_are ns))
         ∙ ap (λ k. counted k (Some 0)) (costs_are (fresh node_number kept (all_completed d b ns)))
         ∙ counted_is (sum_by (calls d b) (fresh node_number kept (all_completed d b ns))))
 
@@ -199,7 +210,8 @@ module _ (d : Description) (b : List ℕ) where
   unfolding kept_after
   each_left change kept once = once_left _ kept once
 
-  pub kept_less : (change : Change) (old kept new : List Node) → AreTheSame old kept → AreExactly w new (left_after w change old) → AreTheSame new (kept_after d b change kept)
+  pub kept_less : (change : Change) (old kept new : List Node) → AreTheSame old kept → AreExactly w new (left_after w change old)
+      → AreTheSame new (kept_after d b change kept)
   kept_less change old kept new same h =
       the_same new (kept_after d b change kept) h.once (each_left change kept same.each)
       (λ n. h.same n ∙ left_after-same w settled change old kept same.same n ∙ ap (λ ms. is_among node_number ms n) (left_is change kept))
@@ -238,7 +250,8 @@ module _ (p : Pieces) (b : List ℕ) (e : Memo Node Ruled) (turns : Option ℕ) 
 
   -- a question that was answered
   pub answered_holds : (ask : Description → List ℕ → List Node) (begun new : Memo Node Ruled) (now : Option ℕ) → begun.kept ≡ e.kept → begun.turns ≡ Some 0
-      → HasAsked (world (plain_pieces p) b) (ask (plain_pieces p) b) begun new → now ≡ new.turns → Holds (seen p b new now) (after_asking (description_of x) x.bytes (ask (description_of x) x.bytes) m)
+      → HasAsked (world (plain_pieces p) b) (ask (plain_pieces p) b) begun new → now ≡ new.turns
+      → Holds (seen p b new now) (after_asking (description_of x) x.bytes (ask (description_of x) x.bytes) m)
   unfolding description_of
   answered_holds ask begun new now same zeroed asked turned =
       let P : Explored → Type 0 = λ s. Holds (seen p b new now) (after_asking (description_of s) s.bytes (ask (description_of s) s.bytes) m) in
@@ -247,7 +260,8 @@ module _ (p : Pieces) (b : List ℕ) (e : Memo Node Ruled) (turns : Option ℕ) 
 
   -- one that was refused memory
   pub refused_holds : (ask : Description → List ℕ → List Node) (begun new : Memo Node Ruled) → begun.kept ≡ e.kept
-      → HasAskedSome (world (plain_pieces p) b) (ask (plain_pieces p) b) begun new → HoldsSome (description_of x) x.bytes (ask (description_of x) x.bytes) m (seen p b new None)
+      → HasAskedSome (world (plain_pieces p) b) (ask (plain_pieces p) b) begun new
+      → HoldsSome (description_of x) x.bytes (ask (description_of x) x.bytes) m (seen p b new None)
   unfolding description_of
   refused_holds ask begun new same asked =
       let P : Explored → Type 0 = λ s. HoldsSome (description_of s) s.bytes (ask (description_of s) s.bytes) m (seen p b new None) in
@@ -256,7 +270,8 @@ module _ (p : Pieces) (b : List ℕ) (e : Memo Node Ruled) (turns : Option ℕ) 
 
   -- one whose reply was refused memory once all was asked
   pub unknown_holds : (ask : Description → List ℕ → List Node) (begun new : Memo Node Ruled) → begun.kept ≡ e.kept
-      → HasAsked (world (plain_pieces p) b) (ask (plain_pieces p) b) begun new → HoldsSome (description_of x) x.bytes (ask (description_of x) x.bytes) m (seen p b new None)
+      → HasAsked (world (plain_pieces p) b) (ask (plain_pieces p) b) begun new
+      → HoldsSome (description_of x) x.bytes (ask (description_of x) x.bytes) m (seen p b new None)
   unknown_holds ask begun new same asked = refused_holds ask begun new same (some_of (world (plain_pieces p) b) begun new (ask (plain_pieces p) b) asked)
 
   -- an edit that was done
@@ -273,7 +288,8 @@ module _ (p : Pieces) (b : List ℕ) (e : Memo Node Ruled) (turns : Option ℕ) 
       }))
 
   -- a question whose path was refused memory, so that nothing was asked
-  pub unread_holds : IsRight (world (plain_pieces p) b) e.kept → (command : Command) → IsTrue (is_question command) → LeftBy (description_of x) x.bytes command m (seen p b e None)
+  pub unread_holds : IsRight (world (plain_pieces p) b) e.kept → (command : Command) → IsTrue (is_question command)
+      → LeftBy (description_of x) x.bytes command m (seen p b e None)
   unread_holds right (Ask question) told =
       let ask : Description → List ℕ → List Node = λ d b. asks d b (asking d b question) in
       refused_holds ask e e refl (some_none (world (plain_pieces p) b) e (ask (plain_pieces p) b) right)

@@ -1,5 +1,6 @@
 -- One step of a run, from what stands before it, and what a whole run comes to.
-use Rattle.std.proofs.Common.{◌≡◌, ◌∙◌, ◌&&◌, ◌+◌, min, ℕ, suc, Bool, true, false, None, List, [], ◌∷◌, ◌++◌, length, map, fold, take, ap, ap₂, sym, refl, arith, append_assoc, if◌then◌else◌, inl, inr, subst}
+use Rattle.std.proofs.Common.{◌≡◌, ◌∙◌, ◌&&◌, ◌+◌, min, ℕ, suc, Bool, true, false, None, List, [], ◌∷◌, ◌++◌, length, map, fold, take, ap, ap₂, sym, refl}
+use Rattle.std.proofs.Common.{arith, append_assoc, if◌then◌else◌, inl, inr, subst}
 use Rattle.std.specs.Prelude.{IsTrue}
 use Rattle.std.proofs.lemmas.Bool.{cases_lt, lt-ltb}
 use Rattle.std.proofs.lemmas.List.{append-nil, length-append, length-take, length_push, map-append, take-append-le, drop_at, take_all, take_at, take_min}
@@ -48,7 +49,8 @@ take_push rest byte = elim (cases_lt 4097 (length rest)) [
 -- One more line of a session.
 
 pub session_push : (d : Description) (begin : List ℕ) (events : List Event) (e : Event) → (session d begin events).ended ≡ false
-    → session d begin (events ++ e ∷ []) ≡ answered (session d begin events) (answer d (session d begin events).bytes e) (is_fair d (session d begin events).bytes e)
+    → session d begin (events ++ e ∷ []) ≡ answered (session d begin events) (answer d (session d begin events).bytes e)
+    (is_fair d (session d begin events).bytes e)
 session_push d begin events e goes_on = fold_push (after_event d) (begun begin) events e ∙ rw goes_on refl
 
 lines_push : (events : List Event) (e : Event) → lines_in (events ++ e ∷ []) ≡ lines_in events ++ e.line ∷ []
@@ -73,7 +75,8 @@ record Goes (d : Description) (s : Standing) (lines : List (List ℕ)) : Type 0 
   fair : s.fair ≡ true → (fold (after_event d) s (unrefused lines)).fair ≡ true
 
 goes_back : (d : Description) (s t : Standing) (lines : List (List ℕ)) (text : List ℕ) → t.output ≡ s.output ++ text → (s.fair ≡ true → t.fair ≡ true)
-    → Goes d t lines → (more : List ℕ) × ((fold (after_event d) t (unrefused lines)).output ≡ s.output ++ more) × (s.fair ≡ true → (fold (after_event d) t (unrefused lines)).fair ≡ true)
+    → Goes d t lines → (more : List ℕ) × ((fold (after_event d) t (unrefused lines)).output ≡ s.output ++ more)
+    × (s.fair ≡ true → (fold (after_event d) t (unrefused lines)).fair ≡ true)
 goes_back d s t lines text is fair g =
     (text ++ g.more, g.output ∙ ap (λ o. o ++ g.more) is ∙ append_assoc s.output text g.more, λ h. g.fair (fair h))
 
@@ -101,11 +104,13 @@ all_lines events e rest tail input is cut =
     map-append (λ (x : Event). x.line) (events ++ e ∷ []) (unrefused tail)
     ∙ ap₂ (λ a b. a ++ b) (lines_push events e ∙ ap (λ l. lines_in events ++ l ∷ []) is) (unrefused_lines tail) ∙ sym cut
 
-session_more : (d : Description) (begin : List ℕ) (front more : List Event) → session d begin (front ++ more) ≡ fold (after_event d) (session d begin front) more
+session_more : (d : Description) (begin : List ℕ) (front more : List Event)
+    → session d begin (front ++ more) ≡ fold (after_event d) (session d begin front) more
 session_more d begin front more = fold-append (after_event d) (begun begin) front more
 
 -- A byte that ends no line.
-pub pushed : (d : Description) (begin taken : List ℕ) (now : Explored) (line : List ℕ) (before written : Taken) (tells : Bool) (byte : ℕ) → is_line_end byte ≡ false
+pub pushed : (d : Description) (begin taken : List ℕ) (now : Explored) (line : List ℕ) (before written : Taken) (tells : Bool) (byte : ℕ)
+    → is_line_end byte ≡ false
     → Stands d begin taken now line tells before written
     → Stands d begin (taken ++ byte ∷ []) now (take 4097 (line ++ byte ∷ [])) tells before written
 pushed d begin taken now line before written tells byte other s = record {
@@ -131,7 +136,8 @@ pub record Next (d : Description) (begin : List ℕ) (events : List Event) (e : 
   pub fair : (session d begin (events ++ e ∷ [])).fair ≡ true
   pub same : answer d (session d begin events).bytes e ≡ a
 
-pub next : (d : Description) (begin taken : List ℕ) (now : Explored) (line : List ℕ) (before written : Taken) (tells : Bool) (s : Stands d begin taken now line tells before written)
+pub next : (d : Description) (begin taken : List ℕ) (now : Explored) (line : List ℕ) (before written : Taken) (tells : Bool)
+    (s : Stands d begin taken now line tells before written)
     (event : Event) → event.line ≡ line → is_fair d now.bytes event ≡ true → Next d begin s.events (whole s.rest event) (answer d now.bytes event)
 next d begin taken now line before written tells s event line_is fair =
     let e = whole s.rest event in
@@ -160,7 +166,8 @@ pub record Kept (d : Description) (begin : List ℕ) (events : List Event) (e : 
   pub holds : ends ≡ false → Holds now last
 
 -- (the line is the same, gathered as a whole)
-told_whole : (d : Description) (begin taken : List ℕ) (now : Explored) (line : List ℕ) (before written : Taken) (tells : Bool) (s : Stands d begin taken now line tells before written)
+told_whole : (d : Description) (begin taken : List ℕ) (now : Explored) (line : List ℕ) (before written : Taken) (tells : Bool)
+    (s : Stands d begin taken now line tells before written)
     (event : Event) (now' : Explored) → event.line ≡ line → KeepsOne d now event now'
     → ((whole s.rest event).tally ≡ tally_in s.kept) × Remembers d (session d begin s.events).bytes (command_of d s.rest) event.refused s.kept now'
 told_whole d begin taken now line before written tells s event now' line_is keeps =
@@ -170,7 +177,8 @@ told_whole d begin taken now line before written tells s event now' line_is keep
           (subst (λ k. Remembers d now.bytes k event.refused s.kept now') (ap (command_of d) (line_is ∙ s.gathered) ∙ cut_reads d s.rest) told.1),
     )
 
-pub kept_next : (d : Description) (begin taken : List ℕ) (now : Explored) (line : List ℕ) (before written : Taken) (tells : Bool) (s : Stands d begin taken now line tells before written)
+pub kept_next : (d : Description) (begin taken : List ℕ) (now : Explored) (line : List ℕ) (before written : Taken) (tells : Bool)
+    (s : Stands d begin taken now line tells before written)
     (event : Event) (now' : Explored) → event.line ≡ line → is_fair d now.bytes event ≡ true → KeepsOne d now event now'
     → Kept d begin s.events (whole s.rest event) (answer d now.bytes event).ends now'
 kept_next d begin taken now line before written tells s event now' line_is fair keeps =
@@ -185,8 +193,10 @@ kept_next d begin taken now line before written tells s event now' line_is fair 
     }
 
 -- The same where the line ends the session, whatever stands behind it.
-pub kept_end : (d : Description) (begin taken : List ℕ) (now : Explored) (line : List ℕ) (before written : Taken) (tells : Bool) (s : Stands d begin taken now line tells before written)
-    (event : Event) (now' : Explored) (tail : List Event) → event.line ≡ line → is_fair d now.bytes event ≡ true → KeepsOne d now event now' → (answer d now.bytes event).ends ≡ true
+pub kept_end : (d : Description) (begin taken : List ℕ) (now : Explored) (line : List ℕ) (before written : Taken) (tells : Bool)
+    (s : Stands d begin taken now line tells before written)
+    (event : Event) (now' : Explored) (tail : List Event) → event.line ≡ line → is_fair d now.bytes event ≡ true → KeepsOne d now event now'
+    → (answer d now.bytes event).ends ≡ true
     → Tells d begin ((s.events ++ whole s.rest event ∷ []) ++ tail)
 kept_end d begin taken now line before written tells s event now' tail line_is fair keeps ends =
     let e = whole s.rest event in
@@ -205,13 +215,16 @@ written_next d begin before written written' events e a n is more =
     more ∙ ap (λ w. w ++ a.text) is ∙ append_assoc before (session d begin events).output a.text ∙ ap (λ o. before ++ o) (sym n.output)
 
 -- how much is passed on behind that line
-flushed_next : (before : Taken) (output bytes : List ℕ) (f n k : ℕ) → n ≡ suc k → f ≡ length bytes → bytes ≡ before.bytes ++ output → f ≡ flushed_by before output n
+flushed_next : (before : Taken) (output bytes : List ℕ) (f n k : ℕ) → n ≡ suc k → f ≡ length bytes → bytes ≡ before.bytes ++ output
+    → f ≡ flushed_by before output n
 flushed_next before output bytes f n k is all same = all ∙ ap length same ∙ length-append before.bytes output ∙ sym (ap (flushed_by before output) is)
 
 -- An LF behind a line that is answered.
-pub answered_line : (d : Description) (begin taken : List ℕ) (now : Explored) (line : List ℕ) (before written : Taken) (now' : Explored) (written' : Taken) (tells : Bool) (s : Stands d begin taken now line tells before written)
+pub answered_line : (d : Description) (begin taken : List ℕ) (now : Explored) (line : List ℕ) (before written : Taken) (now' : Explored) (written' : Taken)
+    (tells : Bool) (s : Stands d begin taken now line tells before written)
     (event : Event) → event.line ≡ line → is_fair d now.bytes event ≡ true → (answer d now.bytes event).ends ≡ false
-    → now'.bytes ≡ (answer d now.bytes event).bytes → KeepsOne d now event now' → (IsTrue tells → (written'.bytes ≡ written.bytes ++ (answer d now.bytes event).text) × (written'.flushed ≡ length written'.bytes))
+    → now'.bytes ≡ (answer d now.bytes event).bytes → KeepsOne d now event now'
+    → (IsTrue tells → (written'.bytes ≡ written.bytes ++ (answer d now.bytes event).text) × (written'.flushed ≡ length written'.bytes))
     → Stands d begin (taken ++ 10 ∷ []) now' [] tells before written'
 answered_line d begin taken now line before written now' written' tells s event line_is fair ends is keeps more =
     let e = whole s.rest event in
@@ -226,7 +239,8 @@ answered_line d begin taken now line before written now' written' tells s event 
       bytes = is ∙ sym n.bytes;
       output = λ told. written_next d begin before.bytes written.bytes written'.bytes s.events e _ n (s.output told) (more told).0;
       flushed = λ told.
-          flushed_next before (session d begin (s.events ++ e ∷ [])).output written'.bytes written'.flushed (length (s.events ++ e ∷ [])) (length s.events) (omega (arith, length_push s.events e))
+          flushed_next before (session d begin (s.events ++ e ∷ [])).output written'.bytes written'.flushed (length (s.events ++ e ∷ [])) (length s.events)
+          (omega (arith, length_push s.events e))
           (more told).1 (written_next d begin before.bytes written.bytes written'.bytes s.events e _ n (s.output told) (more told).0);
       goes_on = n.ended ∙ ends;
       kept = k.last;
@@ -235,16 +249,19 @@ answered_line d begin taken now line before written now' written' tells s event 
     }
 
 -- The lines of an input that goes on behind an LF.
-pub lines_behind : (d : Description) (begin taken : List ℕ) (now : Explored) (line : List ℕ) (before written : Taken) (more : List ℕ) (tells : Bool) (s : Stands d begin taken now line tells before written)
+pub lines_behind : (d : Description) (begin taken : List ℕ) (now : Explored) (line : List ℕ) (before written : Taken) (more : List ℕ) (tells : Bool)
+    (s : Stands d begin taken now line tells before written)
     → lines_of (taken ++ 10 ∷ more) ≡ (lines_in s.events ++ s.rest ∷ []) ++ lines_of more
 lines_behind d begin taken now line before written more tells s =
     split_at is_line_end taken 10 more refl ∙ ap (λ ls. ls ++ lines_of more) (sym s.lines)
 
 -- A line that ends the session, whatever stands behind it.
-pub quit_line : (d : Description) (begin taken : List ℕ) (now : Explored) (line : List ℕ) (before written : Taken) (now' : Explored) (written' : Taken) (input : List ℕ) (tail : List (List ℕ)) (tells : Bool)
+pub quit_line : (d : Description) (begin taken : List ℕ) (now : Explored) (line : List ℕ) (before written : Taken) (now' : Explored) (written' : Taken)
+    (input : List ℕ) (tail : List (List ℕ)) (tells : Bool)
     (s : Stands d begin taken now line tells before written) → lines_of input ≡ (lines_in s.events ++ s.rest ∷ []) ++ tail
     → (event : Event) → event.line ≡ line → is_fair d now.bytes event ≡ true → (answer d now.bytes event).ends ≡ true
-    → now'.bytes ≡ (answer d now.bytes event).bytes → KeepsOne d now event now' → (IsTrue tells → (written'.bytes ≡ written.bytes ++ (answer d now.bytes event).text) × (written'.flushed ≡ length written'.bytes))
+    → now'.bytes ≡ (answer d now.bytes event).bytes → KeepsOne d now event now'
+    → (IsTrue tells → (written'.bytes ≡ written.bytes ++ (answer d now.bytes event).text) × (written'.flushed ≡ length written'.bytes))
     → Serves d begin input now'.bytes tells before written' true
 quit_line d begin taken now line before written now' written' input tail tells s cut event line_is fair ends is keeps more =
     let e = whole s.rest event in
@@ -256,16 +273,19 @@ quit_line d begin taken now line before written now' written' input tail tells s
       lines = all_lines s.events e s.rest tail input refl cut;
       fair = ap (λ (t : Standing). t.fair) over ∙ n.fair;
       bytes = is ∙ sym n.bytes ∙ sym (ap (λ (t : Standing). t.bytes) over);
-      output = λ told. written_next d begin before.bytes written.bytes written'.bytes s.events e _ n (s.output told) (more told).0 ∙ sym (ap (λ (t : Standing). before.bytes ++ t.output) over);
+      output = λ told. written_next d begin before.bytes written.bytes written'.bytes s.events e _ n (s.output told) (more told).0
+          ∙ sym (ap (λ (t : Standing). before.bytes ++ t.output) over);
       flushed = λ told. (more told).1;
       ends = ap (λ (t : Standing). t.ended) over ∙ n.ended ∙ ends;
       stats = kept_end d begin taken now line before written tells s event now' (unrefused tail) line_is fair keeps ends;
     }
 
 -- The line at the end of the input.
-pub last_line : (d : Description) (begin taken : List ℕ) (now : Explored) (line : List ℕ) (before written : Taken) (now' : Explored) (written' : Taken) (tells : Bool)
+pub last_line : (d : Description) (begin taken : List ℕ) (now : Explored) (line : List ℕ) (before written : Taken) (now' : Explored) (written' : Taken)
+    (tells : Bool)
     (s : Stands d begin taken now line tells before written) (event : Event) → event.line ≡ line → is_fair d now.bytes event ≡ true
-    → now'.bytes ≡ (answer d now.bytes event).bytes → KeepsOne d now event now' → (IsTrue tells → (written'.bytes ≡ written.bytes ++ (answer d now.bytes event).text) × (written'.flushed ≡ length written'.bytes))
+    → now'.bytes ≡ (answer d now.bytes event).bytes → KeepsOne d now event now'
+    → (IsTrue tells → (written'.bytes ≡ written.bytes ++ (answer d now.bytes event).text) × (written'.flushed ≡ length written'.bytes))
     → Serves d begin taken now'.bytes tells before written' (answer d now.bytes event).ends
 last_line d begin taken now line before written now' written' tells s event line_is fair is keeps more =
     let e = whole s.rest event in
@@ -289,7 +309,8 @@ earlier_events : (events : List Event) (e : Event) (more : List Event) → take 
 earlier_events events e more = ap (take (length events)) (append_assoc events (e ∷ []) more) ∙ take_at events (e ∷ more) (length events) refl
 
 take_past : (out text : List ℕ) (n : ℕ) → take (length out + n) (out ++ text) ≡ out ++ take n text
-take_past out text n = take-add (length out) n (out ++ text) ∙ ap₂ (λ a b. a ++ b) (take_at out text (length out) refl) (ap (take n) (drop_at out text (length out) refl))
+take_past out text n = take-add (length out) n (out ++ text)
+    ∙ ap₂ (λ a b. a ++ b) (take_at out text (length out) refl) (ap (take n) (drop_at out text (length out) refl))
 
 -- a beginning of a text, behind a whole one and before more
 front_text : (out text more : List ℕ) (count : ℕ) → out ++ take count text ≡ take (length out + min count (length text)) ((out ++ text) ++ more)
@@ -299,10 +320,12 @@ front_text out text more count =
     ∙ take_past out text n ∙ ap (λ t. out ++ t) (take_min count text))
 
 -- A write that fails in the reply to a line.
-pub broken_line : (d : Description) (begin taken : List ℕ) (now : Explored) (line : List ℕ) (before written : Taken) (now' : Explored) (written' : Taken) (input : List ℕ) (tail : List (List ℕ)) (tells : Bool)
+pub broken_line : (d : Description) (begin taken : List ℕ) (now : Explored) (line : List ℕ) (before written : Taken) (now' : Explored) (written' : Taken)
+    (input : List ℕ) (tail : List (List ℕ)) (tells : Bool)
     (s : Stands d begin taken now line tells before written) → lines_of input ≡ (lines_in s.events ++ s.rest ∷ []) ++ tail
     → (event : Event) → event.line ≡ line → is_fair d now.bytes event ≡ true
-    → now'.bytes ≡ (answer d now.bytes event).bytes → KeepsOne d now event now' → (IsTrue tells → (count : ℕ) × (written'.bytes ≡ written.bytes ++ take count (answer d now.bytes event).text) × (written'.flushed ≡ written.flushed))
+    → now'.bytes ≡ (answer d now.bytes event).bytes → KeepsOne d now event now'
+    → (IsTrue tells → (count : ℕ) × (written'.bytes ≡ written.bytes ++ take count (answer d now.bytes event).text) × (written'.flushed ≡ written.flushed))
     → Breaks d begin input now'.bytes tells before written'
 broken_line d begin taken now line before written now' written' input tail tells s cut event line_is fair is keeps more =
     let e = whole s.rest event in
@@ -331,11 +354,13 @@ broken_line d begin taken now line before written now' written' input tail tells
           ∙ ap (take (length out + min (more told).0 (length a.text))) (sym later.output ∙ sym (ap (λ (t : Standing). t.output) over)));
       whole = λ told. omega (arith, ap (λ es. length (session d begin es).output) (earlier_events s.events e (unrefused tail)));
       part = λ told. omega (arith, size, ap (λ es. length (session d begin es).output) (front_events s.events e (unrefused tail)));
-      flushed = λ told. (more told).2 ∙ s.flushed told ∙ ap (λ es. flushed_by before (session d begin es).output (length s.events)) (sym (earlier_events s.events e (unrefused tail)));
+      flushed = λ told. (more told).2 ∙ s.flushed told ∙ ap (λ es. flushed_by before (session d begin es).output (length s.events))
+          (sym (earlier_events s.events e (unrefused tail)));
     }
 
 -- The beginning.
-pub begun_stands : (d : Description) (now : Explored) (before : Taken) (tells : Bool) → Holds now nothing_kept → Stands d now.bytes [] now [] tells before before
+pub begun_stands : (d : Description) (now : Explored) (before : Taken) (tells : Bool) → Holds now nothing_kept
+    → Stands d now.bytes [] now [] tells before before
 unfolding Keeps
 begun_stands d now before tells holds = record {
   events = [];
@@ -353,7 +378,8 @@ begun_stands d now before tells holds = record {
 }
 
 -- A read that fails.
-pub stopped : (d : Description) (begin input taken left : List ℕ) (now : Explored) (line : List ℕ) (before written : Taken) (tells : Bool) → input ≡ taken ++ left
+pub stopped : (d : Description) (begin input taken left : List ℕ) (now : Explored) (line : List ℕ) (before written : Taken) (tells : Bool)
+    → input ≡ taken ++ left
     → Stands d begin taken now line tells before written → Stops d begin input left now.bytes tells before written
 stopped d begin input taken left now line before written tells split s = record {
   taken = taken;

@@ -44,7 +44,8 @@ behind_line d b m e new false false r = (memory_after d b (command_of d e.line) 
 behind_line d b m e new false true r = (memory_of new, (new, r, refl), λ no. holds_own new (left_once d b (command_of d e.line) m new r))
 
 -- one line
-pub keeps_line : (d : Description) (b : List ℕ) (m : Memory) (e : Event) (new : Explored) → e.tally ≡ tally_in m → Remembers d b (command_of d e.line) e.refused m new
+pub keeps_line : (d : Description) (b : List ℕ) (m : Memory) (e : Event) (new : Explored) → e.tally ≡ tally_in m
+    → Remembers d b (command_of d e.line) e.refused m new
     → (next : Memory) × Keeps d b m (e ∷ []) next × ((answer d b e).ends ≡ false → Holds new next)
 unfolding Keeps
 keeps_line d b m e new told r =
@@ -52,7 +53,8 @@ keeps_line d b m e new told r =
     (behind.0, (told, behind.1), behind.2)
 
 -- a line that ends the session
-pub keeps_end : (d : Description) (b : List ℕ) (m : Memory) (e : Event) (tail : List Event) → e.tally ≡ tally_in m → (answer d b e).ends ≡ true → Keeps d b m (e ∷ tail) m
+pub keeps_end : (d : Description) (b : List ℕ) (m : Memory) (e : Event) (tail : List Event) → e.tally ≡ tally_in m → (answer d b e).ends ≡ true
+    → Keeps d b m (e ∷ tail) m
 unfolding Keeps
 keeps_end d b m e tail told ends = (told, subst (λ x. Behind d b m e x e.refused (λ after next. Keeps d after next tail m)) (sym ends) tt)
 
@@ -75,7 +77,8 @@ keeps_append d s m (e ∷ events) more mid last going k ended rest = (
     same = rw going refl
 
     by : (ends refused : Bool) → (answer d s.bytes e).ends ≡ ends → Behind d s.bytes m e ends refused (λ after next. Keeps d after next events mid)
-        → ((answer d s.bytes e).ends ≡ false → (n : Memory) → Keeps d (answer d s.bytes e).bytes n events mid → Keeps d (answer d s.bytes e).bytes n (events ++ more) last)
+        → ((answer d s.bytes e).ends ≡ false → (n : Memory) → Keeps d (answer d s.bytes e).bytes n events mid
+        → Keeps d (answer d s.bytes e).bytes n (events ++ more) last)
         → Behind d s.bytes m e ends refused (λ after next. Keeps d after next (events ++ more) last)
     by true refused is h on = tt
     by false false is h on = on is (memory_after d s.bytes (command_of d e.line) m) h

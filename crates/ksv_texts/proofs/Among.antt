@@ -13,14 +13,17 @@ use Rattle.ksv_texts.specs.Bits.{bits_hold, magnitude, replaced_bits}
 
 -- the number of the bits that are written and of those beside them
 pub replaced : (from to : Place) (n : ℕ) (bytes : List ℕ) → byte_in from + length bytes ≡ byte_of to → from.bits ≤ to.bits → n < 2 ^ bits_between from to
-    → (number_of (bits_of bytes) / 2 ^ bits_left to / 2 ^ bits_between from to * 2 ^ bits_between from to + n) * 2 ^ bits_left to + number_of (bits_of bytes) % 2 ^ bits_left to ≡ number_of (replaced_bits from to n bytes)
+    → (number_of (bits_of bytes) / 2 ^ bits_left to / 2 ^ bits_between from to * 2 ^ bits_between from to + n) * 2 ^ bits_left to
+    + number_of (bits_of bytes) % 2 ^ bits_left to ≡ number_of (replaced_bits from to n bytes)
 unfolding replaced_bits
 replaced from to n bytes met ordered small =
     let power : 2 ^ (bits_left to + bits_between from to) ≡ 2 ^ bits_left to * 2 ^ bits_between from to = pow-add 2 (bits_left to) (bits_between from to) in
-    let above : number_of (bits_of bytes) / 2 ^ bits_left to / 2 ^ bits_between from to ≡ number_of (bits_of bytes) / 2 ^ (bits_left to + bits_between from to) =
+    let above : number_of (bits_of bytes) / 2 ^ bits_left to / 2 ^ bits_between from to
+    ≡ number_of (bits_of bytes) / 2 ^ (bits_left to + bits_between from to) =
     div-div-eq-div-mul (number_of (bits_of bytes)) (2 ^ bits_left to) (2 ^ bits_between from to) ∙ ap (λ m. number_of (bits_of bytes) / m) (sym power) in
     ap (λ m. (m * 2 ^ bits_between from to + n) * 2 ^ bits_left to + number_of (bits_of bytes) % 2 ^ bits_left to) above
-    ∙ sym (number_replaced (bits_of bytes) (bit_in from) (bits_between from to) (bits_left to) n (are_of bytes) (count_of bytes ∙ bits_cut from to (length bytes) met ordered) small)
+    ∙ sym (number_replaced (bits_of bytes) (bit_in from) (bits_between from to) (bits_left to) n (are_of bytes)
+    (count_of bytes ∙ bits_cut from to (length bytes) met ordered) small)
 
 -- they are at most 72
 pub few_bits : (from to : Place) (size : ℕ) → byte_in from + size ≡ byte_of to → from.bits ≤ to.bits → size ≤ 9 → bits_left to + bits_between from to ≤ 72

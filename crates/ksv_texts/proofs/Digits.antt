@@ -3,7 +3,8 @@ use Rattle.std.proofs.Common.{◌≡◌, ◌∙◌, ℕ, suc, ◌+◌, ◌-◌, 
 use Rattle.ksv_texts.specs.Integers.{little_endian}
 
 -- one more digit
-pub digit_more : (digits all : List ℕ) (size i rest : ℕ) → i < size → digits ++ little_endian (size - i) rest ≡ all → (digits ++ rest % 256 ∷ []) ++ little_endian (size - (i + 1)) (rest / 256) ≡ all
+pub digit_more : (digits all : List ℕ) (size i rest : ℕ) → i < size → digits ++ little_endian (size - i) rest ≡ all
+    → (digits ++ rest % 256 ∷ []) ++ little_endian (size - (i + 1)) (rest / 256) ≡ all
 unfolding little_endian
 digit_more digits all size i rest h is =
     let more : size - i ≡ suc (size - (i + 1)) = omega arith in

@@ -6,7 +6,8 @@ use Rattle.serde_json.specs.View.{items_of, members_view, view}
 use Rattle.serde_json.specs.declared.value.Value.{Value, Array, Object}
 use Rattle.serde_json.proofs.Views.{members_view-insert_entry, view-Array, view-Object}
 
-pub member_put : (es fs : List (String Global × Value)) (k : String Global) (v : Value) → fs ≡ insert_entry string_cmp es k v → members_view fs ≡ put (string_bytes k) (view v) (members_view es)
+pub member_put : (es fs : List (String Global × Value)) (k : String Global) (v : Value) → fs ≡ insert_entry string_cmp es k v
+    → members_view fs ≡ put (string_bytes k) (view v) (members_view es)
 member_put es fs k v is = ap members_view is ∙ members_view-insert_entry es k v
 
 pub object_view : (m : BTreeMap (String Global) Value) → view (Object m) ≡ object (members_view m.entries)

@@ -24,12 +24,14 @@ pub fails_on : {L K A B : Type 0} (P : Option (Got L A) → Type 0) (Q : Option 
 fails_on P Q e f h w = f (h w)
 
 -- what a callee's answer says of its caller
-pub gives_on : {X C L A : Type 0} (P Q : Option (Got L A) → Type 0) (see : X → A) (seen : List C → List L) (r : Result (X × Bor (List C)) ReadFault) → ((o : Option (Got L A)) → P o → Q o) → Gives P see seen r → Gives Q see seen r
+pub gives_on : {X C L A : Type 0} (P Q : Option (Got L A) → Type 0) (see : X → A) (seen : List C → List L) (r : Result (X × Bor (List C)) ReadFault)
+    → ((o : Option (Got L A)) → P o → Q o) → Gives P see seen r → Gives Q see seen r
 gives_on P Q see seen (Ok x) f h = f _ h
 gives_on P Q see seen (Err e) f h = λ w. f None (h w)
 
 -- a key that isn't new is among those of the entries
-pub key_tells : (key : List ℕ) (es : List Entry) (fresh b : Bool) → fresh ≡ not (is_among key (keys_of (map pair es))) → fresh ≡ b → is_among key (keys_of (map pair es)) ≡ not b
+pub key_tells : (key : List ℕ) (es : List Entry) (fresh b : Bool) → fresh ≡ not (is_among key (keys_of (map pair es))) → fresh ≡ b
+    → is_among key (keys_of (map pair es)) ≡ not b
 key_tells key es fresh b h e = turned (is_among key (keys_of (map pair es))) fresh b h e
   where
     turned : (a f b : Bool) → f ≡ not a → f ≡ b → a ≡ not b
@@ -37,7 +39,8 @@ key_tells key es fresh b h e = turned (is_among key (keys_of (map pair es))) fre
     turned false f b h e = let g : true ≡ b = sym h ∙ e in ap not g
 
 -- the same where the key was lent
-pub own_key_tells : (lent key : List ℕ) (es : List Entry) (fresh b : Bool) → fresh ≡ not (is_among lent (keys_of (map pair es))) → lent ≡ key → fresh ≡ b → is_among key (keys_of (map pair es)) ≡ not b
+pub own_key_tells : (lent key : List ℕ) (es : List Entry) (fresh b : Bool) → fresh ≡ not (is_among lent (keys_of (map pair es))) → lent ≡ key → fresh ≡ b
+    → is_among key (keys_of (map pair es)) ≡ not b
 own_key_tells lent key es fresh b h k e = ap (λ (j : List ℕ). is_among j (keys_of (map pair es))) (sym k) ∙ key_tells lent es fresh b h e
 
 -- a set that holds no keys holds those of no entries
@@ -45,21 +48,26 @@ pub keys_none : {S : Type 0} (keys : HashSet (Vec ℕ Global) S) (es : List Entr
 keys_none keys es e h = subst (λ (es : List Entry). HoldsKeys keys (keys_of (map pair es))) (sym e) h
 
 -- the keys of one entry more
-pub keys_hold : {S : Type 0} (keys : HashSet (Vec ℕ Global) S) (so_far all : List Pair) (p : Pair) (lent : List ℕ) → all ≡ so_far ++ p ∷ [] → lent ≡ p.key → HoldsKeys keys (keys_of so_far ++ lent ∷ []) → HoldsKeys keys (keys_of all)
-keys_hold keys so_far all p lent z k h = subst (λ (ks : List (List ℕ)). HoldsKeys keys ks) (ap (λ (j : List ℕ). keys_of so_far ++ j ∷ []) k ∙ sym (keys_push so_far p) ∙ ap keys_of (sym z)) h
+pub keys_hold : {S : Type 0} (keys : HashSet (Vec ℕ Global) S) (so_far all : List Pair) (p : Pair) (lent : List ℕ) → all ≡ so_far ++ p ∷ [] → lent ≡ p.key
+    → HoldsKeys keys (keys_of so_far ++ lent ∷ []) → HoldsKeys keys (keys_of all)
+keys_hold keys so_far all p lent z k h = subst (λ (ks : List (List ℕ)). HoldsKeys keys ks)
+    (ap (λ (j : List ℕ). keys_of so_far ++ j ∷ []) k ∙ sym (keys_push so_far p) ∙ ap keys_of (sym z)) h
 
 -- one more item
 pub pushed_item : (all so_far : List Yaml) (y : Yaml) → all ≡ so_far ++ y ∷ [] → map view all ≡ map view so_far ++ view y ∷ []
 pushed_item all so_far y e = ap (map view) e ∙ map_push view so_far y
 
 -- one more entry
-pub pushed_entry : (all so_far : List Entry) (e : Entry) (line : ℕ) (copy key : List ℕ) (t : Tree) → all ≡ so_far ++ e ∷ [] → pair e ≡ record { line = line; key = copy; value = t } → copy ≡ key → map pair all ≡ map pair so_far ++ record { line = line; key = key; value = t } ∷ []
+pub pushed_entry : (all so_far : List Entry) (e : Entry) (line : ℕ) (copy key : List ℕ) (t : Tree) → all ≡ so_far ++ e ∷ []
+    → pair e ≡ record { line = line; key = copy; value = t } → copy ≡ key
+    → map pair all ≡ map pair so_far ++ record { line = line; key = key; value = t } ∷ []
 pushed_entry all so_far e line copy key t h made same =
     let p : List ℕ → Pair = λ k. record { line = line; key = k; value = t } in
     ap (map pair) h ∙ map_push pair so_far e ∙ ap (λ (q : Pair). map pair so_far ++ q ∷ []) (made ∙ ap p same)
 
 -- the part at the front
-pub front_part : (ts : List CodeToken) (t : CodeToken) (rest : List CodeToken) (part : Part) → ts ≡ t ∷ rest → t.part ≡ part → tokens_view ts ≡ part_view t.line part ∷ tokens_view rest
+pub front_part : (ts : List CodeToken) (t : CodeToken) (rest : List CodeToken) (part : Part) → ts ≡ t ∷ rest → t.part ≡ part
+    → tokens_view ts ≡ part_view t.line part ∷ tokens_view rest
 front_part ts t rest part e h = ap tokens_view e ∙ ap (λ (p : Part). part_view t.line p ∷ tokens_view rest) h
 
 -- what `is_empty` tells

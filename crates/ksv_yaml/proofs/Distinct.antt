@@ -49,7 +49,8 @@ AreClear seen (entry n k t es) = (is_among k seen ≡ false) × AreClear (seen +
 
 clear_apart : (seen : List (List ℕ)) (j : List ℕ) (es : Entries) → AreClear seen es → is_among j seen ≡ true → IsApart j es
 clear_apart seen j no_entries c h = tt
-clear_apart seen j (entry n k t es) c h = (λ e. let f = ap (λ (k : List ℕ). is_among k seen) e in absurd (cc (c.0, h, f)), clear_apart (seen ++ k ∷ []) j es c.1 (among_more j k seen h))
+clear_apart seen j (entry n k t es) c h =
+    (λ e. let f = ap (λ (k : List ℕ). is_among k seen) e in absurd (cc (c.0, h, f)), clear_apart (seen ++ k ∷ []) j es c.1 (among_more j k seen h))
 
 pub clear_distinct : (seen : List (List ℕ)) (es : Entries) → AreClear seen es → AreDistinct es
 clear_distinct seen no_entries c = tt
@@ -63,7 +64,8 @@ pub distinct_clear : (seen : List (List ℕ)) (es : Entries) → AreDistinct es 
 distinct_clear seen no_entries d a = tt
 distinct_clear seen (entry n k t es) d a = (
   not_true (is_among k seen) (λ h. (a k h).0 refl),
-  distinct_clear (seen ++ k ∷ []) es d.1 (λ j h. elim (among_cases j k seen h) [ inl b ↦ (a j b).1 | inr e ↦ subst (λ (j : List ℕ). IsApart j es) (sym e) d.0 ]),
+  distinct_clear (seen ++ k ∷ []) es d.1
+      (λ j h. elim (among_cases j k seen h) [ inl b ↦ (a j b).1 | inr e ↦ subst (λ (j : List ℕ). IsApart j es) (sym e) d.0 ]),
 )
 
 or_swap : (a b c : Bool) → cond a true (cond b true c) ≡ cond b true (cond a true c)

@@ -21,14 +21,18 @@ pub record ItemsOk (d : ℕ) (ts : List Token) (is : Items) : Type 0 where
   pub reads : (rest : List Token) (f : ℕ) → 3 * length (ts ++ Close ∷ rest) + 3 ≤ f → flow_items f d (ts ++ Close ∷ rest) ≡ got is rest
 
 pub record EntriesOk (d : ℕ) (ts : List Token) (es : Entries) : Type 0 where
-  pub reads : (rest : List Token) (f : ℕ) (seen : List (List ℕ)) → AreClear seen es → 3 * length (ts ++ CloseMap ∷ rest) + 3 ≤ f → flow_entries f d seen (ts ++ CloseMap ∷ rest) ≡ got es rest
+  pub reads : (rest : List Token) (f : ℕ) (seen : List (List ℕ)) → AreClear seen es → 3 * length (ts ++ CloseMap ∷ rest) + 3 ≤ f
+      → flow_entries f d seen (ts ++ CloseMap ∷ rest) ≡ got es rest
 
-items_turn : (f d : ℕ) (ts : List Token) (t : Tree) (mid : List Token) (is : Items) (rest : List Token) → flow f d ts ≡ got t mid → flow_more f d mid ≡ got is rest → first_item f d ts ≡ got (item t is) rest
+items_turn : (f d : ℕ) (ts : List Token) (t : Tree) (mid : List Token) (is : Items) (rest : List Token) → flow f d ts ≡ got t mid
+    → flow_more f d mid ≡ got is rest → first_item f d ts ≡ got (item t is) rest
 items_turn f d ts t mid is rest ev em =
     ap (λ (o : Option (Got Token Tree)). o >>= λ t. flow_more f d t.rest >>= λ is. got (item t.value is.value) is.rest) ev
     ∙ ap (λ (o : Option (Got Token Items)). o >>= λ is. got (item t is.value) is.rest) em
 
-entries_turn : (f d k : ℕ) (seen : List (List ℕ)) (key : List ℕ) (ts : List Token) (t : Tree) (mid : List Token) (es : Entries) (rest : List Token) → is_among key seen ≡ false → flow f d ts ≡ got t mid → flow_others f d (seen ++ key ∷ []) mid ≡ got es rest → flow_entries (suc f) d seen (Key k key ∷ ts) ≡ got (entry k key t es) rest
+entries_turn : (f d k : ℕ) (seen : List (List ℕ)) (key : List ℕ) (ts : List Token) (t : Tree) (mid : List Token) (es : Entries) (rest : List Token)
+    → is_among key seen ≡ false → flow f d ts ≡ got t mid → flow_others f d (seen ++ key ∷ []) mid ≡ got es rest
+    → flow_entries (suc f) d seen (Key k key ∷ ts) ≡ got (entry k key t es) rest
 entries_turn f d k seen key ts t mid es rest ea ev em =
     pick_false (is_among key seen) _ _ ea
     ∙ ap (λ (o : Option (Got Token Tree)). o >>= λ t. flow_others f d (seen ++ key ∷ []) t.rest >>= λ es. got (entry k key t.value es.value) es.rest) ev
@@ -55,14 +59,16 @@ ok_list {d} k {ts} {is} xs split o = record {
   begins = λ e f rest. refl;
 }
 
-ok_dict : {d : ℕ} (k : ℕ) {ts : List Token} {es : Entries} (xs : List Token) → ts ≡ xs ++ CloseMap ∷ [] → AreDistinct es → EntriesOk d xs es → FlowOk (suc d) (OpenMap k ∷ ts) (Map k es)
+ok_dict : {d : ℕ} (k : ℕ) {ts : List Token} {es : Entries} (xs : List Token) → ts ≡ xs ++ CloseMap ∷ [] → AreDistinct es → EntriesOk d xs es
+    → FlowOk (suc d) (OpenMap k ∷ ts) (Map k es)
 ok_dict {d} k {ts} {es} xs split distinct o = record {
   reads = λ rest f g.
       let i = one_less f (omega arith) in
       let w = cut_two ts xs [] rest CloseMap split in
       ap (λ (f : ℕ). flow f (suc d) (OpenMap k ∷ (ts ++ rest))) i.1
       ∙ ap (λ (r : List Token). flow_entries i.0 d [] r >>= λ es. got (Map k es.value) es.rest) w
-      ∙ ap (λ (o : Option (Got Token Entries)). o >>= λ es. got (Map k es.value) es.rest) (o.reads rest i.0 [] (distinct_clear [] es distinct (λ j e. absurd cc)) (omega (arith, i.1, g, ap length w)));
+      ∙ ap (λ (o : Option (Got Token Entries)). o >>= λ es. got (Map k es.value) es.rest)
+      (o.reads rest i.0 [] (distinct_clear [] es distinct (λ j e. absurd cc)) (omega (arith, i.1, g, ap length w)));
   begins = λ e f rest. refl;
 }
 
@@ -77,7 +83,8 @@ ok_only {d} {ts} {t} o = record {
       ∙ items_turn (suc i.0) d (ts ++ Close ∷ rest) t (Close ∷ rest) no_items rest (o.reads (Close ∷ rest) (suc i.0) (omega (arith, i.1, g))) refl;
 }
 
-ok_then : {d : ℕ} {ts : List Token} {t : Tree} {is : Items} (xs ys : List Token) → ts ≡ xs ++ Comma ∷ ys → FlowOk d xs t → ItemsOk d ys is → ItemsOk d ts (item t is)
+ok_then : {d : ℕ} {ts : List Token} {t : Tree} {is : Items} (xs ys : List Token) → ts ≡ xs ++ Comma ∷ ys → FlowOk d xs t → ItemsOk d ys is
+    → ItemsOk d ts (item t is)
 ok_then {d} {ts} {t} {is} xs ys split o s = record {
   reads = λ rest f g.
       let i = two_less f (omega arith) in
@@ -87,7 +94,8 @@ ok_then {d} {ts} {t} {is} xs ys split o s = record {
       ap (λ (f : ℕ). flow_items f d (ts ++ Close ∷ rest)) i.1
       ∙ ap (λ (r : List Token). flow_items (suc (suc i.0)) d r) w
       ∙ o.begins d (suc i.0) (Comma ∷ (ys ++ Close ∷ rest))
-      ∙ items_turn (suc i.0) d (xs ++ (Comma ∷ (ys ++ Close ∷ rest))) t (Comma ∷ (ys ++ Close ∷ rest)) is rest (o.reads (Comma ∷ (ys ++ Close ∷ rest)) (suc i.0) (omega (arith, i.1, g, n))) (s.reads rest i.0 (omega (arith, i.1, g, n, m)));
+      ∙ items_turn (suc i.0) d (xs ++ (Comma ∷ (ys ++ Close ∷ rest))) t (Comma ∷ (ys ++ Close ∷ rest)) is rest
+      (o.reads (Comma ∷ (ys ++ Close ∷ rest)) (suc i.0) (omega (arith, i.1, g, n))) (s.reads rest i.0 (omega (arith, i.1, g, n, m)));
 }
 
 ok_no_others : {d : ℕ} → EntriesOk d [] no_entries
@@ -98,10 +106,12 @@ ok_last {d} k key {ts} {t} o = record {
   reads = λ rest f seen c g.
       let i = two_less f (omega arith) in
       ap (λ (f : ℕ). flow_entries f d seen (Key k key ∷ (ts ++ CloseMap ∷ rest))) i.1
-      ∙ entries_turn (suc i.0) d k seen key (ts ++ CloseMap ∷ rest) t (CloseMap ∷ rest) no_entries rest c.0 (o.reads (CloseMap ∷ rest) (suc i.0) (omega (arith, i.1, g))) refl;
+      ∙ entries_turn (suc i.0) d k seen key (ts ++ CloseMap ∷ rest) t (CloseMap ∷ rest) no_entries rest c.0
+      (o.reads (CloseMap ∷ rest) (suc i.0) (omega (arith, i.1, g))) refl;
 }
 
-ok_more : {d : ℕ} (k : ℕ) (key : List ℕ) {ts : List Token} {t : Tree} {es : Entries} (xs ys : List Token) → ts ≡ xs ++ Comma ∷ ys → FlowOk d xs t → EntriesOk d ys es → EntriesOk d (Key k key ∷ ts) (entry k key t es)
+ok_more : {d : ℕ} (k : ℕ) (key : List ℕ) {ts : List Token} {t : Tree} {es : Entries} (xs ys : List Token) → ts ≡ xs ++ Comma ∷ ys → FlowOk d xs t
+    → EntriesOk d ys es → EntriesOk d (Key k key ∷ ts) (entry k key t es)
 ok_more {d} k key {ts} {t} {es} xs ys split o s = record {
   reads = λ rest f seen c g.
       let i = two_less f (omega arith) in
@@ -110,7 +120,9 @@ ok_more {d} k key {ts} {t} {es} xs ys split o s = record {
       let m = length-append xs (Comma ∷ (ys ++ CloseMap ∷ rest)) in
       ap (λ (f : ℕ). flow_entries f d seen (Key k key ∷ (ts ++ CloseMap ∷ rest))) i.1
       ∙ ap (λ (r : List Token). flow_entries (suc (suc i.0)) d seen (Key k key ∷ r)) w
-      ∙ entries_turn (suc i.0) d k seen key (xs ++ (Comma ∷ (ys ++ CloseMap ∷ rest))) t (Comma ∷ (ys ++ CloseMap ∷ rest)) es rest c.0 (o.reads (Comma ∷ (ys ++ CloseMap ∷ rest)) (suc i.0) (omega (arith, i.1, g, n))) (s.reads rest i.0 (seen ++ key ∷ []) c.1 (omega (arith, i.1, g, n, m)));
+      ∙ entries_turn (suc i.0) d k seen key (xs ++ (Comma ∷ (ys ++ CloseMap ∷ rest))) t (Comma ∷ (ys ++ CloseMap ∷ rest)) es rest c.0
+      (o.reads (Comma ∷ (ys ++ CloseMap ∷ rest)) (suc i.0) (omega (arith, i.1, g, n)))
+      (s.reads rest i.0 (seen ++ key ∷ []) c.1 (omega (arith, i.1, g, n, m)));
 }
 
 mutual

@@ -34,20 +34,25 @@ closed_none : (close : Token) (P : List Token → Type 0) (ts : List Token) → 
 closed_none close P ts p = record { front = close ∷ []; cut = refl; is = record { inner = []; is = refl; holds = p } }
 
 -- a first value, and what more there is; a front stands before it
-joined : {A : Type 0} (close : Token) (pre : List Token) (none : A) (P : List Token → A → Type 0) (Q : List Token → Type 0) (R : List Token → A → Type 0) {ts mid : List Token} (x : Got Token A) →
+joined : {A : Type 0} (close : Token) (pre : List Token) (none : A) (P : List Token → A → Type 0) (Q : List Token → Type 0) (R : List Token → A → Type 0)
+    {ts mid : List Token} (x : Got Token A) →
     ((xs : List Token) → Q xs → R (pre ++ xs) none) → ((xs ys : List Token) → Q xs → P ys x.value → R (pre ++ (xs ++ Comma ∷ ys)) x.value) →
     Took Token ts mid Q → More close none P mid x → Took Token (pre ++ ts) x.rest (Closed close (λ xs. R xs x.value))
 joined close pre none P Q R {ts} {mid} x f g t (inl o) = record {
   front = (pre ++ t.front) ++ close ∷ [];
-  cut = ap (λ (r : List Token). pre ++ r) (t.cut ∙ ap (λ (r : List Token). t.front ++ r) o.is) ∙ sym (append_assoc pre t.front (close ∷ x.rest)) ∙ sym (append_assoc (pre ++ t.front) (close ∷ []) x.rest);
+  cut = ap (λ (r : List Token). pre ++ r) (t.cut ∙ ap (λ (r : List Token). t.front ++ r) o.is) ∙ sym (append_assoc pre t.front (close ∷ x.rest))
+      ∙ sym (append_assoc (pre ++ t.front) (close ∷ []) x.rest);
   is = record { inner = pre ++ t.front; is = refl; holds = subst (λ (v : _). R (pre ++ t.front) v) (sym o.value) (f t.front t.is) };
 }
 joined close pre none P Q R {ts} {mid} x f g t (inr u) = record {
   front = pre ++ (t.front ++ u.front);
-  cut = ap (λ (r : List Token). pre ++ r) (t.cut ∙ ap (λ (r : List Token). t.front ++ r) u.cut ∙ sym (append_assoc t.front u.front x.rest)) ∙ sym (append_assoc pre (t.front ++ u.front) x.rest);
+  cut = ap (λ (r : List Token). pre ++ r) (t.cut ∙ ap (λ (r : List Token). t.front ++ r) u.cut ∙ sym (append_assoc t.front u.front x.rest))
+      ∙ sym (append_assoc pre (t.front ++ u.front) x.rest);
   is = record {
     inner = pre ++ (t.front ++ Comma ∷ u.is.inner);
-    is = ap (λ (r : List Token). pre ++ (t.front ++ r)) u.is.is ∙ ap (λ (r : List Token). pre ++ r) (sym (append_assoc t.front (Comma ∷ u.is.inner) (close ∷ []))) ∙ sym (append_assoc pre (t.front ++ Comma ∷ u.is.inner) (close ∷ []));
+    is = ap (λ (r : List Token). pre ++ (t.front ++ r)) u.is.is
+        ∙ ap (λ (r : List Token). pre ++ r) (sym (append_assoc t.front (Comma ∷ u.is.inner) (close ∷ [])))
+        ∙ sym (append_assoc pre (t.front ++ Comma ∷ u.is.inner) (close ∷ []));
     holds = g t.front u.is.inner t.is u.is.holds;
   };
 }
@@ -55,7 +60,9 @@ joined close pre none P Q R {ts} {mid} x f g t (inr u) = record {
 mutual
   pub flow_sound : (f d : ℕ) (ts : List Token) (x : Got Token Tree) → flow f d ts ≡ Some x → Took Token ts x.rest (λ xs. Flow d xs x.value)
   flow_sound zero d ts x h = absurd cc
-  flow_sound (suc f) d (Scalar k q text ∷ ts) x h = at_got (λ (x : Got Token Tree). Took Token (Scalar k q text ∷ ts) x.rest (λ xs. Flow d xs x.value)) (Text k q text) ts x h (record { front = Scalar k q text ∷ []; cut = refl; is = scalar })
+  flow_sound (suc f) d (Scalar k q text ∷ ts) x h =
+      at_got (λ (x : Got Token Tree). Took Token (Scalar k q text ∷ ts) x.rest (λ xs. Flow d xs x.value)) (Text k q text) ts x h
+      (record { front = Scalar k q text ∷ []; cut = refl; is = scalar })
   flow_sound (suc f) d (Open k ∷ ts) x h =
       let e = deeper_some d (λ d. flow_items f d ts >>= λ is. got (Seq k is.value) is.rest) x h in
       let is = bind_some (flow_items f e.0 ts) (λ is. got (Seq k is.value) is.rest) x e.2 in
@@ -71,36 +78,52 @@ mutual
       (took_first (OpenMap k) _ (λ xs c. dict c.inner c.is c.holds (clear_distinct [] es.0.value s.1)) s.0))
   flow_sound (suc f) d ts x h = absurd cc
 
-  flow_items_sound : (f d : ℕ) (ts : List Token) (x : Got Token Items) → flow_items f d ts ≡ Some x → Took Token ts x.rest (Closed Close (λ xs. FlowItems d xs x.value))
+  flow_items_sound : (f d : ℕ) (ts : List Token) (x : Got Token Items) → flow_items f d ts ≡ Some x
+      → Took Token ts x.rest (Closed Close (λ xs. FlowItems d xs x.value))
   flow_items_sound zero d ts x h = absurd cc
-  flow_items_sound (suc f) d (Close ∷ ts) x h = at_got (λ (x : Got Token Items). Took Token (Close ∷ ts) x.rest (Closed Close (λ xs. FlowItems d xs x.value))) no_items ts x h (closed_none Close _ ts no_more)
+  flow_items_sound (suc f) d (Close ∷ ts) x h = at_got (λ (x : Got Token Items). Took Token (Close ∷ ts) x.rest (Closed Close (λ xs. FlowItems d xs x.value)))
+      no_items ts x h (closed_none Close _ ts no_more)
   flow_items_sound (suc f) d ts x h =
       let t = bind_some (flow f d ts) (λ t. flow_more f d t.rest >>= λ is. got (item t.value is.value) is.rest) x h in
       let is = bind_some (flow_more f d t.0.rest) (λ is. got (item t.0.value is.value) is.rest) x t.2 in
       at_got (λ (x : Got Token Items). Took Token ts x.rest (Closed Close (λ xs. FlowItems d xs x.value))) (item t.0.value is.0.value) is.0.rest x is.2
-      (joined Close [] no_items (λ xs is. FlowItems d xs is) (λ xs. Flow d xs t.0.value) (λ xs is. FlowItems d xs (item t.0.value is)) is.0 (λ xs w. only w) (λ xs ys w s. then xs ys refl w s) (flow_sound f d ts t.0 t.1) (flow_more_sound f d t.0.rest is.0 is.1))
+      (joined Close [] no_items (λ xs is. FlowItems d xs is) (λ xs. Flow d xs t.0.value) (λ xs is. FlowItems d xs (item t.0.value is)) is.0 (λ xs w. only w)
+      (λ xs ys w s. then xs ys refl w s) (flow_sound f d ts t.0 t.1) (flow_more_sound f d t.0.rest is.0 is.1))
 
   flow_more_sound : (f d : ℕ) (ts : List Token) (x : Got Token Items) → flow_more f d ts ≡ Some x → More Close no_items (λ xs is. FlowItems d xs is) ts x
   flow_more_sound zero d ts x h = absurd cc
   flow_more_sound (suc f) d (Close ∷ ts) x h = inl (at_got (Over Close no_items (Close ∷ ts)) no_items ts x h (record { value = refl; is = refl }))
-  flow_more_sound (suc f) d (Comma ∷ ts) x h = inr (took_first Comma _ (λ xs c. record { inner = c.inner; is = ap (λ (r : List Token). Comma ∷ r) c.is; holds = c.holds }) (flow_items_sound f d ts x h))
+  flow_more_sound (suc f) d (Comma ∷ ts) x h =
+      inr (took_first Comma _ (λ xs c. record { inner = c.inner; is = ap (λ (r : List Token). Comma ∷ r) c.is; holds = c.holds })
+      (flow_items_sound f d ts x h))
   flow_more_sound (suc f) d ts x h = absurd cc
 
-  flow_entries_sound : (f d : ℕ) (seen : List (List ℕ)) (ts : List Token) (x : Got Token Entries) → flow_entries f d seen ts ≡ Some x → Took Token ts x.rest (Closed CloseMap (λ xs. FlowEntries d xs x.value)) × AreClear seen x.value
+  flow_entries_sound : (f d : ℕ) (seen : List (List ℕ)) (ts : List Token) (x : Got Token Entries) → flow_entries f d seen ts ≡ Some x
+      → Took Token ts x.rest (Closed CloseMap (λ xs. FlowEntries d xs x.value)) × AreClear seen x.value
   flow_entries_sound zero d seen ts x h = absurd cc
-  flow_entries_sound (suc f) d seen (CloseMap ∷ ts) x h = at_got (λ (x : Got Token Entries). Took Token (CloseMap ∷ ts) x.rest (Closed CloseMap (λ xs. FlowEntries d xs x.value)) × AreClear seen x.value) no_entries ts x h (closed_none CloseMap _ ts no_others, tt)
+  flow_entries_sound (suc f) d seen (CloseMap ∷ ts) x h =
+      at_got (λ (x : Got Token Entries). Took Token (CloseMap ∷ ts) x.rest (Closed CloseMap (λ xs. FlowEntries d xs x.value)) × AreClear seen x.value)
+      no_entries ts x h (closed_none CloseMap _ ts no_others, tt)
   flow_entries_sound (suc f) d seen (Key k key ∷ ts) x h =
-      let g = pick_guard (is_among key seen) (flow f d ts >>= λ t. flow_others f d (seen ++ key ∷ []) t.rest >>= λ es. got (entry k key t.value es.value) es.rest) x h in
+      let g = pick_guard (is_among key seen)
+      (flow f d ts >>= λ t. flow_others f d (seen ++ key ∷ []) t.rest >>= λ es. got (entry k key t.value es.value) es.rest) x h in
       let t = bind_some (flow f d ts) (λ t. flow_others f d (seen ++ key ∷ []) t.rest >>= λ es. got (entry k key t.value es.value) es.rest) x g.1 in
       let es = bind_some (flow_others f d (seen ++ key ∷ []) t.0.rest) (λ es. got (entry k key t.0.value es.value) es.rest) x t.2 in
       let s = flow_others_sound f d (seen ++ key ∷ []) t.0.rest es.0 es.1 in
-      at_got (λ (x : Got Token Entries). Took Token (Key k key ∷ ts) x.rest (Closed CloseMap (λ xs. FlowEntries d xs x.value)) × AreClear seen x.value) (entry k key t.0.value es.0.value) es.0.rest x es.2
-      (joined CloseMap (Key k key ∷ []) no_entries (λ xs es. FlowEntries d xs es) (λ xs. Flow d xs t.0.value) (λ xs es. FlowEntries d xs (entry k key t.0.value es)) es.0 (λ xs w. last w) (λ xs ys w s. more xs ys refl w s) (flow_sound f d ts t.0 t.1) s.0, (g.0, s.1))
+      at_got (λ (x : Got Token Entries). Took Token (Key k key ∷ ts) x.rest (Closed CloseMap (λ xs. FlowEntries d xs x.value)) × AreClear seen x.value)
+      (entry k key t.0.value es.0.value) es.0.rest x es.2 (
+        joined CloseMap (Key k key ∷ []) no_entries (λ xs es. FlowEntries d xs es) (λ xs. Flow d xs t.0.value)
+            (λ xs es. FlowEntries d xs (entry k key t.0.value es)) es.0 (λ xs w. last w) (λ xs ys w s. more xs ys refl w s) (flow_sound f d ts t.0 t.1) s.0,
+        (g.0, s.1),
+      )
   flow_entries_sound (suc f) d seen ts x h = absurd cc
 
-  flow_others_sound : (f d : ℕ) (seen : List (List ℕ)) (ts : List Token) (x : Got Token Entries) → flow_others f d seen ts ≡ Some x → More CloseMap no_entries (λ xs es. FlowEntries d xs es) ts x × AreClear seen x.value
+  flow_others_sound : (f d : ℕ) (seen : List (List ℕ)) (ts : List Token) (x : Got Token Entries) → flow_others f d seen ts ≡ Some x
+      → More CloseMap no_entries (λ xs es. FlowEntries d xs es) ts x × AreClear seen x.value
   flow_others_sound zero d seen ts x h = absurd cc
-  flow_others_sound (suc f) d seen (CloseMap ∷ ts) x h = at_got (λ (x : Got Token Entries). More CloseMap no_entries (λ xs es. FlowEntries d xs es) (CloseMap ∷ ts) x × AreClear seen x.value) no_entries ts x h (inl (record { value = refl; is = refl }), tt)
+  flow_others_sound (suc f) d seen (CloseMap ∷ ts) x h =
+      at_got (λ (x : Got Token Entries). More CloseMap no_entries (λ xs es. FlowEntries d xs es) (CloseMap ∷ ts) x × AreClear seen x.value) no_entries ts x h
+      (inl (record { value = refl; is = refl }), tt)
   flow_others_sound (suc f) d seen (Comma ∷ ts) x h =
       let s = flow_entries_sound f d seen ts x h in
       (inr (took_first Comma _ (λ xs c. record { inner = c.inner; is = ap (λ (r : List Token). Comma ∷ r) c.is; holds = c.holds }) s.0), s.1)

@@ -18,12 +18,17 @@ use Rattle.ksv_yaml.proofs.FlowSound.{flow_sound}
 
 -- ---- plain scalars
 
-line_on_sound : (n : ℕ) (l : Line) (ls : List Line) (x : Got Line (List ℕ)) (q c deep : Bool) (text : Option (List ℕ × Bool)) → is_quiet l ≡ q → nat_le n l.indent ≡ deep → more_of l.content ≡ text →
+line_on_sound : (n : ℕ) (l : Line) (ls : List Line) (x : Got Line (List ℕ)) (q c deep : Bool) (text : Option (List ℕ × Bool)) → is_quiet l ≡ q
+    → nat_le n l.indent ≡ deep → more_of l.content ≡ text →
     ((c : Bool) (y : Got Line (List ℕ)) → goes_on n c ls ≡ Some y → Took Line ls y.rest (λ xs. GoesOn n c xs y.value)) →
     line_on q c deep text (loud ls) (l ∷ ls) (λ c. goes_on n c ls) ≡ Some x → Took Line (l ∷ ls) x.rest (λ xs. GoesOn n c xs x.value)
-line_on_sound n l ls x true c deep text eq ed et f h = at_got (λ (x : Got Line (List ℕ)). Took Line (l ∷ ls) x.rest (λ xs. GoesOn n c xs x.value)) [] (loud ls) x h (took_first l _ (λ xs a. ends (eq, a)) (loud_took ls))
-line_on_sound n l ls x false true deep text eq ed et f h = at_got (λ (x : Got Line (List ℕ)). Took Line (l ∷ ls) x.rest (λ xs. GoesOn n true xs x.value)) [] (l ∷ ls) x h (took_none (l ∷ ls) _ (ends tt))
-line_on_sound n l ls x false false false text eq ed et f h = at_got (λ (x : Got Line (List ℕ)). Took Line (l ∷ ls) x.rest (λ xs. GoesOn n false xs x.value)) [] (l ∷ ls) x h (took_none (l ∷ ls) _ (ends tt))
+line_on_sound n l ls x true c deep text eq ed et f h =
+    at_got (λ (x : Got Line (List ℕ)). Took Line (l ∷ ls) x.rest (λ xs. GoesOn n c xs x.value)) [] (loud ls) x h
+    (took_first l _ (λ xs a. ends (eq, a)) (loud_took ls))
+line_on_sound n l ls x false true deep text eq ed et f h =
+    at_got (λ (x : Got Line (List ℕ)). Took Line (l ∷ ls) x.rest (λ xs. GoesOn n true xs x.value)) [] (l ∷ ls) x h (took_none (l ∷ ls) _ (ends tt))
+line_on_sound n l ls x false false false text eq ed et f h =
+    at_got (λ (x : Got Line (List ℕ)). Took Line (l ∷ ls) x.rest (λ xs. GoesOn n false xs x.value)) [] (l ∷ ls) x h (took_none (l ∷ ls) _ (ends tt))
 line_on_sound n l ls x false false true None eq ed et f h = absurd cc
 line_on_sound n l ls x false false true (Some t) eq ed et f h =
     let r = bind_some (goes_on n t.1 ls) (λ r. got (32 ∷ (t.0 ++ r.value)) r.rest) x h in
@@ -74,28 +79,34 @@ leaves_front n (l ∷ xs) ys h = h
 
 -- ---- all kinds
 
-block_took : (d n : ℕ) (fold keep : Bool) (l : Line) (ls : List Line) (text : List ℕ) → block_text fold keep (front (is_inner n) ls) ≡ Some text → Took Line ls (loud (behind (is_inner n) ls)) (λ xs. Inlined d n (Block fold keep) l xs (Text l.number false text))
+block_took : (d n : ℕ) (fold keep : Bool) (l : Line) (ls : List Line) (text : List ℕ) → block_text fold keep (front (is_inner n) ls) ≡ Some text
+    → Took Line ls (loud (behind (is_inner n) ls)) (λ xs. Inlined d n (Block fold keep) l xs (Text l.number false text))
 block_took d n fold keep l ls text e =
     let fs = front (is_inner n) ls in
     let t = loud_took (behind (is_inner n) ls) in
     record {
       front = fs ++ t.front;
       cut = split (is_inner n) ls ∙ ap (λ (r : List Line). fs ++ r) t.cut ∙ sym (append_assoc fs t.front (loud (behind (is_inner n) ls)));
-      is = block fs t.front refl (inner_front n ls) (leaves_front n t.front (loud (behind (is_inner n) ls)) (subst (λ (r : List Line). Leaves n r) t.cut (leaves_behind n ls))) t.is e;
+      is = block fs t.front refl (inner_front n ls)
+          (leaves_front n t.front (loud (behind (is_inner n) ls)) (subst (λ (r : List Line). Leaves n r) t.cut (leaves_behind n ls))) t.is e;
     }
 
 all_some : (t : Tree) (us : List Token) (ls : List Line) (x : Got Line Tree) → all_of t us ls ≡ Some x → (us ≡ []) × (got t ls ≡ Some x)
 all_some t [] ls x h = (refl, h)
 all_some t (u ∷ us) ls x h = absurd cc
 
-pub inlined_sound : (d n : ℕ) (k : InlineKind) (l : Line) (ls : List Line) (x : Got Line Tree) → inlined d n k l ls ≡ Some x → Took Line ls x.rest (λ xs. Inlined d n k l xs x.value)
+pub inlined_sound : (d n : ℕ) (k : InlineKind) (l : Line) (ls : List Line) (x : Got Line Tree) → inlined d n k l ls ≡ Some x
+    → Took Line ls x.rest (λ xs. Inlined d n k l xs x.value)
 inlined_sound d n (Plain text c) l ls x h =
     let r = bind_some (goes_on n c ls) (λ r. got (Text l.number false (text ++ r.value)) r.rest) x h in
-    at_got (λ (x : Got Line Tree). Took Line ls x.rest (λ xs. Inlined d n (Plain text c) l xs x.value)) (Text l.number false (text ++ r.0.value)) r.0.rest x r.2 (took_as _ (λ xs g. plain g) (goes_on_sound n c ls r.0 r.1))
-inlined_sound d n (Quoted text) l ls x h = at_got (λ (x : Got Line Tree). Took Line ls x.rest (λ xs. Inlined d n (Quoted text) l xs x.value)) (Text l.number true text) (loud ls) x h (took_as _ (λ xs a. quoted a) (loud_took ls))
+    at_got (λ (x : Got Line Tree). Took Line ls x.rest (λ xs. Inlined d n (Plain text c) l xs x.value)) (Text l.number false (text ++ r.0.value)) r.0.rest x r.2
+    (took_as _ (λ xs g. plain g) (goes_on_sound n c ls r.0 r.1))
+inlined_sound d n (Quoted text) l ls x h = at_got (λ (x : Got Line Tree). Took Line ls x.rest (λ xs. Inlined d n (Quoted text) l xs x.value))
+    (Text l.number true text) (loud ls) x h (took_as _ (λ xs a. quoted a) (loud_took ls))
 inlined_sound d n (Block fold keep) l ls x h =
     let r = bind_some (block_text fold keep (front (is_inner n) ls)) (λ text. got (Text l.number false text) (loud (behind (is_inner n) ls))) x h in
-    at_got (λ (x : Got Line Tree). Took Line ls x.rest (λ xs. Inlined d n (Block fold keep) l xs x.value)) (Text l.number false r.0) (loud (behind (is_inner n) ls)) x r.2 (block_took d n fold keep l ls r.0 r.1)
+    at_got (λ (x : Got Line Tree). Took Line ls x.rest (λ xs. Inlined d n (Block fold keep) l xs x.value)) (Text l.number false r.0)
+    (loud (behind (is_inner n) ls)) x r.2 (block_took d n fold keep l ls r.0 r.1)
 inlined_sound d n Flowing l ls x h =
     let ts = bind_some (tokens_of (l ∷ front (is_within n) ls)) (λ ts. flow_in d ts >>= λ x. all_of x.value x.rest (behind (is_within n) ls)) x h in
     let t = bind_some (flow_in d ts.0) (λ x. all_of x.value x.rest (behind (is_within n) ls)) x ts.2 in
@@ -103,4 +114,9 @@ inlined_sound d n Flowing l ls x h =
     let s = flow_sound _ d ts.0 t.0 t.1 in
     let e : s.front ≡ ts.0 = sym (s.cut ∙ ap (λ (r : List Token). s.front ++ r) a.0 ∙ append-nil s.front) in
     at_got (λ (x : Got Line Tree). Took Line ls x.rest (λ xs. Inlined d n Flowing l xs x.value)) t.0.value (behind (is_within n) ls) x a.1
-    (record { front = front (is_within n) ls; cut = split (is_within n) ls; is = flow (within_front n ls) ts.1 (subst (λ (r : List Token). Flow d r t.0.value) e s.is) })
+    (record {
+      front = front (is_within n) ls;
+      cut = split (is_within n) ls;
+      is = flow (within_front n ls) ts.1
+          (subst (λ (r : List Token). Flow d r t.0.value) e s.is);
+    })

@@ -1,10 +1,13 @@
 -- What is read is spelled so.
-use Rattle.std.proofs.Common.{◌≡◌, ℕ, zero, suc, ◌≤◌, ◌<◌, Bool, true, false, cond, List, [], ◌∷◌, ◌++◌, length, Option, Some, None, refl, sym, ap, subst, arith, ◌⊎◌, inl, inr}
+use Rattle.std.proofs.Common.{◌≡◌, ℕ, zero, suc, ◌≤◌, ◌<◌, Bool, true, false, cond, List, [], ◌∷◌, ◌++◌, length, Option, Some, None, refl, sym, ap, subst}
+use Rattle.std.proofs.Common.{arith, ◌⊎◌, inl, inr}
 use Rattle.std.specs.Prelude.{◌==◌, ◌&&◌, nat_lt}
 use Rattle.std.proofs.lemmas.Bool.{eqb-true, ltb-true, and_parts}
 use Rattle.ksv_yaml_tree.specs.Tree.{Tree, Text, Seq, Map, Items, no_items, item, Entries, no_entries, entry}
-use Rattle.ksv_yaml.specs.Grammar.{AreQuiet, at_column, from_here, Node, map, seq, inline, Mapping, last, more, Value, empty, below, level, here, Sequence, only, then, Item, none, under, compact, tabbed}
-use Rattle.ksv_yaml.specs.Reading.{deeper, is_among, inlined, unless_level, node, node_by, entries, entries_by, more_entries, value, value_below, value_here, items, items_by, more_items, item_at, item_below}
+use Rattle.ksv_yaml.specs.Grammar.{AreQuiet, at_column, from_here, Node, map, seq, inline, Mapping, last, more, Value, empty, below, level, here, Sequence}
+use Rattle.ksv_yaml.specs.Grammar.{only, then, Item, none, under, compact, tabbed}
+use Rattle.ksv_yaml.specs.Reading.{deeper, is_among, inlined, unless_level, node, node_by, entries, entries_by, more_entries, value, value_below, value_here}
+use Rattle.ksv_yaml.specs.Reading.{items, items_by, more_items, item_at, item_below}
 use Rattle.ksv_yaml_scan.specs.Got.{Got, got, ◌>>=◌}
 use Rattle.ksv_yaml_scan.specs.Lines.{Line, shown, columns, has_tab, white_or_end, loud}
 use Rattle.ksv_yaml_scan.specs.Starts.{InlineKind, Dashed, Start, Nothing, Dash, Key, Inline, Refused, dash_of, key_of, start_of, is_dash, is_key}
@@ -29,7 +32,9 @@ abbrev pub MoreItems : ℕ → ℕ → List Line → Got Line Items → Type 0
 MoreItems d m ls x = NoMore no_items ls x ⊎ Took Line ls x.rest (λ xs. Sequence d m xs x.value)
 
 -- a first entry, and what more there is
-entries_join : {d m : ℕ} (seen : List (List ℕ)) {l : Line} {ls : List Line} {key rest : List ℕ} {v : Got Line Tree} (es : Got Line Entries) → l.indent ≡ m → key_of l.content ≡ Some (key, rest) → is_among key seen ≡ false → Took Line ls v.rest (λ xs. Value d l rest xs v.value) → FineMore d m (seen ++ key ∷ []) v.rest es → Fine d m seen l ls (record { value = entry l.number key v.value es.value; rest = es.rest })
+entries_join : {d m : ℕ} (seen : List (List ℕ)) {l : Line} {ls : List Line} {key rest : List ℕ} {v : Got Line Tree} (es : Got Line Entries) → l.indent ≡ m
+    → key_of l.content ≡ Some (key, rest) → is_among key seen ≡ false → Took Line ls v.rest (λ xs. Value d l rest xs v.value)
+    → FineMore d m (seen ++ key ∷ []) v.rest es → Fine d m seen l ls (record { value = entry l.number key v.value es.value; rest = es.rest })
 entries_join {d} {m} seen {l} {ls} {key} {rest} {v} es em ek ec t (inl n) = (
   subst (λ (r : List Line). Took Line ls r (λ xs. Mapping d m (l ∷ xs) (entry l.number key v.value es.value))) (sym n.rest)
       (took_as _ (λ xs w. subst (λ (es : Entries). Mapping d m (l ∷ xs) (entry l.number key v.value es)) (sym n.value) (last em ek w)) t),
@@ -37,7 +42,9 @@ entries_join {d} {m} seen {l} {ls} {key} {rest} {v} es em ek ec t (inl n) = (
 )
 entries_join seen es em ek ec t (inr n) = (took_then _ t n.0 (more t.front n.0.front em refl ek t.is n.0.is), (ec, n.1))
 
-items_join : {d m : ℕ} {l : Line} {ls : List Line} {k : Dashed} {v : Got Line Tree} (is : Got Line Items) → l.indent ≡ m → dash_of l.content ≡ Some k → Took Line ls v.rest (λ xs. Item d l k.columns k.tab k.behind xs v.value) → MoreItems d m v.rest is → Took Line ls is.rest (λ xs. Sequence d m (l ∷ xs) (item v.value is.value))
+items_join : {d m : ℕ} {l : Line} {ls : List Line} {k : Dashed} {v : Got Line Tree} (is : Got Line Items) → l.indent ≡ m → dash_of l.content ≡ Some k
+    → Took Line ls v.rest (λ xs. Item d l k.columns k.tab k.behind xs v.value) → MoreItems d m v.rest is
+    → Took Line ls is.rest (λ xs. Sequence d m (l ∷ xs) (item v.value is.value))
 items_join {d} {m} {l} {ls} {v = v} is em ek t (inl n) =
     subst (λ (r : List Line). Took Line ls r (λ xs. Sequence d m (l ∷ xs) (item v.value is.value))) (sym n.rest)
     (took_as _ (λ xs w. subst (λ (is : Items). Sequence d m (l ∷ xs) (item v.value is)) (sym n.value) (only em ek w)) t)
@@ -47,7 +54,8 @@ level_some : {A : Type 0} (m : ℕ) (ls : List Line) (o : Option A) (x : A) → 
 level_some m [] o x h = h
 level_some m (l ∷ ls) o x h = elim (picked (nat_lt l.indent m) o None (Some x) h) [ inl a ↦ a.1 | inr a ↦ absurd cc ]
 
-here_some : (b : Start) (d : ℕ) (l : Line) (cs : List ℕ) (ls : List Line) (x : Got Line Tree) → value_here b d l cs ls ≡ Some x → (k : InlineKind) × (b ≡ Inline k) × (inlined d (suc l.indent) k (from_here l cs) ls ≡ Some x)
+here_some : (b : Start) (d : ℕ) (l : Line) (cs : List ℕ) (ls : List Line) (x : Got Line Tree) → value_here b d l cs ls ≡ Some x
+    → (k : InlineKind) × (b ≡ Inline k) × (inlined d (suc l.indent) k (from_here l cs) ls ≡ Some x)
 here_some (Inline k) d l cs ls x h = (k, refl, h)
 here_some b d l cs ls x h = absurd cc
 
@@ -67,7 +75,8 @@ pub record IsDash (cs : List ℕ) (x : Dashed) : Type 0 where
   pub wide : 0 < x.columns
   pub short : length x.behind < length cs
 
-dash_step : (b : Bool) (c : ℕ) (cs : List ℕ) (x : Dashed) → cond b (Some (record { columns = suc (columns cs); tab = has_tab cs; behind = shown cs })) None ≡ Some x → IsDash (c ∷ cs) x
+dash_step : (b : Bool) (c : ℕ) (cs : List ℕ) (x : Dashed)
+    → cond b (Some (record { columns = suc (columns cs); tab = has_tab cs; behind = shown cs })) None ≡ Some x → IsDash (c ∷ cs) x
 dash_step false c cs x h = absurd cc
 dash_step true c cs x h = subst (λ (x : Dashed). IsDash (c ∷ cs) x) (some_dash _ x h) (record { wide = omega arith; short = omega (arith, shown_short cs) })
   where
@@ -81,11 +90,13 @@ dash_of_is (c ∷ cs) x h = dash_step ((c == 45) && white_or_end cs) c cs x h
 -- ---- blocks
 
 mutual
-  pub node_sound : (f d n : ℕ) (l : Line) (ls : List Line) (x : Got Line Tree) → n ≤ l.indent → node f d n l ls ≡ Some x → Took Line ls x.rest (λ xs. Node d n (l ∷ xs) x.value)
+  pub node_sound : (f d n : ℕ) (l : Line) (ls : List Line) (x : Got Line Tree) → n ≤ l.indent → node f d n l ls ≡ Some x
+      → Took Line ls x.rest (λ xs. Node d n (l ∷ xs) x.value)
   node_sound zero d n l ls x s h = absurd cc
   node_sound (suc f) d n l ls x s h = node_by_sound f (start_of l.content) d n l ls x refl s h
 
-  node_by_sound : (f : ℕ) (b : Start) (d n : ℕ) (l : Line) (ls : List Line) (x : Got Line Tree) → start_of l.content ≡ b → n ≤ l.indent → node_by f b d n l ls ≡ Some x → Took Line ls x.rest (λ xs. Node d n (l ∷ xs) x.value)
+  node_by_sound : (f : ℕ) (b : Start) (d n : ℕ) (l : Line) (ls : List Line) (x : Got Line Tree) → start_of l.content ≡ b → n ≤ l.indent
+      → node_by f b d n l ls ≡ Some x → Took Line ls x.rest (λ xs. Node d n (l ∷ xs) x.value)
   node_by_sound zero b d n l ls x eb s h = absurd cc
   node_by_sound (suc f) (Dash y) d n l ls x eb s h =
       let e = deeper_some d (λ d. items f d l.indent l ls >>= λ is. unless_level l.indent is.rest (got (Seq l.number is.value) is.rest)) x h in
@@ -93,29 +104,36 @@ mutual
       let t = items_sound f e.0 l.indent l ls is.0 refl is.1 in
       let g = level_some l.indent is.0.rest (got (Seq l.number is.0.value) is.0.rest) x is.2 in
       subst (λ (d : ℕ). Took Line ls x.rest (λ xs. Node d n (l ∷ xs) x.value)) (sym e.1)
-      (at_got (λ (x : Got Line Tree). Took Line ls x.rest (λ xs. Node (suc e.0) n (l ∷ xs) x.value)) (Seq l.number is.0.value) is.0.rest x g (took_as _ (λ xs w. seq s w) t))
+      (at_got (λ (x : Got Line Tree). Took Line ls x.rest (λ xs. Node (suc e.0) n (l ∷ xs) x.value)) (Seq l.number is.0.value) is.0.rest x g
+      (took_as _ (λ xs w. seq s w) t))
   node_by_sound (suc f) (Key key rest) d n l ls x eb s h =
       let e = deeper_some d (λ d. entries f d l.indent [] l ls >>= λ es. got (Map l.number es.value) es.rest) x h in
       let es = bind_some (entries f e.0 l.indent [] l ls) (λ es. got (Map l.number es.value) es.rest) x e.2 in
       let t = entries_sound f e.0 l.indent [] l ls es.0 refl es.1 in
       subst (λ (d : ℕ). Took Line ls x.rest (λ xs. Node d n (l ∷ xs) x.value)) (sym e.1)
-      (at_got (λ (x : Got Line Tree). Took Line ls x.rest (λ xs. Node (suc e.0) n (l ∷ xs) x.value)) (Map l.number es.0.value) es.0.rest x es.2 (took_as _ (λ xs w. map s w (clear_distinct [] es.0.value t.1)) t.0))
+      (at_got (λ (x : Got Line Tree). Took Line ls x.rest (λ xs. Node (suc e.0) n (l ∷ xs) x.value)) (Map l.number es.0.value) es.0.rest x es.2
+      (took_as _ (λ xs w. map s w (clear_distinct [] es.0.value t.1)) t.0))
   node_by_sound (suc f) (Inline k) d n l ls x eb s h = took_as _ (λ xs w. inline s (start_inline l.content k eb) w) (inlined_sound d n k l ls x h)
   node_by_sound (suc f) Nothing d n l ls x eb s h = absurd cc
   node_by_sound (suc f) Refused d n l ls x eb s h = absurd cc
 
-  entries_sound : (f d m : ℕ) (seen : List (List ℕ)) (l : Line) (ls : List Line) (x : Got Line Entries) → l.indent ≡ m → entries f d m seen l ls ≡ Some x → Fine d m seen l ls x
+  entries_sound : (f d m : ℕ) (seen : List (List ℕ)) (l : Line) (ls : List Line) (x : Got Line Entries) → l.indent ≡ m → entries f d m seen l ls ≡ Some x
+      → Fine d m seen l ls x
   entries_sound zero d m seen l ls x em h = absurd cc
   entries_sound (suc f) d m seen l ls x em h = entries_by_sound f (start_of l.content) d m seen l ls x refl em h
 
-  entries_by_sound : (f : ℕ) (b : Start) (d m : ℕ) (seen : List (List ℕ)) (l : Line) (ls : List Line) (x : Got Line Entries) → start_of l.content ≡ b → l.indent ≡ m → entries_by f b d m seen l ls ≡ Some x → Fine d m seen l ls x
+  entries_by_sound : (f : ℕ) (b : Start) (d m : ℕ) (seen : List (List ℕ)) (l : Line) (ls : List Line) (x : Got Line Entries) → start_of l.content ≡ b
+      → l.indent ≡ m → entries_by f b d m seen l ls ≡ Some x → Fine d m seen l ls x
   entries_by_sound zero b d m seen l ls x eb em h = absurd cc
   entries_by_sound (suc f) (Key key rest) d m seen l ls x eb em h =
-      let g = pick_guard (is_among key seen) (value f d l rest ls >>= λ v. more_entries f d m (seen ++ key ∷ []) v.rest >>= λ es. got (entry l.number key v.value es.value) es.rest) x h in
-      let v = bind_some (value f d l rest ls) (λ v. more_entries f d m (seen ++ key ∷ []) v.rest >>= λ es. got (entry l.number key v.value es.value) es.rest) x g.1 in
+      let g = pick_guard (is_among key seen)
+      (value f d l rest ls >>= λ v. more_entries f d m (seen ++ key ∷ []) v.rest >>= λ es. got (entry l.number key v.value es.value) es.rest) x h in
+      let v = bind_some (value f d l rest ls) (λ v. more_entries f d m (seen ++ key ∷ []) v.rest >>= λ es. got (entry l.number key v.value es.value) es.rest) x
+      g.1 in
       let es = bind_some (more_entries f d m (seen ++ key ∷ []) v.0.rest) (λ es. got (entry l.number key v.0.value es.value) es.rest) x v.2 in
       at_got (λ (x : Got Line Entries). Fine d m seen l ls x) (entry l.number key v.0.value es.0.value) es.0.rest x es.2
-      (entries_join seen es.0 em (start_key l.content key rest eb) g.0 (value_sound f d l rest ls v.0 v.1) (more_entries_sound f d m (seen ++ key ∷ []) v.0.rest es.0 es.1))
+      (entries_join seen es.0 em (start_key l.content key rest eb) g.0 (value_sound f d l rest ls v.0 v.1)
+      (more_entries_sound f d m (seen ++ key ∷ []) v.0.rest es.0 es.1))
   entries_by_sound (suc f) b d m seen l ls x eb em h = absurd cc
 
   more_entries_sound : (f d m : ℕ) (seen : List (List ℕ)) (ls : List Line) (x : Got Line Entries) → more_entries f d m seen ls ≡ Some x → FineMore d m seen ls x
@@ -126,55 +144,72 @@ mutual
       elim (picked (nat_lt l.indent m) (got no_entries (l ∷ ls)) (elim on [ true ↦ entries f d m seen l ls | false ↦ None ]) (Some x) h) [
         | inl a ↦ inl (at_got (NoMore no_entries (l ∷ ls)) no_entries (l ∷ ls) x a.1 (record { value = refl; rest = refl }))
         | inr a ↦ elim (picked on (entries f d m seen l ls) None (Some x) a.1) [
-          | inl b ↦ (let t = entries_sound f d m seen l ls x (eqb-true l.indent m (and_parts (l.indent == m) (is_key (start_of l.content)) b.0).0) b.1 in inr (took_first l _ (λ xs w. w) t.0, t.1))
+          | inl b ↦ (let t = entries_sound f d m seen l ls x (eqb-true l.indent m (and_parts (l.indent == m) (is_key (start_of l.content)) b.0).0) b.1 in inr
+              (took_first l _ (λ xs w. w) t.0, t.1))
           | inr b ↦ absurd cc
         ]
       ]
 
-  value_sound : (f d : ℕ) (l : Line) (rest : List ℕ) (ls : List Line) (x : Got Line Tree) → value f d l rest ls ≡ Some x → Took Line ls x.rest (λ xs. Value d l rest xs x.value)
+  value_sound : (f d : ℕ) (l : Line) (rest : List ℕ) (ls : List Line) (x : Got Line Tree) → value f d l rest ls ≡ Some x
+      → Took Line ls x.rest (λ xs. Value d l rest xs x.value)
   value_sound zero d l rest ls x h = absurd cc
   value_sound (suc f) d l [] ls x h = value_below_sound f d l ls (loud ls) x (loud_took ls) h
-  value_sound (suc f) d l (c ∷ cs) ls x h = let e = here_some (start_of (c ∷ cs)) d l (c ∷ cs) ls x h in took_as _ (λ xs w. here (start_inline (c ∷ cs) e.0 e.1) w) (inlined_sound d (suc l.indent) e.0 (from_here l (c ∷ cs)) ls x e.2)
+  value_sound (suc f) d l (c ∷ cs) ls x h = let e =
+      here_some (start_of (c ∷ cs)) d l (c ∷ cs) ls x h in took_as _ (λ xs w. here (start_inline (c ∷ cs) e.0 e.1) w)
+      (inlined_sound d (suc l.indent) e.0 (from_here l (c ∷ cs)) ls x e.2)
 
-  value_below_sound : (f d : ℕ) (l : Line) (ls us : List Line) (x : Got Line Tree) → Took Line ls us AreQuiet → value_below f d l us ≡ Some x → Took Line ls x.rest (λ xs. Value d l [] xs x.value)
+  value_below_sound : (f d : ℕ) (l : Line) (ls us : List Line) (x : Got Line Tree) → Took Line ls us AreQuiet → value_below f d l us ≡ Some x
+      → Took Line ls x.rest (λ xs. Value d l [] xs x.value)
   value_below_sound zero d l ls us x q h = absurd cc
-  value_below_sound (suc f) d l ls [] x q h = at_got (λ (x : Got Line Tree). Took Line ls x.rest (λ xs. Value d l [] xs x.value)) (Text l.number false []) [] x h (took_as _ (λ xs a. empty a) q)
+  value_below_sound (suc f) d l ls [] x q h = at_got (λ (x : Got Line Tree). Took Line ls x.rest (λ xs. Value d l [] xs x.value)) (Text l.number false []) [] x
+      h (took_as _ (λ xs a. empty a) q)
   value_below_sound (suc f) d l ls (h ∷ us) x q r =
-      let stop : got (Text l.number false []) (h ∷ us) ≡ Some x → Took Line ls x.rest (λ xs. Value d l [] xs x.value) = λ e. at_got (λ (x : Got Line Tree). Took Line ls x.rest (λ xs. Value d l [] xs x.value)) (Text l.number false []) (h ∷ us) x e (took_as _ (λ xs a. empty a) q) in
+      let stop : got (Text l.number false []) (h ∷ us) ≡ Some x
+      → Took Line ls x.rest (λ xs. Value d l [] xs x.value) =
+      λ e. at_got (λ (x : Got Line Tree). Took Line ls x.rest (λ xs. Value d l [] xs x.value)) (Text l.number false []) (h ∷ us) x e
+      (took_as _ (λ xs a. empty a) q) in
       let at_level : Option (Got Line Tree) = deeper d (λ d. items f d l.indent h us >>= λ is. got (Seq h.number is.value) is.rest) in
-      elim (picked (nat_lt l.indent h.indent) (node f d (suc l.indent) h us) (elim ((h.indent == l.indent) && is_dash (start_of h.content)) [ true ↦ at_level | false ↦ got (Text l.number false []) (h ∷ us) ]) (Some x) r) [
-        | inl a ↦ (let t = took_first h (λ zs. Node d (suc l.indent) zs x.value) (λ xs w. w) (node_sound f d (suc l.indent) h us x (ltb-true l.indent h.indent a.0) a.1) in took_then _ q t (below q.front t.front refl q.is t.is))
+      elim (picked (nat_lt l.indent h.indent) (node f d (suc l.indent) h us)
+      (elim ((h.indent == l.indent) && is_dash (start_of h.content)) [ true ↦ at_level | false ↦ got (Text l.number false []) (h ∷ us) ]) (Some x) r) [
+        | inl a ↦ (let t = took_first h (λ zs. Node d (suc l.indent) zs x.value) (λ xs w. w)
+            (node_sound f d (suc l.indent) h us x (ltb-true l.indent h.indent a.0) a.1) in took_then _ q t (below q.front t.front refl q.is t.is))
         | inr a ↦ elim (picked ((h.indent == l.indent) && is_dash (start_of h.content)) at_level (got (Text l.number false []) (h ∷ us)) (Some x) a.1) [
           | inr b ↦ stop b.1
           | inl b ↦ (
               let e = deeper_some d (λ d. items f d l.indent h us >>= λ is. got (Seq h.number is.value) is.rest) x b.1 in
               let is = bind_some (items f e.0 l.indent h us) (λ is. got (Seq h.number is.value) is.rest) x e.2 in
               let em = eqb-true h.indent l.indent (and_parts (h.indent == l.indent) (is_dash (start_of h.content)) b.0).0 in
-              let t = took_first h (λ zs. (ys : List Line) × (zs ≡ h ∷ ys) × Sequence e.0 l.indent (h ∷ ys) is.0.value) (λ xs w. (xs, refl, w)) (items_sound f e.0 l.indent h us is.0 em is.1) in
+              let t = took_first h (λ zs. (ys : List Line) × (zs ≡ h ∷ ys) × Sequence e.0 l.indent (h ∷ ys) is.0.value) (λ xs w. (xs, refl, w))
+              (items_sound f e.0 l.indent h us is.0 em is.1) in
               subst (λ (d : ℕ). Took Line ls x.rest (λ xs. Value d l [] xs x.value)) (sym e.1)
               (at_got (λ (x : Got Line Tree). Took Line ls x.rest (λ xs. Value (suc e.0) l [] xs x.value)) (Seq h.number is.0.value) is.0.rest x is.2
               (took_then _ q t (level q.front t.is.0 (ap (λ (r : List Line). q.front ++ r) t.is.1) q.is em t.is.2))))
         ]
       ]
 
-  items_sound : (f d m : ℕ) (l : Line) (ls : List Line) (x : Got Line Items) → l.indent ≡ m → items f d m l ls ≡ Some x → Took Line ls x.rest (λ xs. Sequence d m (l ∷ xs) x.value)
+  items_sound : (f d m : ℕ) (l : Line) (ls : List Line) (x : Got Line Items) → l.indent ≡ m → items f d m l ls ≡ Some x
+      → Took Line ls x.rest (λ xs. Sequence d m (l ∷ xs) x.value)
   items_sound zero d m l ls x em h = absurd cc
   items_sound (suc f) d m l ls x em h = items_by_sound f (start_of l.content) d m l ls x refl em h
 
-  items_by_sound : (f : ℕ) (b : Start) (d m : ℕ) (l : Line) (ls : List Line) (x : Got Line Items) → start_of l.content ≡ b → l.indent ≡ m → items_by f b d m l ls ≡ Some x → Took Line ls x.rest (λ xs. Sequence d m (l ∷ xs) x.value)
+  items_by_sound : (f : ℕ) (b : Start) (d m : ℕ) (l : Line) (ls : List Line) (x : Got Line Items) → start_of l.content ≡ b → l.indent ≡ m
+      → items_by f b d m l ls ≡ Some x → Took Line ls x.rest (λ xs. Sequence d m (l ∷ xs) x.value)
   items_by_sound zero b d m l ls x eb em h = absurd cc
   items_by_sound (suc f) (Dash k) d m l ls x eb em h =
       let v = bind_some (item_at f d l k.columns k.tab k.behind ls) (λ t. more_items f d m t.rest >>= λ is. got (item t.value is.value) is.rest) x h in
       let is = bind_some (more_items f d m v.0.rest) (λ is. got (item v.0.value is.value) is.rest) x v.2 in
       at_got (λ (x : Got Line Items). Took Line ls x.rest (λ xs. Sequence d m (l ∷ xs) x.value)) (item v.0.value is.0.value) is.0.rest x is.2
-      (items_join is.0 em (start_dash l.content k eb) (item_at_sound f d l k.columns k.tab k.behind ls v.0 (dash_of_is l.content k (start_dash l.content k eb)).wide v.1) (more_items_sound f d m v.0.rest is.0 is.1))
+      (items_join is.0 em (start_dash l.content k eb)
+      (item_at_sound f d l k.columns k.tab k.behind ls v.0 (dash_of_is l.content k (start_dash l.content k eb)).wide v.1)
+      (more_items_sound f d m v.0.rest is.0 is.1))
   items_by_sound (suc f) b d m l ls x eb em h = absurd cc
 
   more_items_sound : (f d m : ℕ) (ls : List Line) (x : Got Line Items) → more_items f d m ls ≡ Some x → MoreItems d m ls x
   more_items_sound zero d m ls x h = absurd cc
   more_items_sound (suc f) d m [] x h = inl (at_got (NoMore no_items []) no_items [] x h (record { value = refl; rest = refl }))
   more_items_sound (suc f) d m (l ∷ ls) x h =
-      let stop : got no_items (l ∷ ls) ≡ Some x → MoreItems d m (l ∷ ls) x = λ e. inl (at_got (NoMore no_items (l ∷ ls)) no_items (l ∷ ls) x e (record { value = refl; rest = refl })) in
+      let stop : got no_items (l ∷ ls) ≡ Some x → MoreItems d m (l ∷ ls) x =
+      λ e. inl (at_got (NoMore no_items (l ∷ ls)) no_items (l ∷ ls) x e (record { value = refl; rest = refl })) in
       let on : Option (Got Line Items) = elim (is_dash (start_of l.content)) [ true ↦ items f d m l ls | false ↦ got no_items (l ∷ ls) ] in
       elim (picked (nat_lt l.indent m) (got no_items (l ∷ ls)) (elim (l.indent == m) [ true ↦ on | false ↦ None ]) (Some x) h) [
         | inl a ↦ stop a.1
@@ -187,17 +222,25 @@ mutual
         ]
       ]
 
-  item_at_sound : (f d : ℕ) (l : Line) (k : ℕ) (tab : Bool) (rest : List ℕ) (ls : List Line) (x : Got Line Tree) → 0 < k → item_at f d l k tab rest ls ≡ Some x → Took Line ls x.rest (λ xs. Item d l k tab rest xs x.value)
+  item_at_sound : (f d : ℕ) (l : Line) (k : ℕ) (tab : Bool) (rest : List ℕ) (ls : List Line) (x : Got Line Tree) → 0 < k → item_at f d l k tab rest ls ≡ Some x
+      → Took Line ls x.rest (λ xs. Item d l k tab rest xs x.value)
   item_at_sound zero d l k tab rest ls x p h = absurd cc
   item_at_sound (suc f) d l k tab [] ls x p h = item_below_sound f d l k tab ls (loud ls) x (loud_took ls) h
-  item_at_sound (suc f) d l k false (c ∷ cs) ls x p h = took_as _ (λ xs w. compact w) (node_sound f d (suc l.indent) (at_column l k (c ∷ cs)) ls x (omega arith) h)
-  item_at_sound (suc f) d l k true (c ∷ cs) ls x p h = let e = here_some (start_of (c ∷ cs)) d l (c ∷ cs) ls x h in took_as _ (λ xs w. tabbed (start_inline (c ∷ cs) e.0 e.1) w) (inlined_sound d (suc l.indent) e.0 (from_here l (c ∷ cs)) ls x e.2)
+  item_at_sound (suc f) d l k false (c ∷ cs) ls x p h =
+      took_as _ (λ xs w. compact w) (node_sound f d (suc l.indent) (at_column l k (c ∷ cs)) ls x (omega arith) h)
+  item_at_sound (suc f) d l k true (c ∷ cs) ls x p h = let e =
+      here_some (start_of (c ∷ cs)) d l (c ∷ cs) ls x h in took_as _ (λ xs w. tabbed (start_inline (c ∷ cs) e.0 e.1) w)
+      (inlined_sound d (suc l.indent) e.0 (from_here l (c ∷ cs)) ls x e.2)
 
-  item_below_sound : (f d : ℕ) (l : Line) (k : ℕ) (tab : Bool) (ls us : List Line) (x : Got Line Tree) → Took Line ls us AreQuiet → item_below f d l us ≡ Some x → Took Line ls x.rest (λ xs. Item d l k tab [] xs x.value)
+  item_below_sound : (f d : ℕ) (l : Line) (k : ℕ) (tab : Bool) (ls us : List Line) (x : Got Line Tree) → Took Line ls us AreQuiet → item_below f d l us ≡ Some x
+      → Took Line ls x.rest (λ xs. Item d l k tab [] xs x.value)
   item_below_sound zero d l k tab ls us x q h = absurd cc
-  item_below_sound (suc f) d l k tab ls [] x q h = at_got (λ (x : Got Line Tree). Took Line ls x.rest (λ xs. Item d l k tab [] xs x.value)) (Text l.number false []) [] x h (took_as _ (λ xs a. none a) q)
+  item_below_sound (suc f) d l k tab ls [] x q h = at_got (λ (x : Got Line Tree). Took Line ls x.rest (λ xs. Item d l k tab [] xs x.value))
+      (Text l.number false []) [] x h (took_as _ (λ xs a. none a) q)
   item_below_sound (suc f) d l k tab ls (h ∷ us) x q r =
       elim (picked (nat_lt l.indent h.indent) (node f d (suc l.indent) h us) (got (Text l.number false []) (h ∷ us)) (Some x) r) [
-        | inl a ↦ (let t = took_first h (λ zs. Node d (suc l.indent) zs x.value) (λ xs w. w) (node_sound f d (suc l.indent) h us x (ltb-true l.indent h.indent a.0) a.1) in took_then _ q t (under q.front t.front refl q.is t.is))
-        | inr a ↦ at_got (λ (x : Got Line Tree). Took Line ls x.rest (λ xs. Item d l k tab [] xs x.value)) (Text l.number false []) (h ∷ us) x a.1 (took_as _ (λ xs a. none a) q)
+        | inl a ↦ (let t = took_first h (λ zs. Node d (suc l.indent) zs x.value) (λ xs w. w)
+            (node_sound f d (suc l.indent) h us x (ltb-true l.indent h.indent a.0) a.1) in took_then _ q t (under q.front t.front refl q.is t.is))
+        | inr a ↦ at_got (λ (x : Got Line Tree). Took Line ls x.rest (λ xs. Item d l k tab [] xs x.value)) (Text l.number false []) (h ∷ us) x a.1
+            (took_as _ (λ xs a. none a) q)
       ]

@@ -1,5 +1,6 @@
 -- What a step of reading that found something says.
-use Rattle.std.proofs.Common.{◌≡◌, ℕ, zero, suc, ◌<◌, Bool, true, false, cond, List, [], ◌∷◌, ◌++◌, Option, Some, None, refl, sym, ap, subst, ◌∙◌, append_assoc, arith}
+use Rattle.std.proofs.Common.{◌≡◌, ℕ, zero, suc, ◌<◌, Bool, true, false, cond, List, [], ◌∷◌, ◌++◌, Option, Some, None, refl, sym, ap, subst, ◌∙◌, append_assoc}
+use Rattle.std.proofs.Common.{arith}
 use Rattle.ksv_yaml_scan.proofs.Choices.{at_true, at_false}
 use Rattle.ksv_yaml.specs.Grammar.{AreQuiet}
 use Rattle.ksv_yaml.specs.Reading.{deeper}
@@ -41,10 +42,13 @@ took_none ls P p = record { front = []; cut = refl; is = p }
 pub took_as : {L : Type 0} {ls rest : List L} {P : List L → Type 0} (Q : List L → Type 0) → ((xs : List L) → P xs → Q xs) → Took L ls rest P → Took L ls rest Q
 took_as Q f t = record { front = t.front; cut = t.cut; is = f t.front t.is }
 
-pub took_then : {L : Type 0} {ls mid rest : List L} {P Q : List L → Type 0} (R : List L → Type 0) → (s : Took L ls mid P) → (t : Took L mid rest Q) → R (s.front ++ t.front) → Took L ls rest R
-took_then {L} {rest = rest} R s t r = record { front = s.front ++ t.front; cut = s.cut ∙ ap (λ (r : List L). s.front ++ r) t.cut ∙ sym (append_assoc s.front t.front rest); is = r }
+pub took_then : {L : Type 0} {ls mid rest : List L} {P Q : List L → Type 0} (R : List L → Type 0) → (s : Took L ls mid P) → (t : Took L mid rest Q)
+    → R (s.front ++ t.front) → Took L ls rest R
+took_then {L} {rest = rest} R s t r =
+    record { front = s.front ++ t.front; cut = s.cut ∙ ap (λ (r : List L). s.front ++ r) t.cut ∙ sym (append_assoc s.front t.front rest); is = r }
 
-pub took_first : {L : Type 0} {ls rest : List L} {P : List L → Type 0} (l : L) (Q : List L → Type 0) → ((xs : List L) → P xs → Q (l ∷ xs)) → Took L ls rest P → Took L (l ∷ ls) rest Q
+pub took_first : {L : Type 0} {ls rest : List L} {P : List L → Type 0} (l : L) (Q : List L → Type 0) → ((xs : List L) → P xs → Q (l ∷ xs)) → Took L ls rest P
+    → Took L (l ∷ ls) rest Q
 took_first {L} l Q f t = record { front = l ∷ t.front; cut = ap (λ (r : List L). l ∷ r) t.cut; is = f t.front t.is }
 
 -- ---- quiet lines

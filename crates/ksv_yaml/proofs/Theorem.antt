@@ -29,7 +29,8 @@ body_complete {ls} {t} n =
     let f : ℕ = 8 * weight (o.first ∷ o.others) + 8 in
     ap body o.is
     ∙ ap (λ (r : List Line). node f 64 0 o.first r >>= λ x. whole x.value x.rest) (sym (append-nil o.others))
-    ∙ ap (λ (o : Option (Got Line Tree)). o >>= λ x. whole x.value x.rest) (o.reads [] f tt (omega (arith, ap (λ (r : List Line). weight (o.first ∷ r)) (append-nil o.others))))
+    ∙ ap (λ (o : Option (Got Line Tree)). o >>= λ x. whole x.value x.rest)
+    (o.reads [] f tt (omega (arith, ap (λ (r : List Line). weight (o.first ∷ r)) (append-nil o.others))))
 
 -- a node begins with a line that says something
 node_loud : {ls : List Line} {t : Tree} → Node 64 0 ls t → Loud ls
@@ -42,9 +43,11 @@ mark_loud l h =
 
 pub tree_complete : {ls : List Line} {t : Tree} → Spelled ls t → tree_of ls ≡ Some t
 tree_complete (bare xs l ys split q m n) =
-    ap tree_of split ∙ ap (λ (r : List Line). body (behind_mark r)) (loud_behind xs (l ∷ ys) q (node_loud n)) ∙ ap body (pick_false (is_mark l) (loud ys) (l ∷ ys) m) ∙ body_complete n
+    ap tree_of split ∙ ap (λ (r : List Line). body (behind_mark r)) (loud_behind xs (l ∷ ys) q (node_loud n))
+    ∙ ap body (pick_false (is_mark l) (loud ys) (l ∷ ys) m) ∙ body_complete n
 tree_complete (marked xs l ys zs split q m r n) =
-    ap tree_of split ∙ ap (λ (r : List Line). body (behind_mark r)) (loud_behind xs (l ∷ (ys ++ zs)) q (mark_loud l m)) ∙ ap body (pick_true (is_mark l) (loud (ys ++ zs)) (l ∷ (ys ++ zs)) m) ∙ ap body (loud_behind ys zs r (node_loud n)) ∙ body_complete n
+    ap tree_of split ∙ ap (λ (r : List Line). body (behind_mark r)) (loud_behind xs (l ∷ (ys ++ zs)) q (mark_loud l m))
+    ∙ ap body (pick_true (is_mark l) (loud (ys ++ zs)) (l ∷ (ys ++ zs)) m) ∙ ap body (loud_behind ys zs r (node_loud n)) ∙ body_complete n
 
 -- no lines spell two trees
 pub one_tree : (ls : List Line) (t u : Tree) → Spelled ls t → Spelled ls u → t ≡ u
@@ -70,7 +73,8 @@ from_sound : (ls us : List Line) (t : Tree) → Took Line ls us AreQuiet → bod
 from_sound ls [] t q h = absurd cc
 from_sound ls (l ∷ us) t q h =
     elim (picked (is_mark l) (loud us) (l ∷ us) (behind_mark (l ∷ us)) refl) [
-      | inl a ↦ (let r = loud_took us in marked q.front l r.front (loud us) (q.cut ∙ ap (λ (us : List Line). q.front ++ l ∷ us) r.cut) q.is a.0 r.is (body_sound (loud us) t (ap body a.1 ∙ h)))
+      | inl a ↦ (let r = loud_took us in marked q.front l r.front (loud us) (q.cut ∙ ap (λ (us : List Line). q.front ++ l ∷ us) r.cut) q.is a.0 r.is
+          (body_sound (loud us) t (ap body a.1 ∙ h)))
       | inr a ↦ bare q.front l us q.cut q.is a.0 (body_sound (l ∷ us) t (ap body a.1 ∙ h))
     ]
 

@@ -1,5 +1,6 @@
 -- What the reader of whole texts answers.
-use Rattle.std.proofs.Common.{◌≡◌, ℕ, suc, ◌<◌, ◌≤◌, Bool, true, false, List, [], ◌∷◌, length, max, Option, Some, None, is_none, refl, sym, ap, subst, ◌∙◌, arith}
+use Rattle.std.proofs.Common.{◌≡◌, ℕ, suc, ◌<◌, ◌≤◌, Bool, true, false, List, [], ◌∷◌, length, max, Option, Some, None, is_none, refl, sym, ap, subst, ◌∙◌}
+use Rattle.std.proofs.Common.{arith}
 use Rattle.ksv_yaml.specs.declared.fault.YamlKind.{YamlKind}
 use Rattle.ksv_yaml.specs.declared.fault.YamlKind.TheVariants.{NotUtf8, TooLong, Tab, Indentation, KeyTwice, LeftOut, NotClosed, ValueForKey, TooDeep, NoMemory}
 use Rattle.ksv_yaml_tree.specs.Tree.{Tree}
@@ -27,15 +28,18 @@ stray_none None h = refl
 stray_none (Some n) h = absurd cc
 
 -- the lines have no tree, or a control character stands on one
-pub text_unread : (text : List ℕ) (ls : List Line) (stray : Option ℕ) → IsCut text ls stray → (stray ≡ None → tree_of ls ≡ None) → (t : Tree) → Spells text t → ⊥
-text_unread text ls stray k h t s = let z : stray ≡ None = sym k.stray ∙ stray_none (stray_line text) s.allowed in refused (lines_of text) t (ap tree_of k.lines ∙ h z) s.lines
+pub text_unread : (text : List ℕ) (ls : List Line) (stray : Option ℕ) → IsCut text ls stray → (stray ≡ None → tree_of ls ≡ None) → (t : Tree) → Spells text t
+    → ⊥
+text_unread text ls stray k h t s = let z : stray ≡ None =
+    sym k.stray ∙ stray_none (stray_line text) s.allowed in refused (lines_of text) t (ap tree_of k.lines ∙ h z) s.lines
 
 number_length : (n : ℕ) (rs : List Raw) → length (number_from n rs) ≡ length rs
 number_length n [] = refl
 number_length n (r ∷ rs) = ap suc (number_length (suc n) rs)
 
 pub is_line : (text : List ℕ) (ls : List CodeLine) (stray : Option ℕ) (n : ℕ) → IsCut text (lines_view ls) stray → 0 < n → n ≤ max 1 (length ls) → IsLine text n
-is_line text ls stray n k low high = (low, subst (λ (m : ℕ). n ≤ max 1 m) (sym (lines_length ls) ∙ sym (ap length k.lines) ∙ number_length 1 (cut_lines (unmarked text))) high)
+is_line text ls stray n k low high =
+    (low, subst (λ (m : ℕ). n ≤ max 1 m) (sym (lines_length ls) ∙ sym (ap length k.lines) ∙ number_length 1 (cut_lines (unmarked text))) high)
   where
     lines_length : (ls : List CodeLine) → length (lines_view ls) ≡ length ls
     lines_length [] = refl
@@ -68,6 +72,16 @@ refuses_memory text t ValueForKey line s r = absurd (r.none t s)
 refuses_memory text t TooDeep line s r = absurd (r.none t s)
 
 -- the refusal of a text that was cut
-pub cut_refused : (text : List ℕ) (ls : List CodeLine) (stray : Option ℕ) (k : YamlKind) (n : ℕ) (w : Bool) → IsCut text (lines_view ls) stray → 0 < n → n ≤ max 1 (length ls) → IsOfLines k → (w ≡ true → names_memory k ≡ true) → (w ≡ false → stray ≡ None → tree_of (lines_view ls) ≡ None) → Refuses text k n
+pub cut_refused : (text : List ℕ) (ls : List CodeLine) (stray : Option ℕ) (k : YamlKind) (n : ℕ) (w : Bool) → IsCut text (lines_view ls) stray → 0 < n
+    → n ≤ max 1 (length ls) → IsOfLines k → (w ≡ true → names_memory k ≡ true) → (w ≡ false → stray ≡ None → tree_of (lines_view ls) ≡ None)
+    → Refuses text k n
 cut_refused text ls stray k n true c low high o m h = refuses_by text k n o (λ e. let f = m refl in absurd cc)
-cut_refused text ls stray k n false c low high o m h = refuses_by text k n o (λ e. record { small = c.small; utf8 = c.utf8; place = is_line text ls stray n c low high; none = text_unread text (lines_view ls) stray c (h refl) })
+cut_refused text ls stray k n false c low high o m h =
+    refuses_by text k n o
+    (λ e. record {
+      small = c.small;
+      utf8 = c.utf8;
+      place = is_line text ls stray n c low high;
+      none = text_unread text (lines_view ls) stray c
+          (h refl);
+    })

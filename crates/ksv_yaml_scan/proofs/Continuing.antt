@@ -10,20 +10,24 @@ use Rattle.ksv_yaml_scan.specs.Plain.{more_of, line_on, goes_on, plain_text}
 abbrev pub then_text : List ℕ → Option (Got Line (List ℕ)) → Option (Got Line (List ℕ))
 then_text text o = o >>= λ r. got (text ++ r.value) r.rest
 
-deep_on : (text : List ℕ) (n : ℕ) (l : Line) (ls : List Line) (o : Option (List ℕ × Bool)) → is_quiet l ≡ false → nat_le n l.indent ≡ true → more_of l.content ≡ o → plain_text text n false (l ∷ ls) ≡ then_text text (line_on false false true o (loud ls) (l ∷ ls) (λ c. goes_on n c ls))
+deep_on : (text : List ℕ) (n : ℕ) (l : Line) (ls : List Line) (o : Option (List ℕ × Bool)) → is_quiet l ≡ false → nat_le n l.indent ≡ true
+    → more_of l.content ≡ o → plain_text text n false (l ∷ ls) ≡ then_text text (line_on false false true o (loud ls) (l ∷ ls) (λ c. goes_on n c ls))
 deep_on text n l ls o q d m =
     ap (λ (b : Bool). then_text text (line_on b false (nat_le n l.indent) (more_of l.content) (loud ls) (l ∷ ls) (λ c. goes_on n c ls))) q
     ∙ ap (λ (d : Bool). then_text text (line_on false false d (more_of l.content) (loud ls) (l ∷ ls) (λ c. goes_on n c ls))) d
     ∙ ap (λ (o : Option (List ℕ × Bool)). then_text text (line_on false false true o (loud ls) (l ∷ ls) (λ c. goes_on n c ls))) m
 
-pub text_refused : (text : List ℕ) (n : ℕ) (l : Line) (ls : List Line) → is_quiet l ≡ false → nat_le n l.indent ≡ true → more_of l.content ≡ None → plain_text text n false (l ∷ ls) ≡ None
+pub text_refused : (text : List ℕ) (n : ℕ) (l : Line) (ls : List Line) → is_quiet l ≡ false → nat_le n l.indent ≡ true → more_of l.content ≡ None
+    → plain_text text n false (l ∷ ls) ≡ None
 text_refused text n l ls q d m = deep_on text n l ls None q d m
 
-then_more : (text more : List ℕ) (o : Option (Got Line (List ℕ))) → then_text text (o >>= λ r. got (32 ∷ (more ++ r.value)) r.rest) ≡ then_text (text ++ 32 ∷ more) o
+then_more : (text more : List ℕ) (o : Option (Got Line (List ℕ)))
+    → then_text text (o >>= λ r. got (32 ∷ (more ++ r.value)) r.rest) ≡ then_text (text ++ 32 ∷ more) o
 then_more text more None = refl
 then_more text more (Some r) = ap (λ (t : List ℕ). got t r.rest) (sym (append_assoc text (32 ∷ more) r.value))
 
-pub text_more : (text more : List ℕ) (n : ℕ) (c : Bool) (l : Line) (ls : List Line) → is_quiet l ≡ false → nat_le n l.indent ≡ true → more_of l.content ≡ Some (more, c) → plain_text text n false (l ∷ ls) ≡ plain_text (text ++ 32 ∷ more) n c ls
+pub text_more : (text more : List ℕ) (n : ℕ) (c : Bool) (l : Line) (ls : List Line) → is_quiet l ≡ false → nat_le n l.indent ≡ true
+    → more_of l.content ≡ Some (more, c) → plain_text text n false (l ∷ ls) ≡ plain_text (text ++ 32 ∷ more) n c ls
 text_more text more n c l ls q d m = deep_on text n l ls (Some (more, c)) q d m ∙ then_more text more (goes_on n c ls)
 
 -- where the text ends: at a quiet line, behind a comment, and at a line that isn't deep enough

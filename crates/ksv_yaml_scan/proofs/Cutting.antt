@@ -1,5 +1,6 @@
 -- A text is cut at its line feeds.
-use Rattle.std.proofs.Common.{◌≡◌, ℕ, zero, suc, ◌+◌, ◌<◌, ◌≤◌, Bool, true, false, cond, List, [], ◌∷◌, ◌++◌, length, take, drop, get_or, refl, sym, ap, ◌∙◌, subst, arith, drop-cons, add-one}
+use Rattle.std.proofs.Common.{◌≡◌, ℕ, zero, suc, ◌+◌, ◌<◌, ◌≤◌, Bool, true, false, cond, List, [], ◌∷◌, ◌++◌, length, take, drop, get_or, refl, sym, ap, ◌∙◌}
+use Rattle.std.proofs.Common.{subst, arith, drop-cons, add-one}
 use Rattle.std.specs.Prelude.{◌==◌, ◌&&◌, not}
 use Rattle.std.proofs.lemmas.Bool.{eqb-true}
 use Rattle.std.proofs.lemmas.List.{take-append-drop}
@@ -35,12 +36,15 @@ no_feed : (xs : List ℕ) (i : ℕ) → i ≤ length xs → NoFeedBefore xs i �
 no_feed [] zero b h = tt
 no_feed [] (suc i) b h = absurd (omega arith)
 no_feed (x ∷ xs) zero b h = tt
-no_feed (x ∷ xs) (suc i) b h = (not_true (x == 10) (λ e. h 0 (omega arith) (omega arith) e), no_feed xs i (omega arith) (λ k l u e. h (suc k) (omega arith) (omega arith) e))
+no_feed (x ∷ xs) (suc i) b h =
+    (not_true (x == 10) (λ e. h 0 (omega arith) (omega arith) e), no_feed xs i (omega arith) (λ k l u e. h (suc k) (omega arith) (omega arith) e))
 
 -- the first line feed ends the first line
-pub cut_first : (xs : List ℕ) (i : ℕ) → i < length xs → NoFeedBefore xs i → (get_or xs i 0 == 10) ≡ true → cut_lines xs ≡ raw (take i xs) true ∷ cut_lines (drop (i + 1) xs)
+pub cut_first : (xs : List ℕ) (i : ℕ) → i < length xs → NoFeedBefore xs i → (get_or xs i 0 == 10) ≡ true
+    → cut_lines xs ≡ raw (take i xs) true ∷ cut_lines (drop (i + 1) xs)
 cut_first xs i b h e =
-    ap cut_lines (sym (take-append-drop i xs) ∙ ap (λ (ys : List ℕ). take i xs ++ ys) (drop-cons xs i 0 b ∙ ap (λ (c : ℕ). c ∷ drop (suc i) xs) (eqb-true (get_or xs i 0) 10 e)))
+    ap cut_lines (sym (take-append-drop i xs) ∙ ap (λ (ys : List ℕ). take i xs ++ ys)
+    (drop-cons xs i 0 b ∙ ap (λ (c : ℕ). c ∷ drop (suc i) xs) (eqb-true (get_or xs i 0) 10 e)))
     ∙ cut_feed (take i xs) (drop (suc i) xs) (no_feed xs i (omega arith) h)
     ∙ ap (λ (j : ℕ). raw (take i xs) true ∷ cut_lines (drop j xs)) (sym (add-one i))
 
@@ -85,7 +89,8 @@ behind_drop (c ∷ cs) = step (c == 32) (behind_drop cs)
     step false h = refl
 
 -- the line with these bytes
-pub line_at_spaces : (number indent : ℕ) (ended : Bool) (bytes content : List ℕ) → indent ≡ spaces bytes → content ≡ drop indent bytes → record { number = number; indent = indent; content = content; ended = ended } ≡ line_of number ended bytes
+pub line_at_spaces : (number indent : ℕ) (ended : Bool) (bytes content : List ℕ) → indent ≡ spaces bytes → content ≡ drop indent bytes
+    → record { number = number; indent = indent; content = content; ended = ended } ≡ line_of number ended bytes
 line_at_spaces number indent ended bytes content e f =
     ap (line number ended indent) (f ∙ ap (λ (k : ℕ). drop k bytes) e ∙ sym (behind_drop bytes)) ∙ ap (λ (k : ℕ). line number ended k (behind_spaces bytes)) e
   where

@@ -1,9 +1,11 @@
 -- What a reader of parts needs: each step goes forward, a quiet line has no part, and another has one.
-use Rattle.std.proofs.Common.{◌≡◌, ℕ, zero, suc, ◌+◌, ◌*◌, ◌≤◌, ◌<◌, Bool, true, false, cond, List, [], ◌∷◌, ◌++◌, length, Option, Some, None, refl, sym, ap, subst, ◌∙◌, append_assoc, arith}
+use Rattle.std.proofs.Common.{◌≡◌, ℕ, zero, suc, ◌+◌, ◌*◌, ◌≤◌, ◌<◌, Bool, true, false, cond, List, [], ◌∷◌, ◌++◌, length, Option, Some, None, refl, sym, ap}
+use Rattle.std.proofs.Common.{subst, ◌∙◌, append_assoc, arith}
 use Rattle.std.specs.Prelude.{◌==◌, ◌&&◌, ◌||◌, not}
 use Rattle.ksv_yaml_scan.specs.Lines.{is_white, skip, white_or_end}
 use Rattle.ksv_yaml_scan.specs.Plain.{is_bracket, is_special, is_lone, starts_plain, Ending, Colon, Bracket, Comment, End, Run, stop, run_by, run}
-use Rattle.ksv_yaml_scan.specs.Quoted.{Quote, Place, Between, AtQuote, Escaped, Digits, Step, Ends, Fails, Adds, single, double, letter_of, letter, escape, is_surrogate, digit, hex_digit, utf8, with_bytes, act, at_end, inside, quote_of}
+use Rattle.ksv_yaml_scan.specs.Quoted.{Quote, Place, Between, AtQuote, Escaped, Digits, Step, Ends, Fails, Adds, single, double, letter_of, letter, escape}
+use Rattle.ksv_yaml_scan.specs.Quoted.{is_surrogate, digit, hex_digit, utf8, with_bytes, act, at_end, inside, quote_of}
 use Rattle.ksv_yaml_scan.specs.Tokens.{Token, Cut, Bad, Over, White, Part, quoted_part, quoted_cut, plain_cut, cut, with_token, line_by, line_tokens, both}
 use Rattle.std.proofs.lemmas.Bool.{and_right, or_parts}
 use Rattle.ksv_yaml_scan.proofs.Choices.{at_false, not_first}
@@ -16,7 +18,8 @@ by_test P false x y f g = g refl
 
 skip_short : (cs : List ℕ) → length (skip cs) ≤ length cs
 skip_short [] = omega arith
-skip_short (c ∷ cs) = let h = skip_short cs in by_test (λ (r : List ℕ). length r ≤ suc (length cs)) (is_white c) (skip cs) (c ∷ cs) (λ e. omega arith) (λ e. omega arith)
+skip_short (c ∷ cs) = let h = skip_short cs in by_test (λ (r : List ℕ). length r ≤ suc (length cs)) (is_white c) (skip cs) (c ∷ cs) (λ e. omega arith)
+    (λ e. omega arith)
 
 abbrev EndsWithin : ℕ → Ending → Type 0
 EndsWithin n (Colon rest) = length rest ≤ n
@@ -49,7 +52,8 @@ run_by_short n c None r h k = k
 
 run_short : (flow w : Bool) (cs : List ℕ) → EndsWithin (length cs) (run flow w cs).ending
 run_short flow w [] = tt
-run_short flow w (c ∷ cs) = run_by_short (suc (length cs)) c (stop flow w (c ∷ cs)) (run flow (is_white c) cs) (stop_short flow w (c ∷ cs)) (ends_more (length cs) (run flow (is_white c) cs).ending (run_short flow (is_white c) cs))
+run_short flow w (c ∷ cs) = run_by_short (suc (length cs)) c (stop flow w (c ∷ cs)) (run flow (is_white c) cs) (stop_short flow w (c ∷ cs))
+    (ends_more (length cs) (run flow (is_white c) cs).ending (run_short flow (is_white c) cs))
 
 abbrev StepWithin : ℕ → Step → Type 0
 StepWithin n (Ends rest) = length rest ≤ n
@@ -85,7 +89,8 @@ digit_on (suc (suc k)) n (Some x) = tt
 double_short : (m : Place) (c : ℕ) (cs : List ℕ) → StepWithin (suc (length cs)) (double m c cs)
 double_short Escaped c cs = on_within _ (escape c) (escape_on c)
 double_short (Digits k n) c cs = on_within _ (digit k n (hex_digit c)) (digit_on k n (hex_digit c))
-double_short m c cs = by_test (StepWithin (suc (length cs))) (c == 34) _ _ (λ e. omega arith) (λ e. by_test (StepWithin (suc (length cs))) (c == 92) _ _ (λ e. tt) (λ e. tt))
+double_short m c cs = by_test (StepWithin (suc (length cs))) (c == 34) _ _ (λ e. omega arith)
+    (λ e. by_test (StepWithin (suc (length cs))) (c == 92) _ _ (λ e. tt) (λ e. tt))
 
 abbrev QuoteWithin : ℕ → Option Quote → Type 0
 QuoteWithin n None = Unit {0}
@@ -106,13 +111,15 @@ end_within Between = tt
 end_within Escaped = tt
 end_within (Digits k n) = tt
 
-inside_within : (step : Place → ℕ → List ℕ → Step) → ((m : Place) (c : ℕ) (cs : List ℕ) → StepWithin (suc (length cs)) (step m c cs)) → (cs : List ℕ) (m : Place) → QuoteWithin (length cs) (inside step m cs)
+inside_within : (step : Place → ℕ → List ℕ → Step) → ((m : Place) (c : ℕ) (cs : List ℕ) → StepWithin (suc (length cs)) (step m c cs))
+    → (cs : List ℕ) (m : Place) → QuoteWithin (length cs) (inside step m cs)
 inside_within step s [] m = end_within m
 inside_within step s (c ∷ cs) m = act_within (length cs) (step m c cs) (λ n. inside step n cs) (s m c cs) (λ n. inside_within step s cs n)
 
 -- what stands behind a quote is shorter than its line from its first byte
 pub quote_short : (c : ℕ) (cs : List ℕ) → QuoteWithin (length cs) (quote_of (c ∷ cs))
-quote_short c cs = by_test (QuoteWithin (length cs)) (c == 39) _ _ (λ e. inside_within single single_short cs Between) (λ e. by_test (QuoteWithin (length cs)) (c == 34) _ _ (λ e. inside_within double double_short cs Between) (λ e. tt))
+quote_short c cs = by_test (QuoteWithin (length cs)) (c == 39) _ _ (λ e. inside_within single single_short cs Between)
+    (λ e. by_test (QuoteWithin (length cs)) (c == 34) _ _ (λ e. inside_within double double_short cs Between) (λ e. tt))
 
 abbrev pub CutWithin : ℕ → Cut → Type 0
 CutWithin n (White rest) = length rest ≤ n
@@ -149,18 +156,26 @@ plain_stop flow c cs h =
 
 -- a plain run in a flow node takes its first byte
 plain_run_short : (c : ℕ) (cs : List ℕ) → starts_plain (c ∷ cs) ≡ true → EndsWithin (length cs) (run true false (c ∷ cs)).ending
-plain_run_short c cs h = subst (λ (o : Option Ending). EndsWithin (length cs) (run_by o c (run true (is_white c) cs)).ending) (sym (plain_stop true c cs h)) (run_short true (is_white c) cs)
+plain_run_short c cs h = subst (λ (o : Option Ending). EndsWithin (length cs) (run_by o c (run true (is_white c) cs)).ending) (sym (plain_stop true c cs h))
+    (run_short true (is_white c) cs)
 
 pub cut_short : (number : ℕ) (w : Bool) (c : ℕ) (cs : List ℕ) → CutWithin (length cs) (cut number w (c ∷ cs))
 cut_short number w c cs =
     let P = CutWithin (length cs) in
-    by_test P (is_white c) _ _ (λ e. omega arith) (λ e. by_test P (c == 35) _ _ (λ e. by_test P w _ _ (λ e. tt) (λ e. tt)) (λ e. by_test P (c == 91) _ _ (λ e. omega arith) (λ e. by_test P (c == 93) _ _ (λ e. omega arith) (λ e. by_test P (c == 123) _ _ (λ e. omega arith)
-    (λ e. by_test P (c == 125) _ _ (λ e. omega arith) (λ e. by_test P (c == 44) _ _ (λ e. omega arith) (λ e. by_test P ((c == 39) || (c == 34)) _ _ (λ e. quoted_within number (length cs) (quote_of (c ∷ cs)) (quote_short c cs))
-    (λ e. by_test P (starts_plain (c ∷ cs)) _ _ (λ e. plain_within number (length cs) (run true false (c ∷ cs)).text (run true false (c ∷ cs)).ending (plain_run_short c cs e)) (λ e. tt)))))))))
+    by_test P (is_white c) _ _ (λ e. omega arith)
+    (λ e. by_test P (c == 35) _ _ (λ e. by_test P w _ _ (λ e. tt) (λ e. tt))
+    (λ e. by_test P (c == 91) _ _ (λ e. omega arith)
+    (λ e. by_test P (c == 93) _ _ (λ e. omega arith) (λ e. by_test P (c == 123) _ _ (λ e. omega arith)
+    (λ e. by_test P (c == 125) _ _ (λ e. omega arith)
+    (λ e. by_test P (c == 44) _ _ (λ e. omega arith)
+    (λ e. by_test P ((c == 39) || (c == 34)) _ _ (λ e. quoted_within number (length cs) (quote_of (c ∷ cs)) (quote_short c cs))
+    (λ e. by_test P (starts_plain (c ∷ cs)) _ _
+    (λ e. plain_within number (length cs) (run true false (c ∷ cs)).text (run true false (c ∷ cs)).ending (plain_run_short c cs e)) (λ e. tt)))))))))
 
 -- ---- the bound doesn't matter
 
-line_same : (k : Cut) (n : ℕ) (f g : Bool → List ℕ → Option (List Token)) → CutWithin n k → ((w : Bool) (cs : List ℕ) → length cs ≤ n → f w cs ≡ g w cs) → line_by k f ≡ line_by k g
+line_same : (k : Cut) (n : ℕ) (f g : Bool → List ℕ → Option (List Token)) → CutWithin n k → ((w : Bool) (cs : List ℕ) → length cs ≤ n → f w cs ≡ g w cs)
+    → line_by k f ≡ line_by k g
 line_same Bad n f g h e = refl
 line_same Over n f g h e = refl
 line_same (White cs) n f g h e = e true cs h
@@ -170,7 +185,9 @@ pub tokens_enough : (f g number : ℕ) (w : Bool) (cs : List ℕ) → length cs 
 tokens_enough zero g number w cs h k = absurd (omega arith)
 tokens_enough (suc f) zero number w cs h k = absurd (omega arith)
 tokens_enough (suc f) (suc g) number w [] h k = refl
-tokens_enough (suc f) (suc g) number w (c ∷ cs) h k = line_same (cut number w (c ∷ cs)) (length cs) (λ w cs. line_tokens f number w cs) (λ w cs. line_tokens g number w cs) (cut_short number w c cs) (λ w ds e. tokens_enough f g number w ds (omega arith) (omega arith))
+tokens_enough (suc f) (suc g) number w (c ∷ cs) h k =
+    line_same (cut number w (c ∷ cs)) (length cs) (λ w cs. line_tokens f number w cs) (λ w cs. line_tokens g number w cs) (cut_short number w c cs)
+    (λ w ds e. tokens_enough f g number w ds (omega arith) (omega arith))
 
 -- ---- from one part to the next
 
@@ -200,7 +217,8 @@ part_shorter number w cs ds t e = subst (CutBelow (length cs)) e (cut_below numb
 abbrev pub rest_tokens : ℕ → Bool → List ℕ → Option (List Token)
 rest_tokens number w cs = line_tokens (suc (length cs)) number w cs
 
-rest_by : (number : ℕ) (w : Bool) (cs : List ℕ) (k : Cut) → cut number w cs ≡ k → rest_tokens number w cs ≡ line_by k (λ w ds. line_tokens (length cs) number w ds)
+rest_by : (number : ℕ) (w : Bool) (cs : List ℕ) (k : Cut) → cut number w cs ≡ k
+    → rest_tokens number w cs ≡ line_by k (λ w ds. line_tokens (length cs) number w ds)
 rest_by number w cs k e = ap (λ (k : Cut). line_by k (λ w ds. line_tokens (length cs) number w ds)) e
 
 pub rest_white : (number : ℕ) (w : Bool) (cs ds : List ℕ) → cut number w cs ≡ White ds → rest_tokens number w cs ≡ rest_tokens number true ds
@@ -208,7 +226,8 @@ rest_white number w cs ds e =
     let h = white_shorter number w cs ds e in
     rest_by number w cs (White ds) e ∙ tokens_enough (length cs) (suc (length ds)) number true ds h (omega arith)
 
-pub rest_part : (number : ℕ) (w : Bool) (cs ds : List ℕ) (t : Token) → cut number w cs ≡ Part t ds → rest_tokens number w cs ≡ with_token t (rest_tokens number false ds)
+pub rest_part : (number : ℕ) (w : Bool) (cs ds : List ℕ) (t : Token) → cut number w cs ≡ Part t ds
+    → rest_tokens number w cs ≡ with_token t (rest_tokens number false ds)
 rest_part number w cs ds t e =
     let h = part_shorter number w cs ds t e in
     rest_by number w cs (Part t ds) e ∙ ap (with_token t) (tokens_enough (length cs) (suc (length ds)) number false ds h (omega arith))
@@ -221,7 +240,8 @@ pub both_assoc : (a b c : Option (List Token)) → both a (both b c) ≡ both (b
 both_assoc None b c = refl
 both_assoc (Some ts) None c = refl
 both_assoc (Some ts) (Some us) None = refl
-both_assoc (Some ts) (Some us) (Some vs) = ap (λ (r : List Token). let some : List Token → Option (List Token) = λ x. Some x in some r) (sym (append_assoc ts us vs))
+both_assoc (Some ts) (Some us) (Some vs) = ap (λ (r : List Token). let some : List Token → Option (List Token) = λ x. Some x in some r)
+    (sym (append_assoc ts us vs))
 
 pub both_nothing : (o : Option (List Token)) → both (Some []) o ≡ o
 both_nothing None = refl

@@ -1,5 +1,6 @@
 -- A plain run is found from front to back.
-use Rattle.std.proofs.Common.{◌≡◌, ℕ, ◌+◌, ◌<◌, Bool, true, false, List, [], ◌∷◌, ◌++◌, length, take, drop, get_or, Option, None, refl, sym, ap, ◌∙◌, drop-cons, add-one}
+use Rattle.std.proofs.Common.{◌≡◌, ℕ, ◌+◌, ◌<◌, Bool, true, false, List, [], ◌∷◌, ◌++◌, length, take, drop, get_or, Option, None, refl, sym, ap, ◌∙◌, drop-cons}
+use Rattle.std.proofs.Common.{add-one}
 use Rattle.ksv_yaml_scan.specs.Lines.{is_white}
 use Rattle.ksv_yaml_scan.specs.Plain.{Ending, Run, join, stop, run_by, run}
 use Rattle.ksv_yaml_scan.proofs.Choices.{at_true, at_false}
@@ -32,11 +33,13 @@ trim_other (x ∷ xs) c h = ap (join x) (trim_other xs c h) ∙ join_last x xs c
 first_at : (xs : List ℕ) (i : ℕ) → i < length xs → drop i xs ≡ get_or xs i 0 ∷ drop (i + 1) xs
 first_at xs i h = drop-cons xs i 0 h ∙ ap (λ (j : ℕ). get_or xs i 0 ∷ drop j xs) (sym (add-one i))
 
-run_step : (flow w : Bool) (c : ℕ) (cs front : List ℕ) (o : Option Ending) → stop flow w (c ∷ cs) ≡ o → after front (run flow w (c ∷ cs)) ≡ after front (run_by o c (run flow (is_white c) cs))
+run_step : (flow w : Bool) (c : ℕ) (cs front : List ℕ) (o : Option Ending) → stop flow w (c ∷ cs) ≡ o
+    → after front (run flow w (c ∷ cs)) ≡ after front (run_by o c (run flow (is_white c) cs))
 run_step flow w c cs front o e = ap (λ (o : Option Ending). after front (run_by o c (run flow (is_white c) cs))) e
 
 -- the run goes on over the byte at i
-pub run_more : (flow w : Bool) (xs : List ℕ) (i : ℕ) → i < length xs → stop flow w (drop i xs) ≡ None → after (take i xs) (run flow w (drop i xs)) ≡ after (take (i + 1) xs) (run flow (is_white (get_or xs i 0)) (drop (i + 1) xs))
+pub run_more : (flow w : Bool) (xs : List ℕ) (i : ℕ) → i < length xs → stop flow w (drop i xs) ≡ None
+    → after (take i xs) (run flow w (drop i xs)) ≡ after (take (i + 1) xs) (run flow (is_white (get_or xs i 0)) (drop (i + 1) xs))
 run_more flow w xs i h e =
     let c = get_or xs i 0 in
     let r = run flow (is_white c) (drop (i + 1) xs) in
@@ -46,7 +49,8 @@ run_more flow w xs i h e =
     ∙ ap (λ (ys : List ℕ). after ys r) (sym (take_more xs i 0 h))
 
 -- where the text without white space at its end stops
-pub end_white : (xs : List ℕ) (i end : ℕ) → i < length xs → is_white (get_or xs i 0) ≡ true → joined (take i xs) [] ≡ take end xs → joined (take (i + 1) xs) [] ≡ take end xs
+pub end_white : (xs : List ℕ) (i end : ℕ) → i < length xs → is_white (get_or xs i 0) ≡ true → joined (take i xs) [] ≡ take end xs
+    → joined (take (i + 1) xs) [] ≡ take end xs
 end_white xs i end h w e = ap (λ (ys : List ℕ). joined ys []) (take_more xs i 0 h) ∙ trim_white (take i xs) (get_or xs i 0) w ∙ e
 
 pub end_other : (xs : List ℕ) (i : ℕ) → i < length xs → is_white (get_or xs i 0) ≡ false → joined (take (i + 1) xs) [] ≡ take (i + 1) xs

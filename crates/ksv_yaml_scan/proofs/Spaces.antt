@@ -9,7 +9,8 @@ abbrev pub uncommented : List ℕ → List ℕ
 uncommented [] = []
 uncommented (c ∷ cs) = cond (c == 35) [] (c ∷ cs)
 
-shown_step : (b : Bool) (c : ℕ) (cs : List ℕ) → shown cs ≡ uncommented (skip cs) → cond b (shown cs) (cond (c == 35) [] (c ∷ cs)) ≡ uncommented (cond b (skip cs) (c ∷ cs))
+shown_step : (b : Bool) (c : ℕ) (cs : List ℕ) → shown cs ≡ uncommented (skip cs)
+    → cond b (shown cs) (cond (c == 35) [] (c ∷ cs)) ≡ uncommented (cond b (skip cs) (c ∷ cs))
 shown_step true c cs h = h
 shown_step false c cs h = refl
 
@@ -29,7 +30,8 @@ shown_other cs ds rest c e f g = shown_skip cs ∙ ap uncommented (sym e ∙ f) 
 pub shown_nothing : (cs ds : List ℕ) → ds ≡ skip cs → ds ≡ [] → shown cs ≡ ds
 shown_nothing cs ds e f = shown_skip cs ∙ ap uncommented (sym e ∙ f) ∙ sym f
 
-columns_step : (b : Bool) (c : ℕ) (cs : List ℕ) → columns cs + length (shown cs) ≤ length cs → cond b (suc (columns cs)) 0 + length (cond b (shown cs) (cond (c == 35) [] (c ∷ cs))) ≤ suc (length cs)
+columns_step : (b : Bool) (c : ℕ) (cs : List ℕ) → columns cs + length (shown cs) ≤ length cs
+    → cond b (suc (columns cs)) 0 + length (cond b (shown cs) (cond (c == 35) [] (c ∷ cs))) ≤ suc (length cs)
 columns_step true c cs h = omega (arith, h)
 columns_step false c cs h = hash (c == 35)
   where

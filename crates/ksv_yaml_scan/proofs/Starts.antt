@@ -5,7 +5,8 @@ use Rattle.std.proofs.lemmas.Bool.{eqb-true, and_parts, or_cases, or_parts}
 use Rattle.ksv_yaml_scan.specs.Lines.{is_nil, is_white, skip, shown, is_clear, white_or_end}
 use Rattle.ksv_yaml_scan.specs.Plain.{is_bracket, is_special, starts_plain, Ending, Colon, Bracket, Comment, End, Run, stop, run_by, run, plain_of_run}
 use Rattle.ksv_yaml_scan.specs.Quoted.{Quote, quote_of}
-use Rattle.ksv_yaml_scan.specs.Starts.{InlineKind, Quoted, Flowing, Dashed, Dash, Key, Inline, Refused, starts_quote, dash_of, key_at_colon, key_of_quote, key_of_run, key_of, plain_kind, quoted_kind, block_kind, kind_of, start_by, start_of, is_dash}
+use Rattle.ksv_yaml_scan.specs.Starts.{InlineKind, Quoted, Flowing, Dashed, Dash, Key, Inline, Refused, starts_quote, dash_of, key_at_colon, key_of_quote}
+use Rattle.ksv_yaml_scan.specs.Starts.{key_of_run, key_of, plain_kind, quoted_kind, block_kind, kind_of, start_by, start_of, is_dash}
 use Rattle.ksv_yaml_scan.proofs.Choices.{chosen, at_true, at_false, not_first}
 
 -- ---- what `start_of` found
@@ -17,14 +18,18 @@ start_dash_by false None (Some k) i x h = absurd cc
 start_dash_by false None None (Some i) x h = absurd cc
 start_dash_by false None None None x h = absurd cc
 
-start_key_by : (b : Bool) (o : Option Dashed) (k : Option (List ℕ × List ℕ)) (i : Option InlineKind) (key rest : List ℕ) → start_by b o k i ≡ Key key rest → k ≡ Some (key, rest)
+start_key_by : (b : Bool) (o : Option Dashed) (k : Option (List ℕ × List ℕ)) (i : Option InlineKind) (key rest : List ℕ) → start_by b o k i ≡ Key key rest
+    → k ≡ Some (key, rest)
 start_key_by true o k i key rest h = absurd cc
 start_key_by false (Some d) k i key rest h = absurd cc
-start_key_by false None (Some k) i key rest h = let e : k.0 ≡ key = cc in let f : k.1 ≡ rest = cc in ap (λ (a : List ℕ). let some : List ℕ × List ℕ → Option (List ℕ × List ℕ) = λ x. Some x in some (a, k.1)) e ∙ ap (λ (b : List ℕ). let some : List ℕ × List ℕ → Option (List ℕ × List ℕ) = λ x. Some x in some (key, b)) f
+start_key_by false None (Some k) i key rest h = let e : k.0 ≡ key = cc in let f : k.1 ≡ rest =
+    cc in ap (λ (a : List ℕ). let some : List ℕ × List ℕ → Option (List ℕ × List ℕ) = λ x. Some x in some (a, k.1)) e
+    ∙ ap (λ (b : List ℕ). let some : List ℕ × List ℕ → Option (List ℕ × List ℕ) = λ x. Some x in some (key, b)) f
 start_key_by false None None (Some i) key rest h = absurd cc
 start_key_by false None None None key rest h = absurd cc
 
-start_inline_by : (b : Bool) (o : Option Dashed) (k : Option (List ℕ × List ℕ)) (i : Option InlineKind) (x : InlineKind) → start_by b o k i ≡ Inline x → i ≡ Some x
+start_inline_by : (b : Bool) (o : Option Dashed) (k : Option (List ℕ × List ℕ)) (i : Option InlineKind) (x : InlineKind) → start_by b o k i ≡ Inline x
+    → i ≡ Some x
 start_inline_by true o k i x h = absurd cc
 start_inline_by false (Some d) k i x h = absurd cc
 start_inline_by false None (Some k) i x h = absurd cc
@@ -65,7 +70,8 @@ plain_other (c ∷ cs) h =
     let p = not_first (is_special c) (not (((c == 45) || ((c == 63) || (c == 58))) && white_or_end cs)) h in
     let s = (or_parts (is_bracket c) _ p.0).1 in
     record {
-      loud = ap is_nil (at_false (is_white c) (shown cs) _ (or_parts (is_white c) _ s).0 ∙ at_false (c == 35) [] (c ∷ cs) (or_parts (c == 35) _ (or_parts (is_white c) _ s).1).0);
+      loud = ap is_nil (at_false (is_white c) (shown cs) _ (or_parts (is_white c) _ s).0
+          ∙ at_false (c == 35) [] (c ∷ cs) (or_parts (c == 35) _ (or_parts (is_white c) _ s).1).0);
       dash = at_false ((c == 45) && white_or_end cs) _ _ (no_dash_bits (c == 45) ((c == 63) || (c == 58)) (white_or_end cs) p.1);
     }
 
@@ -96,7 +102,8 @@ dash_start [] x h = absurd cc
 dash_start (c ∷ cs) x h =
     let b = then_some ((c == 45) && white_or_end cs) _ x h in
     let l : is_nil (shown (c ∷ cs)) ≡ false = at_byte 45 c (λ (c : ℕ). is_nil (shown (c ∷ cs)) ≡ false) (and_parts (c == 45) (white_or_end cs) b).0 refl in
-    ap (λ (b : Bool). start_by b (dash_of (c ∷ cs)) (key_of (c ∷ cs)) (kind_of (c ∷ cs))) l ∙ ap (λ (o : Option Dashed). start_by false o (key_of (c ∷ cs)) (kind_of (c ∷ cs))) h
+    ap (λ (b : Bool). start_by b (dash_of (c ∷ cs)) (key_of (c ∷ cs)) (kind_of (c ∷ cs))) l
+    ∙ ap (λ (o : Option Dashed). start_by false o (key_of (c ∷ cs)) (kind_of (c ∷ cs))) h
 
 as_key : (cs key rest : List ℕ) → IsOther cs → key_of cs ≡ Some (key, rest) → start_of cs ≡ Key key rest
 as_key cs key rest o h =
@@ -116,10 +123,11 @@ some_quote None x h = absurd cc
 some_quote (Some q) x h = (q, refl)
 
 pub key_start : (cs key rest : List ℕ) → key_of cs ≡ Some (key, rest) → start_of cs ≡ Key key rest
-key_start cs key rest h = elim (chosen (starts_plain cs) (key_of_run (run false false cs).text (run false false cs).ending) (key_of_quote (quote_of cs)) (Some (key, rest)) h) [
-  | inl a ↦ as_key cs key rest (plain_other cs a.0) h
-  | inr a ↦ (let q = some_quote (quote_of cs) (key, rest) a.1 in as_key cs key rest (quote_marked cs q.0 q.1).other h)
-]
+key_start cs key rest h =
+    elim (chosen (starts_plain cs) (key_of_run (run false false cs).text (run false false cs).ending) (key_of_quote (quote_of cs)) (Some (key, rest)) h) [
+      | inl a ↦ as_key cs key rest (plain_other cs a.0) h
+      | inr a ↦ (let q = some_quote (quote_of cs) (key, rest) a.1 in as_key cs key rest (quote_marked cs q.0 q.1).other h)
+    ]
 
 -- a run that a value is has no colon
 run_no_key : (text : List ℕ) (e : Ending) (x : InlineKind) → plain_kind (plain_of_run text e) ≡ Some x → key_of_run text e ≡ None
@@ -129,7 +137,8 @@ run_no_key text Comment x h = refl
 run_no_key text End x h = refl
 
 -- what nothing but a comment stands behind is no key
-clear_skip : (b e : Bool) (c : ℕ) (cs key : List ℕ) → (c == 35) ≡ e → (is_nil (shown cs) ≡ true → key_at_colon key (skip cs) ≡ None) → is_nil (cond b (shown cs) (cond e [] (c ∷ cs))) ≡ true → key_at_colon key (cond b (skip cs) (c ∷ cs)) ≡ None
+clear_skip : (b e : Bool) (c : ℕ) (cs key : List ℕ) → (c == 35) ≡ e → (is_nil (shown cs) ≡ true → key_at_colon key (skip cs) ≡ None)
+    → is_nil (cond b (shown cs) (cond e [] (c ∷ cs))) ≡ true → key_at_colon key (cond b (skip cs) (c ∷ cs)) ≡ None
 clear_skip true e c cs key ec f h = f h
 clear_skip false true c cs key ec f h = at_byte 35 c (λ (c : ℕ). key_at_colon key (c ∷ cs) ≡ None) ec refl
 clear_skip false false c cs key ec f h = absurd cc
@@ -169,9 +178,11 @@ pub kind_start : (cs : List ℕ) (x : InlineKind) → kind_of cs ≡ Some x → 
 kind_start [] x h = absurd cc
 kind_start (c ∷ cs) x h =
     elim (chosen (starts_plain (c ∷ cs)) _ _ (Some x) h) [
-      | inl a ↦ as_inline (c ∷ cs) x (plain_other (c ∷ cs) a.0) (at_true (starts_plain (c ∷ cs)) _ _ a.0 ∙ run_no_key (run false false (c ∷ cs)).text (run false false (c ∷ cs)).ending x a.1) h
+      | inl a ↦ as_inline (c ∷ cs) x (plain_other (c ∷ cs) a.0)
+          (at_true (starts_plain (c ∷ cs)) _ _ a.0 ∙ run_no_key (run false false (c ∷ cs)).text (run false false (c ∷ cs)).ending x a.1) h
       | inr a ↦ elim (chosen ((c == 39) || (c == 34)) (quoted_kind (quote_of (c ∷ cs))) _ (Some x) a.1) [
-        | inl b ↦ (let q = quoted_some (quote_of (c ∷ cs)) x b.1 in as_inline (c ∷ cs) x (quote_marked (c ∷ cs) q.0 q.1).other (at_false (starts_plain (c ∷ cs)) _ _ a.0 ∙ quoted_no_key (quote_of (c ∷ cs)) x b.1) h)
+        | inl b ↦ (let q = quoted_some (quote_of (c ∷ cs)) x b.1 in as_inline (c ∷ cs) x (quote_marked (c ∷ cs) q.0 q.1).other
+            (at_false (starts_plain (c ∷ cs)) _ _ a.0 ∙ quoted_no_key (quote_of (c ∷ cs)) x b.1) h)
         | inr b ↦ elim (chosen ((c == 91) || (c == 123)) (Some Flowing) _ (Some x) b.1) [
           | inl d ↦ elim (or_cases (c == 91) (c == 123) d.0) [
             | inl e ↦ alone_start (c ∷ cs) x (alone 91 c cs e (record { other = record { loud = refl; dash = refl }; key = refl })) h
@@ -179,7 +190,8 @@ kind_start (c ∷ cs) x h =
           ]
           | inr d ↦ elim (chosen (c == 124) (block_kind false cs) _ (Some x) d.1) [
             | inl e ↦ alone_start (c ∷ cs) x (alone 124 c cs e.0 (record { other = record { loud = refl; dash = refl }; key = refl })) h
-            | inr e ↦ alone_start (c ∷ cs) x (alone 62 c cs (then_kind (c == 62) (block_kind true cs) x e.1) (record { other = record { loud = refl; dash = refl }; key = refl })) h
+            | inr e ↦ alone_start (c ∷ cs) x
+                (alone 62 c cs (then_kind (c == 62) (block_kind true cs) x e.1) (record { other = record { loud = refl; dash = refl }; key = refl })) h
           ]
         ]
       ]
@@ -199,7 +211,8 @@ no_dash_by false None None = refl
 
 pub dash_at : (c : ℕ) (cs : List ℕ) (b : Bool) → ((c == 45) && white_or_end cs) ≡ b → is_dash (start_of (c ∷ cs)) ≡ b
 dash_at c cs true e = ap is_dash (dash_start (c ∷ cs) _ (at_true ((c == 45) && white_or_end cs) _ _ e))
-dash_at c cs false e = ap (λ (o : Option Dashed). is_dash (start_by (is_nil (shown (c ∷ cs))) o (key_of (c ∷ cs)) (kind_of (c ∷ cs)))) (at_false ((c == 45) && white_or_end cs) _ _ e) ∙ no_dash_by (is_nil (shown (c ∷ cs))) (key_of (c ∷ cs)) (kind_of (c ∷ cs))
+dash_at c cs false e = ap (λ (o : Option Dashed). is_dash (start_by (is_nil (shown (c ∷ cs))) o (key_of (c ∷ cs)) (kind_of (c ∷ cs))))
+    (at_false ((c == 45) && white_or_end cs) _ _ e) ∙ no_dash_by (is_nil (shown (c ∷ cs))) (key_of (c ∷ cs)) (kind_of (c ∷ cs))
 
 -- ---- what the reader found
 
@@ -211,18 +224,22 @@ start_refused cs l d k i =
     ∙ ap (λ (i : Option InlineKind). start_by false None None i) i
 
 -- outside flow nodes no run ends at a bracket
-no_bracket_by : (o : Option Ending) (c : ℕ) (r : Run) (rest : List ℕ) → ((rest : List ℕ) → (let some : Ending → Option Ending = λ e. Some e in o ≡ some (Bracket rest)) → ⊥) → (r.ending ≡ Bracket rest → ⊥) → (run_by o c r).ending ≡ Bracket rest → ⊥
+no_bracket_by : (o : Option Ending) (c : ℕ) (r : Run) (rest : List ℕ)
+    → ((rest : List ℕ) → (let some : Ending → Option Ending = λ e. Some e in o ≡ some (Bracket rest)) → ⊥) → (r.ending ≡ Bracket rest → ⊥)
+    → (run_by o c r).ending ≡ Bracket rest → ⊥
 no_bracket_by (Some e) c r rest f g h = f rest (ap (λ (e : Ending). let some : Ending → Option Ending = λ e. Some e in some e) h)
 no_bracket_by None c r rest f g h = g h
 
-no_bracket_stop : (a b : Bool) (cs rest : List ℕ) → (let some : Ending → Option Ending = λ e. Some e in cond a (some Comment) (cond b (some (Colon cs)) None) ≡ some (Bracket rest)) → ⊥
+no_bracket_stop : (a b : Bool) (cs rest : List ℕ)
+    → (let some : Ending → Option Ending = λ e. Some e in cond a (some Comment) (cond b (some (Colon cs)) None) ≡ some (Bracket rest)) → ⊥
 no_bracket_stop true b cs rest h = cc
 no_bracket_stop false true cs rest h = cc
 no_bracket_stop false false cs rest h = cc
 
 pub no_bracket : (w : Bool) (cs rest : List ℕ) → (run false w cs).ending ≡ Bracket rest → ⊥
 no_bracket w [] rest h = cc
-no_bracket w (c ∷ cs) rest h = no_bracket_by (stop false w (c ∷ cs)) c (run false (is_white c) cs) rest (λ rest e. no_bracket_stop (w && (c == 35)) ((c == 58) && white_or_end cs) cs rest e) (no_bracket (is_white c) cs rest) h
+no_bracket w (c ∷ cs) rest h = no_bracket_by (stop false w (c ∷ cs)) c (run false (is_white c) cs) rest
+    (λ rest e. no_bracket_stop (w && (c == 35)) ((c == 58) && white_or_end cs) cs rest e) (no_bracket (is_white c) cs rest) h
 
 -- ---- quotes
 
@@ -240,5 +257,7 @@ quote_kind_of : (cs : List ℕ) → starts_quote cs ≡ true → kind_of cs ≡ 
 quote_kind_of [] h = absurd cc
 quote_kind_of (c ∷ cs) h = at_false (starts_plain (c ∷ cs)) _ _ (quote_plain (c ∷ cs) h).plain ∙ at_true ((c == 39) || (c == 34)) _ _ h
 
-pub quote_refused : (cs : List ℕ) (q : Quote) → starts_quote cs ≡ true → quote_of cs ≡ Some q → key_at_colon q.text (skip q.rest) ≡ None → is_clear q.rest ≡ false → start_of cs ≡ Refused
-quote_refused cs q h e k i = let m = (quote_plain cs h).other in start_refused cs m.loud m.dash (quote_key_of cs h ∙ ap key_of_quote e ∙ k) (quote_kind_of cs h ∙ ap quoted_kind e ∙ at_false (is_clear q.rest) _ _ i)
+pub quote_refused : (cs : List ℕ) (q : Quote) → starts_quote cs ≡ true → quote_of cs ≡ Some q → key_at_colon q.text (skip q.rest) ≡ None
+    → is_clear q.rest ≡ false → start_of cs ≡ Refused
+quote_refused cs q h e k i = let m = (quote_plain cs h).other in start_refused cs m.loud m.dash (quote_key_of cs h ∙ ap key_of_quote e ∙ k)
+    (quote_kind_of cs h ∙ ap quoted_kind e ∙ at_false (is_clear q.rest) _ _ i)

@@ -25,10 +25,14 @@ view_list line items = ap view (sym (made.rolls-List line items)) ∙ fold-roll-
 pub view_map : (line : ℕ) (entries : Vec Entry Global) → view (made.Map line entries) ≡ tree.Map line (entries_of (map pair entries.items))
 view_map line entries = ap view (sym (made.rolls-Map line entries)) ∙ fold-roll-Yaml Tree Pair yaml_step entry_step (Yaml-F.Map line entries)
 
-pub entries_seen : (node : Yaml) (line : ℕ) (entries : Vec Entry Global) (seen : List Entry) → node ≡ made.Map line entries → seen ≡ entries.items → Some (map pair seen) ≡ mapping_of (view node)
+pub entries_seen : (node : Yaml) (line : ℕ) (entries : Vec Entry Global) (seen : List Entry) → node ≡ made.Map line entries → seen ≡ entries.items
+    → Some (map pair seen) ≡ mapping_of (view node)
 entries_seen node line entries seen is e =
-    ap (λ (es : List Entry). Some (map pair es)) e ∙ ap Some (sym (pairs_again (map pair entries.items))) ∙ ap mapping_of (sym (view_map line entries)) ∙ ap (λ (n : Yaml). mapping_of (view n)) (sym is)
+    ap (λ (es : List Entry). Some (map pair es)) e ∙ ap Some (sym (pairs_again (map pair entries.items))) ∙ ap mapping_of (sym (view_map line entries))
+    ∙ ap (λ (n : Yaml). mapping_of (view n)) (sym is)
 
-pub items_seen : (node : Yaml) (line : ℕ) (items : Vec Yaml Global) (seen : List Yaml) → node ≡ made.List line items → seen ≡ items.items → Some (map view seen) ≡ list_of (view node)
+pub items_seen : (node : Yaml) (line : ℕ) (items : Vec Yaml Global) (seen : List Yaml) → node ≡ made.List line items → seen ≡ items.items
+    → Some (map view seen) ≡ list_of (view node)
 items_seen node line items seen is e =
-    ap (λ (ts : List Yaml). Some (map view ts)) e ∙ ap Some (sym (trees_again (map view items.items))) ∙ ap list_of (sym (view_list line items)) ∙ ap (λ (n : Yaml). list_of (view n)) (sym is)
+    ap (λ (ts : List Yaml). Some (map view ts)) e ∙ ap Some (sym (trees_again (map view items.items))) ∙ ap list_of (sym (view_list line items))
+    ∙ ap (λ (n : Yaml). list_of (view n)) (sym is)

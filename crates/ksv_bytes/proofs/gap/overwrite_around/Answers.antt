@@ -16,7 +16,9 @@ returns c =
     let back : (c.args.front ≤ cut) ⊎ (length behind ≡ 0) =
     elim (cases_lt cut c.args.front) [ inl short ↦ inr (omega (arith, c.clamp-cut.ensures, c.split_at.ensures.back_len)) | inr le ↦ inl le ] in
     let joined : before ++ behind ≡ new =
-    ap (λ xs. xs ++ behind) c.split_at.ensures.front ∙ ap (λ xs. take (cut - c.args.at) new ++ xs) c.split_at.ensures.back ∙ take-append-drop (cut - c.args.at) new in
+    ap (λ xs. xs ++ behind) c.split_at.ensures.front ∙ ap (λ xs. take (cut - c.args.at) new ++ xs) c.split_at.ensures.back
+    ∙ take-append-drop (cut - c.args.at) new in
     ap (λ xs. around xs c.args.front c.args.gap) (c.write-2.ensures ∙ ap (λ xs. overwritten xs (cut + c.args.gap) behind) c.write.ensures)
-    ∙ around-overwritten_both c.args.bytes.now before behind c.args.front c.args.gap c.args.at cut c.requires.gap start (omega (arith, c.clamp-cut.ensures)) front back
+    ∙ around-overwritten_both c.args.bytes.now before behind c.args.front c.args.gap c.args.at cut c.requires.gap start (omega (arith, c.clamp-cut.ensures))
+    front back
     ∙ ap (overwritten (around c.args.bytes.now c.args.front c.args.gap) c.args.at) joined

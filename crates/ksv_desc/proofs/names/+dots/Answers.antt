@@ -3,7 +3,8 @@ use Rattle.std.proofs.Common.{◌∙◌, sym, ap, arith}
 use Rattle.ksv_expr_tree.specs.Tree.{view}
 use Rattle.ksv_desc.specs.Names.{distinct_behind, dotted}
 use Rattle.ksv_desc.specs.Code.{dotted_in}
-use Rattle.ksv_desc.proofs.Dots.{distinct_step, distinct_end, all_flat, added_call, steps, dotted_unary, dotted_binary, dotted_logical, dotted_choice, dotted_field, dotted_special_field, dotted_index, dotted_cast}
+use Rattle.ksv_desc.proofs.Dots.{distinct_step, distinct_end, all_flat, added_call, steps, dotted_unary, dotted_binary, dotted_logical, dotted_choice}
+use Rattle.ksv_desc.proofs.Dots.{dotted_field, dotted_special_field, dotted_index, dotted_cast}
 use Rattle.ksv_desc.proofs.names.+dots.Goals as goal
 
 pub add_in-returns-in_ok-add_in_each-in-Call : goal.add_in-returns-in_ok-add_in_each-in-Call
@@ -19,7 +20,8 @@ add_in_each-loop-argument-preserved t c =
 
 pub add_in_each-returns : goal.add_in_each-returns
 add_in_each-returns t c =
-    distinct_end view dotted c.args.arguments.now _ _ _ c.loop-argument-test.false c.loop-argument.invariant ∙ sym (ap (distinct_behind c.args.names.now) (all_flat _))
+    distinct_end view dotted c.args.arguments.now _ _ _ c.loop-argument-test.false c.loop-argument.invariant
+    ∙ sym (ap (distinct_behind c.args.names.now) (all_flat _))
 
 pub add_in-returns-in-Unary : goal.add_in-returns-in-Unary
 add_in-returns-in-Unary t c = grind (arith, dotted_unary, dotted_special_field, dotted_cast)

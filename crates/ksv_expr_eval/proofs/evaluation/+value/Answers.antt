@@ -1,6 +1,7 @@
 -- Each form is evaluated as its meaning says, and a call of a method by how many arguments it has.
 use Rattle.std.proofs.Common.{◌≡◌, ◌≤◌, [], ◌∷◌, length, ◌⊎◌, inl, inr, ap, sym, ◌∙◌, arith}
-use Rattle.ksv_expr_eval.proofs.Cases.{of_literal, of_name, of_special, of_member, of_unary, of_binary, of_logical, of_choice, of_field, of_special_field, of_index, of_cast, call_of_one, call_of_two, call_of_other, is_one, is_two}
+use Rattle.ksv_expr_eval.proofs.Cases.{of_literal, of_name, of_special, of_member, of_unary, of_binary, of_logical, of_choice, of_field, of_special_field}
+use Rattle.ksv_expr_eval.proofs.Cases.{of_index, of_cast, call_of_one, call_of_two, call_of_other, is_one, is_two}
 use Rattle.ksv_expr_eval.proofs.evaluation.+value.Goals as goal
 
 pub value-returns-in_ok-literal-in-Literal : goal.value-returns-in_ok-literal-in-Literal
@@ -25,7 +26,8 @@ pub value-returns-in-Logical : goal.value-returns-in-Logical
 value-returns-in-Logical g t c = rw (c.in-Logical.is, of_logical, ← c.deref-in-Logical.ensures, ← c.deref-in-Logical-2.ensures) c.logical_expr.ensures
 
 pub value-returns-in-Choice : goal.value-returns-in-Choice
-value-returns-in-Choice g t c = rw (c.in-Choice.is, of_choice, ← c.deref-in-Choice.ensures, ← c.deref-in-Choice-2.ensures, ← c.deref-in-Choice-3.ensures) c.choice_expr.ensures
+value-returns-in-Choice g t c = rw (c.in-Choice.is, of_choice, ← c.deref-in-Choice.ensures, ← c.deref-in-Choice-2.ensures, ← c.deref-in-Choice-3.ensures)
+    c.choice_expr.ensures
 
 pub value-returns-in-Field : goal.value-returns-in-Field
 value-returns-in-Field g t c = rw (c.in-Field.is, of_field, ← c.deref-in-Field.ensures) c.field_expr.ensures
@@ -42,14 +44,18 @@ value-returns-in-empty g t c =
 
 pub value-returns-in-len1 : goal.value-returns-in-len1
 value-returns-in-len1 g t c =
-    let items : c.in-Call.arguments.items ≡ c.argument-item.result ∷ [] = sym c.as_slice.ensures.value ∙ is_one c.as_slice.result.now c.argument-item.result (omega arith) (omega arith) c.argument-item.is in
+    let items : c.in-Call.arguments.items ≡ c.argument-item.result ∷ [] =
+    sym c.as_slice.ensures.value ∙ is_one c.as_slice.result.now c.argument-item.result (omega arith) (omega arith) c.argument-item.is in
     let law = call_of_one c.args.ctx.now c.args.expr.now c.in-Call.object c.in-Call.method c.in-Call.arguments c.argument-item.result c.in-Call.is items in
     rw (law, ← c.deref-in-len1.ensures, ← c.as_str.ensures.value) c.call_with_one.ensures
 
 pub value-returns-in-len2 : goal.value-returns-in-len2
 value-returns-in-len2 g t c =
-    let items : c.in-Call.arguments.items ≡ c.first-item.result ∷ c.second-item.result ∷ [] = sym c.as_slice.ensures.value ∙ is_two c.as_slice.result.now c.first-item.result c.second-item.result (omega arith) (omega arith) c.first-item.is c.second-item.is in
-    let law = call_of_two c.args.ctx.now c.args.expr.now c.in-Call.object c.in-Call.method c.in-Call.arguments c.first-item.result c.second-item.result c.in-Call.is items in
+    let items : c.in-Call.arguments.items ≡ c.first-item.result ∷ c.second-item.result ∷ [] =
+    sym c.as_slice.ensures.value ∙ is_two c.as_slice.result.now c.first-item.result c.second-item.result (omega arith) (omega arith) c.first-item.is
+    c.second-item.is in
+    let law = call_of_two c.args.ctx.now c.args.expr.now c.in-Call.object c.in-Call.method c.in-Call.arguments c.first-item.result c.second-item.result
+    c.in-Call.is items in
     rw (law, ← c.deref-in-len2.ensures, ← c.as_str-in-len2.ensures.value) c.call_with_two.ensures
 
 pub value-returns-in_default : goal.value-returns-in_default

@@ -5,4 +5,6 @@ use Rattle.ksv_expr_syntax.proofs.Lexing.{take_run, names_utf8}
 use Rattle.ksv_expr_syntax.proofs.lexer.name_token.Goals as goal
 
 pub as_text-word-requires : goal.as_text-word-requires
-as_text-word-requires c = subst IsUtf8 (sym (c.before-2.ensures ∙ ap (λ n. take n c.args.text.now) c.name_size-size.ensures ∙ take_run is_name_byte c.args.text.now)) (names_utf8 c.args.text.now)
+as_text-word-requires c =
+    subst IsUtf8 (sym (c.before-2.ensures ∙ ap (λ n. take n c.args.text.now) c.name_size-size.ensures ∙ take_run is_name_byte c.args.text.now))
+    (names_utf8 c.args.text.now)

@@ -52,7 +52,8 @@ decreases-place l = 64 * length l.rest.now + 40
 
 abbrev pub invariant-joined-operators : goal.invariant-joined-operators
 invariant-joined-operators l = record {
-  is : read (Joined l.precedence) l.depth (lexemes l.fn.at.tokens.now) l.fn.at.parts ≡ join_on l.precedence (view l.left) l.depth (lexemes l.now.tokens.now) l.now.parts;
+  is : read (Joined l.precedence) l.depth (lexemes l.fn.at.tokens.now) l.fn.at.parts ≡ join_on l.precedence (view l.left) l.depth (lexemes l.now.tokens.now)
+      l.now.parts;
   shorter : length l.now.tokens.now < length l.fn.at.tokens.now;
 }
 

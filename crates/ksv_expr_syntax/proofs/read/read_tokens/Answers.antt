@@ -11,7 +11,9 @@ returns-in_err-expr-clause-refused c =
     rw (p.1, p.2) (λ n. not_read (lexemes c.args.tokens.now) (c.in_err-expr.ensures.is n))
 
 pub returns-then-not-is_empty-clause-refused : goal.returns-then-not-is_empty-clause-refused
-returns-then-not-is_empty-clause-refused c = λ n. rest_read (lexemes c.args.tokens.now) (view c.in_ok-expr.expr) (lexemes c.in_ok-expr.rest.tokens.now) c.in_ok-expr.rest.parts (some_more c.in_ok-expr.rest.tokens.now c.is_empty.result c.if-not-is_empty.true c.is_empty.ensures) c.in_ok-expr.ensures.is
+returns-then-not-is_empty-clause-refused c = λ n. rest_read (lexemes c.args.tokens.now) (view c.in_ok-expr.expr) (lexemes c.in_ok-expr.rest.tokens.now)
+    c.in_ok-expr.rest.parts (some_more c.in_ok-expr.rest.tokens.now c.is_empty.result c.if-not-is_empty.true c.is_empty.ensures) c.in_ok-expr.ensures.is
 
 pub returns-clause-found : goal.returns-clause-found
-returns-clause-found c = spelled (lexemes c.args.tokens.now) (view c.in_ok-expr.expr) (lexemes c.in_ok-expr.rest.tokens.now) c.in_ok-expr.rest.parts (no_more c.in_ok-expr.rest.tokens.now c.is_empty.result c.if-not-is_empty.false c.is_empty.ensures) c.in_ok-expr.ensures.is
+returns-clause-found c = spelled (lexemes c.args.tokens.now) (view c.in_ok-expr.expr) (lexemes c.in_ok-expr.rest.tokens.now) c.in_ok-expr.rest.parts
+    (no_more c.in_ok-expr.rest.tokens.now c.is_empty.result c.if-not-is_empty.false c.is_empty.ensures) c.in_ok-expr.ensures.is

@@ -22,7 +22,8 @@ returns c =
       ksy = c.demanded-ksy.ensures;
     } in
     record {
-      app = is_explorer start one two cmd o f k c.named.ensures.app c.in_ok-with_save.ensures c.in_ok-with_file.ensures c.in_ok-with_both.ensures built.save built.file built.ksy;
+      app = is_explorer start one two cmd o f k c.named.ensures.app c.in_ok-with_save.ensures c.in_ok-with_file.ensures c.in_ok-with_both.ensures built.save
+          built.file built.ksy;
       file = demands_file start cmd o f k built;
       ksy = demands_ksy start cmd o f k built;
     }

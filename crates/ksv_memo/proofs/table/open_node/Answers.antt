@@ -9,7 +9,8 @@ use Rattle.ksv_memo.specs.declared.slots.Known.TheVariants.{New}
 use Rattle.ksv_memo.proofs.Changing.{appended, given}
 use Rattle.ksv_memo.proofs.Finding.{answer_there}
 use Rattle.ksv_memo.proofs.Laying.{no_entry_at}
-use Rattle.ksv_memo.proofs.Tabling.{grown-links, grown-entries, new_out, new_free, opens-laid, opens-more, vacant_none, vacant_closed, past_none, past_closed, looked-laid, looked-view}
+use Rattle.ksv_memo.proofs.Tabling.{grown-links, grown-entries, new_out, new_free, opens-laid, opens-more, vacant_none, vacant_closed, past_none, past_closed}
+use Rattle.ksv_memo.proofs.Tabling.{looked-laid, looked-view}
 use Rattle.ksv_memo.proofs.table.open_node.Goals as goal
 
 -- a slot with nothing in it is given to the node
@@ -18,7 +19,8 @@ open_in-requires-clause-none g c = subst (λ es. Knows g.N.PartialEq.eq es c.arg
 
 pub open_in-requires-clause-place_in : goal.open_in-requires-clause-place_in
 open_in-requires-clause-place_in g c =
-    let at : IsVacant c.vacant.new.slots.entries c.in-Some.place = subst (λ es. IsVacant es c.in-Some.place) (sym c.vacant.ensures.entries) c.in-Some.ensures.some in
+    let at : IsVacant c.vacant.new.slots.entries c.in-Some.place =
+    subst (λ es. IsVacant es c.in-Some.place) (sym c.vacant.ensures.entries) c.in-Some.ensures.some in
     slice_get_within c.vacant.new.slots.entries c.in-Some.place (at.0, Empty) at.1
 
 pub returns-in_ok-open_in-in-Some-clause-laid : goal.returns-in_ok-open_in-in-Some-clause-laid
@@ -39,7 +41,8 @@ returns-in_ok-open_in-in-Some-clause-laid g c =
     let count : length qs ≡ length ps = ap length given_it ∙ length-set ps place (node, Open) in
     let none = vacant_none eq ps links frames laid0 node place at in
     let closed = vacant_closed eq ps links frames laid0 node place at in
-    opens-laid eq ps links frames laid0 node qs place node changes none closed c.open_in.new.frames c.in_ok-open_in-in-Some.ensures.frames (let h = laid0.kept.slots in omega arith)
+    opens-laid eq ps links frames laid0 node qs place node changes none closed c.open_in.new.frames c.in_ok-open_in-in-Some.ensures.frames
+    (let h = laid0.kept.slots in omega arith)
 
 pub returns-in_ok-open_in-in-Some-clause-ok : goal.returns-in_ok-open_in-in-Some-clause-ok
 returns-in_ok-open_in-in-Some-clause-ok g c =
@@ -118,9 +121,11 @@ returns-in_ok-open_new-in-None-clause-ok g c =
     let none = past_none eq ps m frames laid node in
     let closed = past_closed eq ps m frames laid node in
     let new_one = no_entry_at qs m (length ps) (answer_there qs (length ps) node Open changes.here) in
-    let opens = opens-more eq ps m frames laid node qs (length ps) node changes none closed c.open_new.new.frames c.in_ok-open_new-in-None.ensures.frames 1 count (new_one, tt)
+    let opens = opens-more eq ps m frames laid node qs (length ps) node changes none closed c.open_new.new.frames c.in_ok-open_new-in-None.ensures.frames 1
+    count (new_one, tt)
     (g.met.N.Eq.laws.refl node)
     (new_out eq ps m frames laid.kept laid.waits node knows)
     (new_free eq ps m frames laid.kept laid.waits node knows) in
     subst (λ v. Opens eq node v (record { kept = entries_of qs m; opened = opens_of qs c.open_new.new.frames })) view
-    (subst (λ es. Opens eq node (record { kept = es; opened = opens_of ps frames }) (record { kept = entries_of qs m; opened = opens_of qs c.open_new.new.frames })) (grown-entries ps links m laid0.kept c.reach.ensures.same) opens)
+    (subst (λ es. Opens eq node (record { kept = es; opened = opens_of ps frames })
+    (record { kept = entries_of qs m; opened = opens_of qs c.open_new.new.frames })) (grown-entries ps links m laid0.kept c.reach.ensures.same) opens)

@@ -18,7 +18,12 @@ returns-in-Open-clause-ok g c =
     let view = looked-view slots.entries ps links frames _ c.find.ensures.entries refl in
     let eq = g.N.PartialEq.eq in
     subst (λ v. Circles eq c.args.node c.args.node v (record { kept = entries_of ps links; opened = opens_of ps frames })) view
-    (record { same = refl; waits = open_waits eq ps links frames laid0.kept laid0.waits c.args.node (g.met.N.Eq.laws.refl c.args.node) c.in-Open.ensures.knows; kept = refl; opened = refl })
+    (record {
+      same = refl;
+      waits = open_waits eq ps links frames laid0.kept laid0.waits c.args.node (g.met.N.Eq.laws.refl c.args.node) c.in-Open.ensures.knows;
+      kept = refl;
+      opened = refl;
+    })
 
 -- a slot is empty
 pub reopen-requires : goal.reopen-requires
@@ -36,7 +41,10 @@ returns-in_ok-reopen-in-Empty-clause-laid g c =
     let at = c.in-Empty.ensures.knows in
     let changes = set_at ps c.reopen.new.slots.entries c.in-Empty.place c.args.node Empty Open at c.in_ok-reopen-in-Empty.ensures.slots in
     opens-laid eq ps links frames laid0 c.args.node c.reopen.new.slots.entries c.in-Empty.place c.args.node changes
-    (empty_none eq ps links frames laid0 c.args.node c.in-Empty.place at) (empty_closed eq ps links frames laid0 c.args.node c.in-Empty.place at) c.reopen.new.frames c.in_ok-reopen-in-Empty.ensures.frames (let n = set_count ps c.in-Empty.place Open c.reopen.new.slots.entries c.in_ok-reopen-in-Empty.ensures.slots in let h = laid0.kept.slots in omega arith)
+    (empty_none eq ps links frames laid0 c.args.node c.in-Empty.place at) (empty_closed eq ps links frames laid0 c.args.node c.in-Empty.place at)
+    c.reopen.new.frames c.in_ok-reopen-in-Empty.ensures.frames
+    (let n = set_count ps c.in-Empty.place Open c.reopen.new.slots.entries c.in_ok-reopen-in-Empty.ensures.slots in let h = laid0.kept.slots in
+    omega arith)
 
 pub returns-in_ok-reopen-in-Empty-clause-ok : goal.returns-in_ok-reopen-in-Empty-clause-ok
 returns-in_ok-reopen-in-Empty-clause-ok g c =
@@ -50,15 +58,20 @@ returns-in_ok-reopen-in-Empty-clause-ok g c =
     let at = c.in-Empty.ensures.knows in
     let laws = g.met.N.Eq.laws in
     let changes = set_at ps c.reopen.new.slots.entries c.in-Empty.place c.args.node Empty Open at c.in_ok-reopen-in-Empty.ensures.slots in
-    subst (λ v. Opens eq c.args.node v (record { kept = entries_of c.reopen.new.slots.entries links; opened = opens_of c.reopen.new.slots.entries c.reopen.new.frames })) view
+    subst (λ v. Opens eq c.args.node v
+    (record { kept = entries_of c.reopen.new.slots.entries links; opened = opens_of c.reopen.new.slots.entries c.reopen.new.frames })) view
     (opens-more eq ps links frames laid0 c.args.node c.reopen.new.slots.entries c.in-Empty.place c.args.node changes
-    (empty_none eq ps links frames laid0 c.args.node c.in-Empty.place at) (empty_closed eq ps links frames laid0 c.args.node c.in-Empty.place at) c.reopen.new.frames c.in_ok-reopen-in-Empty.ensures.frames 0 (let n = set_count ps c.in-Empty.place Open c.reopen.new.slots.entries c.in_ok-reopen-in-Empty.ensures.slots in omega arith) tt (laws.refl c.args.node)
+    (empty_none eq ps links frames laid0 c.args.node c.in-Empty.place at) (empty_closed eq ps links frames laid0 c.args.node c.in-Empty.place at)
+    c.reopen.new.frames c.in_ok-reopen-in-Empty.ensures.frames 0
+    (let n = set_count ps c.in-Empty.place Open c.reopen.new.slots.entries c.in_ok-reopen-in-Empty.ensures.slots in omega arith) tt
+    (laws.refl c.args.node)
     (empty_out eq ps links frames laid0.kept laid0.waits c.args.node laws c.in-Empty.ensures.unique c.in-Empty.place at)
     (empty_free eq ps links frames laid0.kept laid0.waits c.args.node laws c.in-Empty.ensures.unique c.in-Empty.place at))
 
 -- there is no slot
 pub open_node-requires-clause-laid : goal.open_node-requires-clause-laid
-open_node-requires-clause-laid g c = looked-laid c.args.slots.now.entries c.find.new.self.entries c.args.links.now c.args.frames.now c.find.ensures.entries c.requires
+open_node-requires-clause-laid g c = looked-laid c.args.slots.now.entries c.find.new.self.entries c.args.links.now c.args.frames.now c.find.ensures.entries
+    c.requires
 
 pub open_node-requires-clause-none : goal.open_node-requires-clause-none
 open_node-requires-clause-none g c = c.in-New.ensures.knows

@@ -29,19 +29,22 @@ pub unlink-requires-clause-before : goal.unlink-requires-clause-before
 unlink-requires-clause-before c =
     let i = c.loop-left.invariant in
     let v = last c.loop-left.blocks.items c.args.owner c.index.result.now.begin c.loop-left.left i.begin i.count c.loop-left-test.true in
-    before-inside c.loop-left.entries.items c.loop-left.blocks.items c.loop-left.first.items c.args.owner (c.index.result.now.begin + (c.loop-left.left - 1)) i.chained v
+    before-inside c.loop-left.entries.items c.loop-left.blocks.items c.loop-left.first.items c.args.owner (c.index.result.now.begin + (c.loop-left.left - 1))
+    i.chained v
 
 pub unlink-requires-clause-next : goal.unlink-requires-clause-next
 unlink-requires-clause-next c =
     let i = c.loop-left.invariant in
     let v = last c.loop-left.blocks.items c.args.owner c.index.result.now.begin c.loop-left.left i.begin i.count c.loop-left-test.true in
-    next-inside c.loop-left.entries.items c.loop-left.blocks.items c.loop-left.first.items c.args.owner (c.index.result.now.begin + (c.loop-left.left - 1)) i.chained v
+    next-inside c.loop-left.entries.items c.loop-left.blocks.items c.loop-left.first.items c.args.owner (c.index.result.now.begin + (c.loop-left.left - 1))
+    i.chained v
 
 pub unlink-requires-clause-named : goal.unlink-requires-clause-named
 unlink-requires-clause-named c =
     let i = c.loop-left.invariant in
     let v = last c.loop-left.blocks.items c.args.owner c.index.result.now.begin c.loop-left.left i.begin i.count c.loop-left-test.true in
-    named-inside c.loop-left.entries.items c.loop-left.blocks.items c.loop-left.first.items c.args.owner (c.index.result.now.begin + (c.loop-left.left - 1)) i.chained v
+    named-inside c.loop-left.entries.items c.loop-left.blocks.items c.loop-left.first.items c.args.owner (c.index.result.now.begin + (c.loop-left.left - 1))
+    i.chained v
 
 pub loop-left-preserved : goal.loop-left-preserved
 loop-left-preserved c =
@@ -54,11 +57,18 @@ loop-left-preserved c =
     let count = i.count in
     let one : suc k ≡ (block_at B s).count = omega arith in
     let s_in : s < length B = (let w = i.wide in let r = c.requires.owner_in in omega arith) in
-    let now : block_at (set B s (record { begin = begin; count = k })) s ≡ record { begin = begin; count = k } = get_or-set_same B s (record { begin = begin; count = k }) (record { begin = 0; count = 0 }) s_in in
-    let is : c.put_count.new.blocks.items ≡ set B s (record { begin = begin; count = k }) = c.put_count.ensures ∙ ap (λ b. set B s (record { begin = b; count = k })) (sym i.begin) in
+    let now : block_at (set B s (record { begin = begin; count = k })) s ≡ record { begin = begin; count = k } =
+    get_or-set_same B s (record { begin = begin; count = k }) (record { begin = 0; count = 0 }) s_in in
+    let is : c.put_count.new.blocks.items ≡ set B s (record { begin = begin; count = k }) =
+    c.put_count.ensures ∙ ap (λ b. set B s (record { begin = b; count = k })) (sym i.begin) in
     record {
-      chained = rw (sym is) at (chained-less c.loop-left.entries.items c.unlink.new.entries.items B c.loop-left.first.items c.unlink.new.first.items s begin k (begin + k) i.chained i.begin one refl c.unlink.ensures);
-      cut = rw (sym is) at (cut-more _ _ _ s i.cut (named-less c.loop-left.entries.items c.unlink.new.entries.items B c.loop-left.first.items c.unlink.new.first.items s begin k (begin + k) i.chained i.begin one refl c.unlink.ensures));
+      chained = rw (sym is) at
+          (chained-less c.loop-left.entries.items c.unlink.new.entries.items B c.loop-left.first.items c.unlink.new.first.items s begin k (begin + k)
+          i.chained i.begin one refl c.unlink.ensures);
+      cut = rw (sym is) at
+          (cut-more _ _ _ s i.cut
+          (named-less c.loop-left.entries.items c.unlink.new.entries.items B c.loop-left.first.items c.unlink.new.first.items s begin k (begin + k)
+          i.chained i.begin one refl c.unlink.ensures));
       begin = rw (sym is) at (sym (ap (λ (b : Block). b.begin) now));
       count = rw (sym is) at (sym (ap (λ (b : Block). b.count) now));
       looks = let n = i.looks in omega arith;

@@ -11,4 +11,5 @@ copied a p i now then h e =
     e ∙ ap (λ (ns : List ℕ). ns ++ (entry_at a (p + i)).list ∷ []) h ∙ sym (block-more a p i) ∙ ap (λ k. lists_in a p k) n
 
 pub loop-i-preserved : goal.loop-i-preserved
-loop-i-preserved c = copied c.args.entries.now c.args.block.begin c.loop-i.i c.loop-i.into.items c.push.new.self.items c.loop-i.invariant c.in_ok-push.ensures.items
+loop-i-preserved c = copied c.args.entries.now c.args.block.begin c.loop-i.i c.loop-i.into.items c.push.new.self.items c.loop-i.invariant
+    c.in_ok-push.ensures.items

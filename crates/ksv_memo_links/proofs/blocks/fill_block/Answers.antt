@@ -9,7 +9,8 @@ use Rattle.ksv_memo_links.proofs.blocks.fill_block.Goals as goal
 pub loop-i-init : goal.loop-i-init
 loop-i-init c = record {
   chained = c.requires.chained;
-  named = sym (ap (λ (ns : List ℕ). set (named_of c.args.entries.now.items c.args.blocks.now.items) c.args.owner ns) (sym c.requires.none) ∙ set-get_or (named_of c.args.entries.now.items c.args.blocks.now.items) c.args.owner []);
+  named = sym (ap (λ (ns : List ℕ). set (named_of c.args.entries.now.items c.args.blocks.now.items) c.args.owner ns) (sym c.requires.none)
+      ∙ set-get_or (named_of c.args.entries.now.items c.args.blocks.now.items) c.args.owner []);
   begin = λ lt. absurd (omega arith);
   count = sym (sym (row-length c.args.entries.now.items c.args.blocks.now.items c.args.owner) ∙ ap (λ (ns : List ℕ). length ns) c.requires.none);
   others = λ t ne. refl;
@@ -26,15 +27,18 @@ free-still B C s p h free t ne v = free t ne (live-as C B t p (sym (h t ne)) v)
 pub link-requires-clause-next_in : goal.link-requires-clause-next_in
 link-requires-clause-next_in c =
     let i = c.loop-i.invariant in
-    first-inside c.loop-i.entries.items c.loop-i.blocks.items c.loop-i.first.items (get_or c.args.lists.now c.loop-i.i 0) i.chained (let m = c.requires.inside in let n = c.requires.some in let e = i.places in omega arith)
+    first-inside c.loop-i.entries.items c.loop-i.blocks.items c.loop-i.first.items (get_or c.args.lists.now c.loop-i.i 0) i.chained
+    (let m = c.requires.inside in let n = c.requires.some in let e = i.places in omega arith)
 
 pub link-requires-clause-other : goal.link-requires-clause-other
 link-requires-clause-other c =
     let i = c.loop-i.invariant in
     let t = c.loop-i-test.true in
-    let free = free-still c.args.blocks.now.items c.loop-i.blocks.items c.args.owner (c.args.begin + c.loop-i.i) i.others (c.requires.free c.loop-i.i (omega arith)) in
+    let free = free-still c.args.blocks.now.items c.loop-i.blocks.items c.args.owner (c.args.begin + c.loop-i.i) i.others
+    (c.requires.free c.loop-i.i (omega arith)) in
     let n = c.requires.some in
-    first-other c.loop-i.entries.items c.loop-i.blocks.items c.loop-i.first.items c.args.owner c.args.begin c.loop-i.i (c.args.begin + c.loop-i.i) i.chained i.count i.begin refl free (omega arith) (get_or c.args.lists.now c.loop-i.i 0)
+    first-other c.loop-i.entries.items c.loop-i.blocks.items c.loop-i.first.items c.args.owner c.args.begin c.loop-i.i (c.args.begin + c.loop-i.i) i.chained
+    i.count i.begin refl free (omega arith) (get_or c.args.lists.now c.loop-i.i 0)
 
 pub loop-i-preserved : goal.loop-i-preserved
 loop-i-preserved c =
@@ -54,13 +58,17 @@ loop-i-preserved c =
     let new_is : record { begin = c.args.begin; count = suc k } ≡ new = ap (λ m. record { begin = c.args.begin; count = m }) e in
     let free = free-still c.args.blocks.now.items B s p i.others (c.requires.free k (omega arith)) in
     let there : p < length c.loop-i.entries.items = (let m = c.requires.inside in let z = i.places in omega arith) in
-    let chained = chained-more c.loop-i.entries.items c.link.new.entries.items B c.loop-i.first.items c.link.new.first.items s c.args.begin k p l i.chained s_in i.count i.begin refl free (omega arith) there c.link.ensures in
-    let named = named-more c.loop-i.entries.items c.link.new.entries.items B c.loop-i.first.items c.link.new.first.items s c.args.begin k p l i.chained s_in i.count i.begin refl free (omega arith) there c.link.ensures in
+    let chained = chained-more c.loop-i.entries.items c.link.new.entries.items B c.loop-i.first.items c.link.new.first.items s c.args.begin k p l i.chained s_in
+    i.count i.begin refl free (omega arith) there c.link.ensures in
+    let named = named-more c.loop-i.entries.items c.link.new.entries.items B c.loop-i.first.items c.link.new.first.items s c.args.begin k p l i.chained s_in
+    i.count i.begin refl free (omega arith) there c.link.ensures in
     let here : block_at (set B s new) s ≡ new = get_or-set_same B s new (record { begin = 0; count = 0 }) s_in in
     let rows0 = named_of c.args.entries.now.items c.args.blocks.now.items in
     record {
       chained = subst (λ (x : Block). IsChained c.link.new.entries.items (set B s x) c.link.new.first.items) new_is chained;
-      named = one-more rows0 (named_of c.loop-i.entries.items B) (named_of c.link.new.entries.items (set B s new)) s k l c.args.lists.now (let m = named-length c.args.entries.now.items c.args.blocks.now.items in omega arith) (omega arith) refl i.named (ap (λ (x : Block). named_of c.link.new.entries.items (set B s x)) (sym new_is) ∙ named);
+      named = one-more rows0 (named_of c.loop-i.entries.items B) (named_of c.link.new.entries.items (set B s new)) s k l c.args.lists.now
+          (let m = named-length c.args.entries.now.items c.args.blocks.now.items in omega arith) (omega arith) refl i.named
+          (ap (λ (x : Block). named_of c.link.new.entries.items (set B s x)) (sym new_is) ∙ named);
       begin = λ lt. sym (ap (λ (b : Block). b.begin) here);
       count = sym (ap (λ (b : Block). b.count) here);
       others = λ t ne. get_or-set_other B s t new (record { begin = 0; count = 0 }) ne ∙ i.others t ne;

@@ -7,23 +7,28 @@ use Rattle.ksv_memo_links.specs.Chained.{named_of, IsChained, IsFree, IsRoom, Is
 use Rattle.ksv_memo_links.proofs.Linking.{named-still, chained-still}
 use Rattle.ksv_memo_links.proofs.blocks.link_block.Goals as goal
 
-still : (a b : List Entry) (B : List Block) (f : List ℕ) (s begin count : ℕ) → IsChained a B f → (IsRoom a s begin count × (b ≡ a)) ⊎ IsExtended a b begin count → IsChained b B f × (named_of b B ≡ named_of a B)
+still : (a b : List Entry) (B : List Block) (f : List ℕ) (s begin count : ℕ) → IsChained a B f → (IsRoom a s begin count × (b ≡ a)) ⊎ IsExtended a b begin count
+    → IsChained b B f × (named_of b B ≡ named_of a B)
 still a b B f s begin count h (inl e) = (subst (λ (x : List Entry). IsChained x B f) (sym e.1) h, ap (λ (x : List Entry). named_of x B) e.1)
 still a b B f s begin count h (inr e) =
     let more : length a ≤ length b = (let x = e.after in let y = e.places in omega arith) in
     (chained-still a b B f h more e.fits e.each, named-still a b B f h more e.fits e.each)
 
-free : (a b : List Entry) (B : List Block) (f : List ℕ) (s begin count : ℕ) → IsChained a B f → (IsRoom a s begin count × (b ≡ a)) ⊎ IsExtended a b begin count → (k : ℕ) → k < count → IsFree B s (begin + k)
+free : (a b : List Entry) (B : List Block) (f : List ℕ) (s begin count : ℕ) → IsChained a B f → (IsRoom a s begin count × (b ≡ a)) ⊎ IsExtended a b begin count
+    → (k : ℕ) → k < count → IsFree B s (begin + k)
 free a b B f s begin count h (inl e) k lt t ne v = ne (sym (h.owner t (begin + k) v) ∙ e.0.named k lt)
 free a b B f s begin count h (inr e) k lt t ne v = let x = h.inside t (begin + k) v in let y = e.after in omega arith
 
 pub fill_block-requires-clause-chained : goal.fill_block-requires-clause-chained
-fill_block-requires-clause-chained c = (still c.args.entries.now.items c.place.new.entries.items c.args.blocks.now.items c.args.first.now.items c.args.owner c.in_ok-begin.begin c.in_ok-count.count c.requires.chained c.in_ok-begin.ensures.ok).0
+fill_block-requires-clause-chained c =
+    (still c.args.entries.now.items c.place.new.entries.items c.args.blocks.now.items c.args.first.now.items c.args.owner c.in_ok-begin.begin
+    c.in_ok-count.count c.requires.chained c.in_ok-begin.ensures.ok).0
 
 pub fill_block-requires-clause-free : goal.fill_block-requires-clause-free
 fill_block-requires-clause-free c k lt t ne v =
     let n = c.in_ok-count.ensures in
-    free c.args.entries.now.items c.place.new.entries.items c.args.blocks.now.items c.args.first.now.items c.args.owner c.in_ok-begin.begin c.in_ok-count.count c.requires.chained c.in_ok-begin.ensures.ok k (omega arith) t ne v
+    free c.args.entries.now.items c.place.new.entries.items c.args.blocks.now.items c.args.first.now.items c.args.owner c.in_ok-begin.begin c.in_ok-count.count
+    c.requires.chained c.in_ok-begin.ensures.ok k (omega arith) t ne v
 
 none-of : (ns : List ℕ) → length ns ≡ 0 → ns ≡ []
 none-of [] e = refl

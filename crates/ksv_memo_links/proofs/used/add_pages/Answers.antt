@@ -6,10 +6,12 @@ use Rattle.ksv_memo_links.proofs.used.add_pages.Goals as goal
 
 numbers-more : (a n : ℕ) → numbers_from a (suc n) ≡ numbers_from a n ++ (a + n) ∷ []
 numbers-more a zero = let e : a ≡ a + 0 = omega arith in ap (λ k. k ∷ []) e
-numbers-more a (suc n) = let e : a + 1 + n ≡ a + suc n = omega arith in ap (λ ns. a ∷ ns) (numbers-more (a + 1) n ∙ ap (λ k. numbers_from (a + 1) n ++ k ∷ []) e)
+numbers-more a (suc n) = let e : a + 1 + n ≡ a + suc n =
+    omega arith in ap (λ ns. a ∷ ns) (numbers-more (a + 1) n ∙ ap (λ k. numbers_from (a + 1) n ++ k ∷ []) e)
 
 -- the list of one page more
-longer : (old now then : List ℕ) (first page list : ℕ) → first ≤ page → now ≡ old ++ map list_of_page (numbers_from first (page - first)) → list ≡ list_of_page page → then ≡ now ++ list ∷ [] → then ≡ old ++ map list_of_page (numbers_from first (page + 1 - first))
+longer : (old now then : List ℕ) (first page list : ℕ) → first ≤ page → now ≡ old ++ map list_of_page (numbers_from first (page - first))
+    → list ≡ list_of_page page → then ≡ now ++ list ∷ [] → then ≡ old ++ map list_of_page (numbers_from first (page + 1 - first))
 longer old now then first page list le e n f =
     let xs = map list_of_page (numbers_from first (page - first)) in
     let count : suc (page - first) ≡ page + 1 - first = omega arith in
@@ -19,7 +21,8 @@ longer old now then first page list le e n f =
     ∙ map-append list_of_page (numbers_from first (page - first)) ((first + (page - first)) ∷ [])
     ∙ ap (λ k. xs ++ list_of_page k ∷ []) last
     ∙ ap (λ k. xs ++ k ∷ []) (sym n) in
-    f ∙ ap (λ (ns : List ℕ). ns ++ list ∷ []) e ∙ append_assoc old xs (list ∷ []) ∙ ap (λ (ns : List ℕ). old ++ ns) (sym more) ∙ ap (λ k. old ++ map list_of_page (numbers_from first k)) count
+    f ∙ ap (λ (ns : List ℕ). ns ++ list ∷ []) e ∙ append_assoc old xs (list ∷ []) ∙ ap (λ (ns : List ℕ). old ++ ns) (sym more)
+    ∙ ap (λ k. old ++ map list_of_page (numbers_from first k)) count
 
 pub loop-page-preserved : goal.loop-page-preserved
 loop-page-preserved c =
@@ -27,7 +30,8 @@ loop-page-preserved c =
     let i = c.loop-page.invariant in
     let le = i.from in
     record {
-      lists = longer c.args.lists.now.items c.loop-page.lists.items c.push.new.self.items (c.in-Bytes.from / 64) c.loop-page.page c.page_list.result i.from i.lists c.page_list.ensures.number c.in_ok-push-in-Bytes.ensures.items;
+      lists = longer c.args.lists.now.items c.loop-page.lists.items c.push.new.self.items (c.in-Bytes.from / 64) c.loop-page.page c.page_list.result i.from
+          i.lists c.page_list.ensures.number c.in_ok-push-in-Bytes.ensures.items;
       from = omega arith;
       until = omega arith;
     }

@@ -8,7 +8,8 @@ use Rattle.ksv_memo_links.specs.Placed.{list_of_page}
 use Rattle.ksv_memo_links.proofs.used.all_pages.Goals as goal
 
 pages-more : (us : List Use) (i : ℕ) → i < length us → pages_in (take (i + 1) us) ≡ pages_in (take i us) ++ pages_of (get_or us i (Bytes 0 0))
-pages-more us i lt = ap pages_in (take_more us i (Bytes 0 0) lt) ∙ flat_map-append pages_of (take i us) (get_or us i (Bytes 0 0) ∷ []) ∙ ap (λ ps. pages_in (take i us) ++ ps) (append-nil (pages_of (get_or us i (Bytes 0 0))))
+pages-more us i lt = ap pages_in (take_more us i (Bytes 0 0) lt) ∙ flat_map-append pages_of (take i us) (get_or us i (Bytes 0 0) ∷ [])
+    ∙ ap (λ ps. pages_in (take i us) ++ ps) (append-nil (pages_of (get_or us i (Bytes 0 0))))
 
 pub loop-used-preserved : goal.loop-used-preserved
 loop-used-preserved c =

@@ -7,19 +7,23 @@ use Rattle.ksv_places.proofs.Walking.{further, inside}
 use Rattle.ksv_places.proofs.Reaching.{same_more, grown_more, grown_further}
 use Rattle.ksv_places.proofs.tree.further.Goals as goal
 
-more_by : {E : Type 0} (old new : List Link) (r : ℕ) (s : Step) → r < length old → (x : Result ℕ E) → IfOk x (λ c. IsGrown old new r s c) → OnErr x (new ≡ old) → IsMore (paths_of old) (paths_of new)
+more_by : {E : Type 0} (old new : List Link) (r : ℕ) (s : Step) → r < length old → (x : Result ℕ E) → IfOk x (λ c. IsGrown old new r s c) → OnErr x (new ≡ old)
+    → IsMore (paths_of old) (paths_of new)
 more_by old new r s lt (Ok c) h k = grown_more old new r s c lt h
 more_by old new r s lt (Err e) h k = subst (λ (ls : List Link). IsMore (paths_of old) (paths_of ls)) (sym k) (same_more (paths_of old))
 
-further_by : {E : Type 0} (old new : List Link) (r : ℕ) (s : Step) → r < length old → (x : Result ℕ E) → IfOk x (λ c. IsGrown old new r s c) → IfOk x (λ c. IsFurther old new r s c)
+further_by : {E : Type 0} (old new : List Link) (r : ℕ) (s : Step) → r < length old → (x : Result ℕ E) → IfOk x (λ c. IsGrown old new r s c)
+    → IfOk x (λ c. IsFurther old new r s c)
 further_by old new r s lt (Ok c) h = grown_further old new r s c lt h
 further_by old new r s lt (Err e) h = h
 
 pub returns-then-number-eq0-clause-more : goal.returns-then-number-eq0-clause-more
-returns-then-number-eq0-clause-more c = more_by c.args.links.now.items c.grow.new.links.items c.args.path c.args.step c.requires.there c.grow.result c.grow.ensures.ok c.grow.ensures.err
+returns-then-number-eq0-clause-more c = more_by c.args.links.now.items c.grow.new.links.items c.args.path c.args.step c.requires.there c.grow.result
+    c.grow.ensures.ok c.grow.ensures.err
 
 pub returns-then-number-eq0-clause-ok : goal.returns-then-number-eq0-clause-ok
-returns-then-number-eq0-clause-ok c = further_by c.args.links.now.items c.grow.new.links.items c.args.path c.args.step c.requires.there c.grow.result c.grow.ensures.ok
+returns-then-number-eq0-clause-ok c = further_by c.args.links.now.items c.grow.new.links.items c.args.path c.args.step c.requires.there c.grow.result
+    c.grow.ensures.ok
 
 pub returns-clause-ok : goal.returns-clause-ok
 returns-clause-ok c =
@@ -32,5 +36,6 @@ returns-clause-ok c =
     let some : 0 < k = (let h = c.if-number-eq0.false in omega arith) in
     record {
       inside = subst (λ n. n < length links) (sym is) (inside links firsts members elements c.requires.tree c.args.path c.args.step c.requires.there some);
-      is = ap (λ n. get_or (paths_of links) n []) is ∙ further links firsts members elements c.requires.tree c.args.path c.args.step (get_or (paths_of links) c.args.path []) c.requires.there refl some;
+      is = ap (λ n. get_or (paths_of links) n []) is ∙ further links firsts members elements c.requires.tree c.args.path c.args.step
+          (get_or (paths_of links) c.args.path []) c.requires.there refl some;
     }

@@ -9,10 +9,14 @@ loop-path-preserved c =
     let k = c.loop-path.path in
     let some = c.loop-path-test.true in
     let inside : k < length links = c.loop-path.invariant.0 in
-    let less : (link_at links k).next < k = c.requires.tree.next k (omega arith) inside in
-    (omega arith, sym (step_on links c.args.name c.requires.tree.next k (omega arith) inside (sym c.is_name.ensures ∙ c.if-is_name.false)) ∙ c.loop-path.invariant.1)
+    let less : (link_at links k).next < k = c.requires.tree.next k (omega arith) inside in (
+      omega arith,
+      sym (step_on links c.args.name c.requires.tree.next k (omega arith) inside (sym c.is_name.ensures ∙ c.if-is_name.false))
+          ∙ c.loop-path.invariant.1,
+    )
 
 pub returns-then-is_name : goal.returns-then-is_name
 returns-then-is_name c =
     let some = c.loop-path-test.true in
-    sym (found_at c.args.links.now c.args.name c.loop-path.path (omega arith) c.loop-path.invariant.0 (sym c.is_name.ensures ∙ c.if-is_name.true)) ∙ c.loop-path.invariant.1
+    sym (found_at c.args.links.now c.args.name c.loop-path.path (omega arith) c.loop-path.invariant.0 (sym c.is_name.ensures ∙ c.if-is_name.true))
+    ∙ c.loop-path.invariant.1

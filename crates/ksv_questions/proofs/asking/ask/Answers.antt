@@ -12,5 +12,7 @@ returns g c =
     let b = bytes_of c.args.file.now in
     let n : Node = record { kind = c.args.kind; path = c.in_ok-path.path } in
     subst (λ (p : Trail). Hears d b (record { kind = c.args.kind; path = p }) c.args.engine.now c.ask.new.self c.heard.result) c.in_ok-path.ensures
-    (hears d b n c.args.engine.now c.ask.new.self (plain_answer c.in_ok-answer.answer) c.heard.result (asked_is d b n c.in_ok-answer.answer c.in_ok-answer.ensures.answer) c.heard.ensures
-    (heard_one d b n AllocError c.args.engine.now c.ask.new.self c.in_ok-answer.answer c.in_ok-answer.ensures.answer c.in_ok-answer.ensures.right c.in_ok-answer.ensures.kept c.in_ok-answer.ensures.turns))
+    (hears d b n c.args.engine.now c.ask.new.self (plain_answer c.in_ok-answer.answer) c.heard.result
+    (asked_is d b n c.in_ok-answer.answer c.in_ok-answer.ensures.answer) c.heard.ensures
+    (heard_one d b n AllocError c.args.engine.now c.ask.new.self c.in_ok-answer.answer c.in_ok-answer.ensures.answer c.in_ok-answer.ensures.right
+    c.in_ok-answer.ensures.kept c.in_ok-answer.ensures.turns))

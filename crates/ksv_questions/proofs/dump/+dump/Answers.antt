@@ -10,8 +10,10 @@ use Rattle.ksv_expr_value.specs.Trail.{child}
 use Rattle.ksv_expr_value.specs.declared.step.Step.TheVariants.{Index}
 use Rattle.ksv_texts.proofs.Json.{array_view, object_view}
 use Rattle.ksv_questions.specs.Code.{Runs, bytes_of, desc_of, dumped, found_of}
-use Rattle.ksv_questions.specs.Dumps.{asked_part, begin, begun_part, elements_part, find_list, find_object, find_value, inner, list_part, members_part, object_part, or_written, part, unasked, value_part, written}
-use Rattle.ksv_questions.proofs.Dumping.{at_bottom, at_level, drop_end, drop_step, elements_begin, elements_end, found_inside, found_written, is_deeper, members_end, pending_as, pending_same, plain_is, elements_failed, elements_on, loop_done, members_failed, members_on}
+use Rattle.ksv_questions.specs.Dumps.{asked_part, begin, begun_part, elements_part, find_list, find_object, find_value, inner, list_part, members_part}
+use Rattle.ksv_questions.specs.Dumps.{object_part, or_written, part, unasked, value_part, written}
+use Rattle.ksv_questions.proofs.Dumping.{at_bottom, at_level, drop_end, drop_step, elements_begin, elements_end, found_inside, found_written, is_deeper}
+use Rattle.ksv_questions.proofs.Dumping.{members_end, pending_as, pending_same, plain_is, elements_failed, elements_on, loop_done, members_failed, members_on}
 use Rattle.ksv_questions.proofs.Steps.{pending_short, runs_failed, runs_first, runs_settled, settled_failed}
 use Rattle.ksv_questions.proofs.dump.+dump.Goals as goal
 
@@ -23,7 +25,8 @@ asked_part-returns-in_err-value g t c =
     let each = part d b c.args.depth in
     let e = err_from_is_err_and c.from_residual.result c.from_residual.ensures.1 in
     rw (e.1, e.2) (
-    runs_failed d b (find_value d c.args.path.now) (λ f. or_written (λ v. value_part d b each c.args.path.now c.args.left v) c.args.left f) (λ f. found_of f) dumped c.args.engine.now c.find_value.new.engine c.in_err-value.field-0.0 c.in_err-value.ensures)
+    runs_failed d b (find_value d c.args.path.now) (λ f. or_written (λ v. value_part d b each c.args.path.now c.args.left v) c.args.left f) (λ f. found_of f)
+    dumped c.args.engine.now c.find_value.new.engine c.in_err-value.field-0.0 c.in_err-value.ensures)
 
 pub asked_part-returns-in-Ok : goal.asked_part-returns-in-Ok
 unfolding asked_part
@@ -31,7 +34,9 @@ asked_part-returns-in-Ok g t c =
     let d = desc_of c.args.file.now in
     let b = bytes_of c.args.file.now in
     let each = part d b c.args.depth in
-    found_inside d b (find_value d c.args.path.now) (λ v. value_part d b each c.args.path.now c.args.left v) c.args.left c.args.engine.now c.find_value.new.engine c.value_part.new.engine c.in_ok-value.field-0 c.in-Ok.value c.value_part.result c.in_ok-value.ensures c.in-Ok.is c.value_part.ensures
+    found_inside d b (find_value d c.args.path.now) (λ v. value_part d b each c.args.path.now c.args.left v) c.args.left c.args.engine.now
+    c.find_value.new.engine c.value_part.new.engine c.in_ok-value.field-0 c.in-Ok.value c.value_part.result c.in_ok-value.ensures c.in-Ok.is
+    c.value_part.ensures
 
 pub asked_part-returns-in-Err : goal.asked_part-returns-in-Err
 unfolding asked_part
@@ -39,7 +44,9 @@ asked_part-returns-in-Err g t c =
     let d = desc_of c.args.file.now in
     let b = bytes_of c.args.file.now in
     let each = part d b c.args.depth in
-    found_written d b (find_value d c.args.path.now) (λ v. value_part d b each c.args.path.now c.args.left v) c.args.left c.args.engine.now c.find_value.new.engine c.in_ok-value.field-0 c.in-Err.json (record { json = c.in-Err.json; left = c.args.left }) c.in_ok-value.ensures c.in-Err.is refl
+    found_written d b (find_value d c.args.path.now) (λ v. value_part d b each c.args.path.now c.args.left v) c.args.left c.args.engine.now
+    c.find_value.new.engine c.in_ok-value.field-0 c.in-Err.json (record { json = c.in-Err.json; left = c.args.left }) c.in_ok-value.ensures c.in-Err.is
+    refl
 
 pub object_part-returns-in_err-type_number : goal.object_part-returns-in_err-type_number
 unfolding object_part
@@ -49,7 +56,9 @@ object_part-returns-in_err-type_number g t c =
     let each = part d b c.args.depth in
     let e = err_from_is_err_and c.from_residual.result c.from_residual.ensures.1 in
     rw (e.1, e.2) (
-    runs_failed d b (find_object d c.args.object.now) (λ f. or_written (λ n. members_part d each c.args.object.now c.args.left (fields d n) no_members) c.args.left f) (λ f. found_of f) dumped c.args.engine.now c.find_object.new.engine c.in_err-type_number.field-0.0 c.in_err-type_number.ensures)
+    runs_failed d b (find_object d c.args.object.now)
+    (λ f. or_written (λ n. members_part d each c.args.object.now c.args.left (fields d n) no_members) c.args.left f) (λ f. found_of f) dumped
+    c.args.engine.now c.find_object.new.engine c.in_err-type_number.field-0.0 c.in_err-type_number.ensures)
 
 pub object_part-returns-in-Ok : goal.object_part-returns-in-Ok
 unfolding object_part
@@ -58,8 +67,10 @@ object_part-returns-in-Ok g t c =
     let b = bytes_of c.args.file.now in
     let each = part d b c.args.depth in
     found_inside d b (find_object d c.args.object.now) (λ n. members_part d each c.args.object.now c.args.left (fields d n) no_members) c.args.left
-    c.args.engine.now c.find_object.new.engine c.members_part.new.engine c.in_ok-type_number.field-0 c.in-Ok.type_number c.members_part.result c.in_ok-type_number.ensures c.in-Ok.is
-    (subst (λ names. Runs d b (members_part d each c.args.object.now c.args.left names no_members) dumped c.find_object.new.engine c.members_part.new.engine c.members_part.result)
+    c.args.engine.now c.find_object.new.engine c.members_part.new.engine c.in_ok-type_number.field-0 c.in-Ok.type_number c.members_part.result
+    c.in_ok-type_number.ensures c.in-Ok.is
+    (subst (λ names. Runs d b (members_part d each c.args.object.now c.args.left names no_members) dumped c.find_object.new.engine c.members_part.new.engine
+    c.members_part.result)
     c.fields-names.ensures c.members_part.ensures)
 
 pub object_part-returns-in-Err : goal.object_part-returns-in-Err
@@ -68,7 +79,9 @@ object_part-returns-in-Err g t c =
     let d = desc_of c.args.file.now in
     let b = bytes_of c.args.file.now in
     let each = part d b c.args.depth in
-    found_written d b (find_object d c.args.object.now) (λ n. members_part d each c.args.object.now c.args.left (fields d n) no_members) c.args.left c.args.engine.now c.find_object.new.engine c.in_ok-type_number.field-0 c.in-Err.json (record { json = c.in-Err.json; left = c.args.left }) c.in_ok-type_number.ensures c.in-Err.is refl
+    found_written d b (find_object d c.args.object.now) (λ n. members_part d each c.args.object.now c.args.left (fields d n) no_members) c.args.left
+    c.args.engine.now c.find_object.new.engine c.in_ok-type_number.field-0 c.in-Err.json (record { json = c.in-Err.json; left = c.args.left })
+    c.in_ok-type_number.ensures c.in-Err.is refl
 
 pub list_part-returns-in_err-count : goal.list_part-returns-in_err-count
 unfolding list_part
@@ -78,7 +91,9 @@ list_part-returns-in_err-count g t c =
     let each = part d b c.args.depth in
     let e = err_from_is_err_and c.from_residual.result c.from_residual.ensures.1 in
     rw (e.1, e.2) (
-    runs_failed d b (find_list d c.args.list.now (child c.args.list.now (Index 0))) (λ f. or_written (λ n. elements_part d each c.args.list.now c.args.left 0 n []) c.args.left f) (λ f. found_of f) dumped c.args.engine.now c.find_list.new.engine c.in_err-count.field-0.0 c.in_err-count.ensures)
+    runs_failed d b (find_list d c.args.list.now (child c.args.list.now (Index 0)))
+    (λ f. or_written (λ n. elements_part d each c.args.list.now c.args.left 0 n []) c.args.left f) (λ f. found_of f) dumped c.args.engine.now
+    c.find_list.new.engine c.in_err-count.field-0.0 c.in_err-count.ensures)
 
 pub list_part-returns-in-Ok : goal.list_part-returns-in-Ok
 unfolding list_part
@@ -86,7 +101,9 @@ list_part-returns-in-Ok g t c =
     let d = desc_of c.args.file.now in
     let b = bytes_of c.args.file.now in
     let each = part d b c.args.depth in
-    found_inside d b (find_list d c.args.list.now (child c.args.list.now (Index 0))) (λ n. elements_part d each c.args.list.now c.args.left 0 n []) c.args.left c.args.engine.now c.find_list.new.engine c.elements_part.new.engine c.in_ok-count.field-0 c.in-Ok.count c.elements_part.result c.in_ok-count.ensures c.in-Ok.is c.elements_part.ensures
+    found_inside d b (find_list d c.args.list.now (child c.args.list.now (Index 0))) (λ n. elements_part d each c.args.list.now c.args.left 0 n []) c.args.left
+    c.args.engine.now c.find_list.new.engine c.elements_part.new.engine c.in_ok-count.field-0 c.in-Ok.count c.elements_part.result c.in_ok-count.ensures
+    c.in-Ok.is c.elements_part.ensures
 
 pub list_part-returns-in-Err : goal.list_part-returns-in-Err
 unfolding list_part
@@ -94,7 +111,9 @@ list_part-returns-in-Err g t c =
     let d = desc_of c.args.file.now in
     let b = bytes_of c.args.file.now in
     let each = part d b c.args.depth in
-    found_written d b (find_list d c.args.list.now (child c.args.list.now (Index 0))) (λ n. elements_part d each c.args.list.now c.args.left 0 n []) c.args.left c.args.engine.now c.find_list.new.engine c.in_ok-count.field-0 c.in-Err.json (record { json = c.in-Err.json; left = c.args.left }) c.in_ok-count.ensures c.in-Err.is refl
+    found_written d b (find_list d c.args.list.now (child c.args.list.now (Index 0))) (λ n. elements_part d each c.args.list.now c.args.left 0 n []) c.args.left
+    c.args.engine.now c.find_list.new.engine c.in_ok-count.field-0 c.in-Err.json (record { json = c.in-Err.json; left = c.args.left })
+    c.in_ok-count.ensures c.in-Err.is refl
 
 pub dump_part-returns-then-depth-eq0 : goal.dump_part-returns-then-depth-eq0
 dump_part-returns-then-depth-eq0 g t c =
@@ -111,17 +130,22 @@ dump_part-returns-in_err-left g t c =
     let b = bytes_of c.args.file.now in
     let e = err_from_is_err_and c.from_residual.result c.from_residual.ensures.1 in
     rw (e.1, e.2) (
-    subst (λ q. Runs d b q dumped c.args.engine.now c.args.engine.now (Err c.in_err-left.field-0.0)) (sym (at_level d b c.args.depth c.args.left c.args.path.now (is_deeper d b c.args.depth c.if-depth-eq0.false)))
-    (runs_settled d b (bind (begin c.args.left) (λ left. asked_part d b (part d b (c.args.depth - 1)) c.args.path.now left)) dumped c.args.engine.now (Err c.in_err-left.field-0.0) c.requires
-    (settled_failed d b (begin c.args.left) (λ left. asked_part d b (part d b (c.args.depth - 1)) c.args.path.now left) (λ n. n) dumped c.in_err-left.field-0.0 c.in_err-left.ensures)))
+    subst (λ q. Runs d b q dumped c.args.engine.now c.args.engine.now (Err c.in_err-left.field-0.0))
+    (sym (at_level d b c.args.depth c.args.left c.args.path.now (is_deeper d b c.args.depth c.if-depth-eq0.false)))
+    (runs_settled d b (bind (begin c.args.left) (λ left. asked_part d b (part d b (c.args.depth - 1)) c.args.path.now left)) dumped c.args.engine.now
+    (Err c.in_err-left.field-0.0) c.requires
+    (settled_failed d b (begin c.args.left) (λ left. asked_part d b (part d b (c.args.depth - 1)) c.args.path.now left) (λ n. n) dumped c.in_err-left.field-0.0
+    c.in_err-left.ensures)))
 
 pub dump_part-returns : goal.dump_part-returns
 unfolding begun_part
 dump_part-returns g t c =
     let d = desc_of c.args.file.now in
     let b = bytes_of c.args.file.now in
-    subst (λ q. Runs d b q dumped c.args.engine.now c.asked_part.new.engine c.asked_part.result) (sym (at_level d b c.args.depth c.args.left c.args.path.now (is_deeper d b c.args.depth c.if-depth-eq0.false)))
-    (runs_first d b (begin c.args.left) (λ left. asked_part d b (part d b (c.args.depth - 1)) c.args.path.now left) (λ n. n) dumped c.args.engine.now c.asked_part.new.engine c.in_ok-left.left c.asked_part.result c.requires c.in_ok-left.ensures c.asked_part.ensures)
+    subst (λ q. Runs d b q dumped c.args.engine.now c.asked_part.new.engine c.asked_part.result)
+    (sym (at_level d b c.args.depth c.args.left c.args.path.now (is_deeper d b c.args.depth c.if-depth-eq0.false)))
+    (runs_first d b (begin c.args.left) (λ left. asked_part d b (part d b (c.args.depth - 1)) c.args.path.now left) (λ n. n) dumped c.args.engine.now
+    c.asked_part.new.engine c.in_ok-left.left c.asked_part.result c.requires c.in_ok-left.ensures c.asked_part.ensures)
 
 pub inner_part-returns-in-None : goal.inner_part-returns-in-None
 inner_part-returns-in-None g t c =
@@ -137,7 +161,8 @@ value_part-returns-in-Object g t c =
     let d = desc_of c.args.file.now in
     let b = bytes_of c.args.file.now in
     let each = part d b c.args.depth in
-    subst (λ v. Runs d b (value_part d b each c.args.path.now c.args.left v) dumped c.args.engine.now c.object_part.new.engine c.object_part.result) (sym c.in-Object.is) c.object_part.ensures
+    subst (λ v. Runs d b (value_part d b each c.args.path.now c.args.left v) dumped c.args.engine.now c.object_part.new.engine c.object_part.result)
+    (sym c.in-Object.is) c.object_part.ensures
 
 pub value_part-returns-in-List : goal.value_part-returns-in-List
 unfolding value_part
@@ -145,15 +170,18 @@ value_part-returns-in-List g t c =
     let d = desc_of c.args.file.now in
     let b = bytes_of c.args.file.now in
     let each = part d b c.args.depth in
-    subst (λ v. Runs d b (value_part d b each c.args.path.now c.args.left v) dumped c.args.engine.now c.list_part.new.engine c.list_part.result) (sym c.in-List.is) c.list_part.ensures
+    subst (λ v. Runs d b (value_part d b each c.args.path.now c.args.left v) dumped c.args.engine.now c.list_part.new.engine c.list_part.result)
+    (sym c.in-List.is) c.list_part.ensures
 
 pub value_part-returns-in_ok-json-in_default : goal.value_part-returns-in_ok-json-in_default
 value_part-returns-in_ok-json-in_default g t c =
     let d = desc_of c.args.file.now in
     let b = bytes_of c.args.file.now in
     let each = part d b c.args.depth in
-    runs_settled d b (value_part d b each c.args.path.now c.args.left c.args.value.now) dumped c.args.engine.now (Ok (record { json = c.in_ok-json-in_default.json; left = c.args.left })) c.requires
-    (plain_is d b each c.args.path.now c.args.left c.args.value.now c.in_default.not-Object c.in_default.not-List ∙ ap (λ json. written json c.args.left) (sym c.in_ok-json-in_default.ensures))
+    runs_settled d b (value_part d b each c.args.path.now c.args.left c.args.value.now) dumped c.args.engine.now
+    (Ok (record { json = c.in_ok-json-in_default.json; left = c.args.left })) c.requires
+    (plain_is d b each c.args.path.now c.args.left c.args.value.now c.in_default.not-Object c.in_default.not-List
+    ∙ ap (λ json. written json c.args.left) (sym c.in_ok-json-in_default.ensures))
 
 pub elements_part-loop-index-init : goal.elements_part-loop-index-init
 elements_part-loop-index-init g t c =
@@ -172,7 +200,8 @@ elements_part-returns-in_err-path g t c =
     let whole = elements_part d each c.args.list.now c.args.left 0 c.args.count [] in
     let e = err_from_is_err_and c.from_residual.result c.from_residual.ensures.1 in
     rw (e.1, e.2) (
-    pending_short d b whole (elements_part d each c.args.list.now c.loop-index.left c.loop-index.index (c.args.count - c.loop-index.index) (map view c.loop-index.elements.items))
+    pending_short d b whole
+    (elements_part d each c.args.list.now c.loop-index.left c.loop-index.index (c.args.count - c.loop-index.index) (map view c.loop-index.elements.items))
     c.args.engine.now c.loop-index.engine c.loop-index.invariant)
 
 pub elements_part-returns-in_err-written : goal.elements_part-returns-in_err-written
@@ -222,8 +251,10 @@ elements_part-returns g t c =
     let left = c.loop-index.left in
     let i = c.loop-index.index in
     let ds = map view c.loop-index.elements.items in
-    loop_done d b whole (elements_part d each c.args.list.now left i (c.args.count - i) ds) c.args.engine.now c.loop-index.engine (record { json = Array c.loop-index.elements; left = left })
-    (elements_end d b each c.args.list.now left i c.args.count ds c.loop-index-test.false ∙ ap (λ json. written json left) (sym (array_view c.loop-index.elements)))
+    loop_done d b whole (elements_part d each c.args.list.now left i (c.args.count - i) ds) c.args.engine.now c.loop-index.engine
+    (record { json = Array c.loop-index.elements; left = left })
+    (elements_end d b each c.args.list.now left i c.args.count ds c.loop-index-test.false
+    ∙ ap (λ json. written json left) (sym (array_view c.loop-index.elements)))
     c.loop-index.invariant
 
 pub members_part-loop-name-init : goal.members_part-loop-name-init
@@ -273,7 +304,8 @@ members_part-loop-name-preserved g t c =
     let i = c.loop-name.name-index in
     let ms = members_view c.loop-name.members.entries in
     pending_as d b whole _ _ c.args.engine.now c.inner_part.new.engine
-    (ap (λ after. members_part d each c.args.object.now c.in_ok-written.written.left (drop (i + 1) c.args.names.now) after) (sym (c.in_ok-put_member.ensures ∙ ap (λ key. put key (view c.in_ok-written.written.json) ms) c.name.ensures))) (
+    (ap (λ after. members_part d each c.args.object.now c.in_ok-written.written.left (drop (i + 1) c.args.names.now) after)
+    (sym (c.in_ok-put_member.ensures ∙ ap (λ key. put key (view c.in_ok-written.written.json) ms) c.name.ensures))) (
     members_on d b each c.args.object.now whole c.args.engine.now c.loop-name.engine c.inner_part.new.engine
     c.loop-name.left (get_or c.args.names.now i 0) (drop i c.args.names.now) (drop (i + 1) c.args.names.now) ms _ c.in_ok-written.written
     (drop_step c.args.names.now i 0 c.loop-name-test.true) c.in_ok-path.ensures c.loop-name.invariant c.in_ok-written.ensures)
@@ -287,6 +319,8 @@ members_part-returns g t c =
     let i = c.loop-name.name-index in
     let ms = members_view c.loop-name.members.entries in
     let left = c.loop-name.left in
-    loop_done d b whole (members_part d each c.args.object.now left (drop i c.args.names.now) ms) c.args.engine.now c.loop-name.engine (record { json = Object c.loop-name.members; left = left })
-    (members_end d b each c.args.object.now left (drop i c.args.names.now) ms (drop_end c.args.names.now i c.loop-name-test.false) ∙ ap (λ json. written json left) (sym (object_view c.loop-name.members)))
+    loop_done d b whole (members_part d each c.args.object.now left (drop i c.args.names.now) ms) c.args.engine.now c.loop-name.engine
+    (record { json = Object c.loop-name.members; left = left })
+    (members_end d b each c.args.object.now left (drop i c.args.names.now) ms (drop_end c.args.names.now i c.loop-name-test.false)
+    ∙ ap (λ json. written json left) (sym (object_view c.loop-name.members)))
     c.loop-name.invariant

@@ -14,7 +14,8 @@ unfolding unasked
 returns-in_err-left c =
     let d = plain_pieces c.args.desc.now in
     let e = err_from_is_err_and c.from_residual.result c.from_residual.ensures.1 in
-    rw (e.1, e.2) (settled_failed d [] (begin c.args.left) (λ left. written (too_long_part d c.args.path.now) left) (λ n. n) dumped c.in_err-left.field-0.0 c.in_err-left.ensures)
+    rw (e.1, e.2) (settled_failed d [] (begin c.args.left) (λ left. written (too_long_part d c.args.path.now) left) (λ n. n) dumped c.in_err-left.field-0.0
+    c.in_err-left.ensures)
 
 pub returns : goal.returns
 unfolding unasked

@@ -14,7 +14,8 @@ returns-in_err-whole g c =
     let d = desc_of c.args.file.now in
     let b = bytes_of c.args.file.now in
     let e = err_from_is_err_and c.from_residual.result c.from_residual.ensures.1 in
-    rw (e.1, e.2) (runs_failed d b (value_part d b (part d b depth_limit) c.args.path.now (part_limit - 1) c.args.value.now) (λ (x : Part). Answer (compact_text x.json)) dumped (λ (text : String Global). string_bytes text)
+    rw (e.1, e.2) (runs_failed d b (value_part d b (part d b depth_limit) c.args.path.now (part_limit - 1) c.args.value.now)
+    (λ (x : Part). Answer (compact_text x.json)) dumped (λ (text : String Global). string_bytes text)
     c.args.engine.now c.value_part.new.engine c.in_err-whole.field-0.0 c.in_err-whole.ensures)
 
 pub returns : goal.returns
@@ -22,7 +23,8 @@ unfolding whole_text
 returns g c =
     let d = desc_of c.args.file.now in
     let b = bytes_of c.args.file.now in
-    runs_ended d b (value_part d b (part d b depth_limit) c.args.path.now (part_limit - 1) c.args.value.now) (λ (x : Part). Answer (compact_text x.json)) dumped (λ (text : String Global). string_bytes text)
+    runs_ended d b (value_part d b (part d b depth_limit) c.args.path.now (part_limit - 1) c.args.value.now) (λ (x : Part). Answer (compact_text x.json)) dumped
+    (λ (text : String Global). string_bytes text)
     c.args.engine.now c.value_part.new.engine c.in_ok-whole.whole c.written_text.result c.in_ok-whole.ensures c.written_text.ensures
 
 -- what was written has no float

@@ -11,7 +11,8 @@ returns-in_err-head g c =
     let d = desc_of c.args.file.now in
     let b = bytes_of c.args.file.now in
     let e = err_from_is_err_and c.from_residual.result c.from_residual.ensures.1 in
-    rw (e.1, e.2) (runs_failed d b (ask_head c.args.path.now c.args.path.now) (λ h. parts_of d c.args.path.now h) (λ h. h) (λ (text : String Global). string_bytes text)
+    rw (e.1, e.2) (runs_failed d b (ask_head c.args.path.now c.args.path.now) (λ h. parts_of d c.args.path.now h) (λ h. h)
+    (λ (text : String Global). string_bytes text)
     c.args.engine.now c.ask_head.new.engine c.in_err-head.field-0.0 c.in_err-head.ensures)
 
 pub returns : goal.returns

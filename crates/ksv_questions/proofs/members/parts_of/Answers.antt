@@ -30,4 +30,5 @@ returns-in_ok-from_str-in_default g c =
     let b = bytes_of c.args.file.now in
     runs_settled d b (parts_of d c.args.path.now c.args.head) (λ (text : String Global). string_bytes text)
     c.args.engine.now (Ok c.in_ok-from_str-in_default.field-0) c.requires
-    (no_members d c.args.path.now c.args.head c.in_default.not-Absent c.in_default.not-Object c.in_default.not-List ∙ ap Answer (sym c.in_ok-from_str-in_default.ensures.ok))
+    (no_members d c.args.path.now c.args.head c.in_default.not-Absent c.in_default.not-Object c.in_default.not-List
+    ∙ ap Answer (sym c.in_ok-from_str-in_default.ensures.ok))

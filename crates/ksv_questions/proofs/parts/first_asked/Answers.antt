@@ -14,7 +14,8 @@ unfolding first_asked
 returns-in_default g c =
     let d = desc_of c.args.file.now in
     let b = bytes_of c.args.file.now in
-    subst (λ o. Runs d b (first_asked c.args.path.now c.args.list.now o) (λ n. n) c.args.engine.now c.args.engine.now (Err c.fault_at.result)) (sym c.in_default.is ∙ c.in_ok-first.ensures)
+    subst (λ o. Runs d b (first_asked c.args.path.now c.args.list.now o) (λ n. n) c.args.engine.now c.args.engine.now (Err c.fault_at.result))
+    (sym c.in_default.is ∙ c.in_ok-first.ensures)
     (runs_settled d b (first_asked c.args.path.now c.args.list.now None) (λ n. n) c.args.engine.now (Err c.fault_at.result) c.requires
     (settled_fault d b (raised_at c.args.list.now PathTooLong) (λ n. n) c.fault_at.result c.fault_at.ensures))
 
@@ -24,7 +25,9 @@ returns-in_err-given g c =
     let d = desc_of c.args.file.now in
     let b = bytes_of c.args.file.now in
     let e = err_from_is_err_and c.from_residual-in_err-given.result c.from_residual-in_err-given.ensures.1 in
-    rw (e.1, e.2) (subst (λ o. Runs d b (first_asked c.args.path.now c.args.list.now o) (λ n. n) c.args.engine.now c.ask.new.engine (Err c.in_err-given.field-0.0)) (sym c.in-Some.is ∙ c.in_ok-first.ensures)
+    rw (e.1, e.2) (subst
+    (λ o. Runs d b (first_asked c.args.path.now c.args.list.now o) (λ n. n) c.args.engine.now c.ask.new.engine (Err c.in_err-given.field-0.0))
+    (sym c.in-Some.is ∙ c.in_ok-first.ensures)
     (asked_failed d b (rest_node c.in-Some.first) (λ g. in_rest c.args.path.now g) (λ n. n)
     c.args.engine.now c.ask.new.engine c.in_err-given.field-0.0 c.in_err-given.ensures))
 
@@ -33,6 +36,7 @@ unfolding first_asked
 returns g c =
     let d = desc_of c.args.file.now in
     let b = bytes_of c.args.file.now in
-    subst (λ o. Runs d b (first_asked c.args.path.now c.args.list.now o) (λ n. n) c.args.engine.now c.ask.new.engine c.in_rest.result) (sym c.in-Some.is ∙ c.in_ok-first.ensures)
+    subst (λ o. Runs d b (first_asked c.args.path.now c.args.list.now o) (λ n. n) c.args.engine.now c.ask.new.engine c.in_rest.result)
+    (sym c.in-Some.is ∙ c.in_ok-first.ensures)
     (asked_ended d b (rest_node c.in-Some.first) (λ g. in_rest c.args.path.now g) (λ n. n)
     c.args.engine.now c.ask.new.engine c.in_ok-given.given c.in_rest.result c.in_ok-given.ensures c.in_rest.ensures)

@@ -13,7 +13,8 @@ returns-in_err-to g c =
     let d = desc_of c.args.file.now in
     let b = bytes_of c.args.file.now in
     let e = err_from_is_err_and c.from_residual.result c.from_residual.ensures.1 in
-    rw (e.1, e.2) (runs_failed d b (ask_end c.args.path.now) (λ to. Answer (codes "at " ++ place_text c.args.from ++ codes " " ++ place_text to)) (λ n. n) (λ (text : String Global). string_bytes text)
+    rw (e.1, e.2) (runs_failed d b (ask_end c.args.path.now) (λ to. Answer (codes "at " ++ place_text c.args.from ++ codes " " ++ place_text to)) (λ n. n)
+    (λ (text : String Global). string_bytes text)
     c.args.engine.now c.ask_end.new.engine c.in_err-to.field-0.0 c.in_err-to.ensures)
 
 pub returns : goal.returns
@@ -21,5 +22,6 @@ unfolding from_place
 returns g c =
     let d = desc_of c.args.file.now in
     let b = bytes_of c.args.file.now in
-    runs_ended d b (ask_end c.args.path.now) (λ to. Answer (codes "at " ++ place_text c.args.from ++ codes " " ++ place_text to)) (λ n. n) (λ (text : String Global). string_bytes text)
+    runs_ended d b (ask_end c.args.path.now) (λ to. Answer (codes "at " ++ place_text c.args.from ++ codes " " ++ place_text to)) (λ n. n)
+    (λ (text : String Global). string_bytes text)
     c.args.engine.now c.ask_end.new.engine c.in_ok-to.to c.places_text.result c.in_ok-to.ensures c.places_text.ensures

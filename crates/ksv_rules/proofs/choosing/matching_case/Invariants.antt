@@ -4,4 +4,7 @@ use Rattle.ksv_rule_meaning.specs.Choosing.{is_case_of, first_case}
 use Rattle.ksv_rules.proofs.choosing.matching_case.Given as goal
 
 abbrev pub invariant-loop-case : goal.invariant-loop-case
-invariant-loop-case l = (l.place ≡ l.case-index) × (first_case (is_case_of l.value) l.place (map plain_case (drop l.case-index l.cases)) ≡ first_case (is_case_of l.value) 0 (map plain_case l.cases))
+invariant-loop-case l =
+    (l.place ≡ l.case-index)
+    × (first_case (is_case_of l.value) l.place (map plain_case (drop l.case-index l.cases))
+    ≡ first_case (is_case_of l.value) 0 (map plain_case l.cases))

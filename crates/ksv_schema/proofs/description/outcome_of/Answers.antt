@@ -7,10 +7,13 @@ use Rattle.ksv_schema.proofs.Theorem.{refuses, states, tree_resolved, never_none
 use Rattle.ksv_schema.proofs.description.outcome_of.Goals as goal
 
 pub new-requires : goal.new-requires
-new-requires c = tree_resolved (view c.args.scopes.now) _ (states _ _ (rw c.in-Ok-Some.is at c.in_ok-pieces.ensures.faultless) (sym (rw (c.in-Ok-Some.is, c.in-Ok-Some.field-0-is) at c.in_ok-pieces.ensures.stated)))
+new-requires c = tree_resolved (view c.args.scopes.now) _
+    (states _ _ (rw c.in-Ok-Some.is at c.in_ok-pieces.ensures.faultless)
+    (sym (rw (c.in-Ok-Some.is, c.in-Ok-Some.field-0-is) at c.in_ok-pieces.ensures.stated)))
 
 pub unreachable-requires : goal.unreachable-requires
-unreachable-requires c = never_none _ (rw c.in-Ok-None.is at c.in_ok-pieces.ensures.faultless) (sym (rw (c.in-Ok-None.is, c.in-Ok-None.field-0-is) at c.in_ok-pieces.ensures.stated))
+unreachable-requires c = never_none _ (rw c.in-Ok-None.is at c.in_ok-pieces.ensures.faultless)
+    (sym (rw (c.in-Ok-None.is, c.in-Ok-None.field-0-is) at c.in_ok-pieces.ensures.stated))
 
 pub returns-in-Ok-Some-clause-described : goal.returns-in-Ok-Some-clause-described
 returns-in-Ok-Some-clause-described c =

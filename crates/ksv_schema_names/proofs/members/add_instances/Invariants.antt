@@ -5,4 +5,5 @@ use Rattle.ksv_schema_names.specs.View.{member_of}
 use Rattle.ksv_schema_names.proofs.members.add_instances.Given as goal
 
 abbrev pub invariant-loop-entry : goal.invariant-loop-entry
-invariant-loop-entry l = map member_of l.members.items ++ map instance (map pair (drop l.entry-index l.entries)) ≡ map member_of l.fn.members.items ++ map instance (map pair l.entries)
+invariant-loop-entry l = map member_of l.members.items ++ map instance (map pair (drop l.entry-index l.entries)) ≡ map member_of l.fn.members.items
+    ++ map instance (map pair l.entries)

@@ -4,7 +4,9 @@ use Rattle.ksv_expr_tree.specs.declared.tree.Expr as opened
 use Rattle.ksv_expr_tree.specs.Tree.{name_of, path_of, member_of}
 use Rattle.ksv_schema_names.specs.Table.{declared}
 use Rattle.ksv_schema_names.specs.Numbered.{numbered_word, numbered_type, numbered_member}
-use Rattle.ksv_schema_names.proofs.Numbers.{part, piece, literal_numbered, name_numbered, special_numbered, member_numbered, unary_numbered, binary_numbered, logical_numbered, choice_numbered, field_numbered, special_field_numbered, call_numbered, index_numbered, cast_numbered, each_numbered, refilled}
+use Rattle.ksv_schema_names.proofs.Numbers.{part, piece, literal_numbered, name_numbered, special_numbered, member_numbered, unary_numbered, binary_numbered}
+use Rattle.ksv_schema_names.proofs.Numbers.{logical_numbered, choice_numbered, field_numbered, special_field_numbered, call_numbered, index_numbered}
+use Rattle.ksv_schema_names.proofs.Numbers.{cast_numbered, each_numbered, refilled}
 use Rattle.ksv_schema_names.proofs.numbering.+numbers.Goals as goal
 
 pub number_expr-returns-in-Literal : goal.number_expr-returns-in-Literal
@@ -12,14 +14,18 @@ number_expr-returns-in-Literal t c = rw c.in-Literal.is (literal_numbered _ _ _ 
 
 pub number_expr-returns-in-Name : goal.number_expr-returns-in-Name
 unfolding opened.out-Expr denote.Hole.Carrier.out
-number_expr-returns-in-Name t c = rw c.in-Name.is (name_numbered _ _ _ _ _ (piece name_of (numbered_word c.args.names.now) _ _ c.in-Name.name-is c.number_name.new.name c.number_name.ensures))
+number_expr-returns-in-Name t c = rw c.in-Name.is
+    (name_numbered _ _ _ _ _ (piece name_of (numbered_word c.args.names.now) _ _ c.in-Name.name-is c.number_name.new.name c.number_name.ensures))
 
 pub number_expr-returns-in-Special : goal.number_expr-returns-in-Special
 number_expr-returns-in-Special t c = rw c.in-Special.is (special_numbered _ _ _ _)
 
 pub number_expr-returns-in-Member : goal.number_expr-returns-in-Member
 unfolding opened.out-Expr denote.Hole.Carrier.out
-number_expr-returns-in-Member t c = rw c.in-Member.is (member_numbered _ _ _ _ _ (piece member_of (numbered_member (declared c.args.scopes.now) c.args.within) _ _ c.in-Member.member-is c.number_member.new.member c.number_member.ensures))
+number_expr-returns-in-Member t c = rw c.in-Member.is
+    (member_numbered _ _ _ _ _
+    (piece member_of (numbered_member (declared c.args.scopes.now) c.args.within) _ _ c.in-Member.member-is c.number_member.new.member
+    c.number_member.ensures))
 
 pub number_expr-returns-in-Unary : goal.number_expr-returns-in-Unary
 unfolding opened.out-Expr denote.Hole.Carrier.out
@@ -59,7 +65,8 @@ number_expr-returns-in-SpecialField t c = rw c.in-SpecialField.is (special_field
 pub number_expr-returns-in-Call : goal.number_expr-returns-in-Call
 number_expr-returns-in-Call t c = call_numbered _ _ _ _ _ _ _ _ _ _ c.in-Call.is c.in-Call._method-is
     (part _ _ _ _ _ _ _ c.number_expr-in-Call.ensures c.deref_mut-in-Call.ensures.value c.in-Call.object-is)
-    (refilled _ _ _ _ c.number_arguments.new.arguments _ _ c.deref_mut-in-Call-2.ensures.value c.in-Call.arguments-is c.number_arguments.auto.arguments c.number_arguments.ensures)
+    (refilled _ _ _ _ c.number_arguments.new.arguments _ _ c.deref_mut-in-Call-2.ensures.value c.in-Call.arguments-is c.number_arguments.auto.arguments
+    c.number_arguments.ensures)
 
 pub number_expr-returns-in-Index : goal.number_expr-returns-in-Index
 unfolding opened.out-Expr denote.Hole.Carrier.out

@@ -10,6 +10,7 @@ decreases-add_types l = weight (view l.value.now)
 
 abbrev pub invariant-loop-name : goal.invariant-loop-name
 invariant-loop-name l = record {
-  all : with_each l.n (entries_of (map pair (drop l.name-index l.name-items))) (map row_of l.rows.items) ≡ with_types l.n (view l.value) (map row_of l.fn.rows.items);
+  all : with_each l.n (entries_of (map pair (drop l.name-index l.name-items))) (map row_of l.rows.items)
+      ≡ with_types l.n (view l.value) (map row_of l.fn.rows.items);
   smaller : weights (entries_of (map pair (drop l.name-index l.name-items))) ≤ weight (view l.value);
 }

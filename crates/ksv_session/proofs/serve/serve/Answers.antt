@@ -22,8 +22,12 @@ loop-turn-init g c = (
     [],
     refl,
     omega arith,
-    subst (λ line. Stands (description_of c.args.session.now) c.args.session.now.bytes [] c.args.session.now line g.W.Sink.tells (took (g.W.Sink.bytes c.args.writer.now) (g.W.Sink.flushed c.args.writer.now)) (took (g.W.Sink.bytes c.args.writer.now) (g.W.Sink.flushed c.args.writer.now)))
-        (sym c.new-line.ensures) (begun_stands (description_of c.args.session.now) c.args.session.now (took (g.W.Sink.bytes c.args.writer.now) (g.W.Sink.flushed c.args.writer.now)) g.W.Sink.tells c.requires.begun),
+    subst (λ line. Stands (description_of c.args.session.now) c.args.session.now.bytes [] c.args.session.now line g.W.Sink.tells
+        (took (g.W.Sink.bytes c.args.writer.now) (g.W.Sink.flushed c.args.writer.now))
+        (took (g.W.Sink.bytes c.args.writer.now) (g.W.Sink.flushed c.args.writer.now)))
+        (sym c.new-line.ensures)
+        (begun_stands (description_of c.args.session.now) c.args.session.now
+        (took (g.W.Sink.bytes c.args.writer.now) (g.W.Sink.flushed c.args.writer.now)) g.W.Sink.tells c.requires.begun),
   )),
   c.requires.reads,
   c.requires.goes_on,
@@ -38,7 +42,8 @@ returns-in-Ok-true-clause-served g c tells =
     let before = took (g.W.Sink.bytes c.args.writer.now) (g.W.Sink.flushed c.args.writer.now) in
     let inv = c.loop-turn.invariant.0 tells in
     let fed = c.in-Ok-true.ensures.goes d begin inv.0 before (g.R.Source.bytes c.read.new.self) c.loop-turn.invariant.4 inv.3 in
-    subst (λ input. Serves d begin input c.feed.new.session.bytes g.W.Sink.tells before (took (g.W.Sink.bytes c.feed.new.writer) (g.W.Sink.flushed c.feed.new.writer)) true)
+    subst (λ input. Serves d begin input c.feed.new.session.bytes g.W.Sink.tells before
+    (took (g.W.Sink.bytes c.feed.new.writer) (g.W.Sink.flushed c.feed.new.writer)) true)
     (sym (inv.1 ∙ ap (λ t. inv.0 ++ t) (c.in-Ok.ensures.given tells)))
     (fed_true _ _ _ _ _ _ _ _ _ c.in-Ok-true.field-0 c.in-Ok-true.field-0-test fed)
 

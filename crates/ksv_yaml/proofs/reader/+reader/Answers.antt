@@ -7,7 +7,11 @@ use Rattle.ksv_yaml.specs.Grammar.{at_column}
 use Rattle.ksv_yaml.specs.Reading.{inlined, value_here, weight}
 use Rattle.ksv_yaml.specs.Code.{keys_of, NodeIs, EntriesIs, ValueIs, ItemsIs, ItemIs}
 use Rattle.ksv_yaml.proofs.Answering.{fails_on, gives_on, own_key_tells, keys_none, keys_hold, pushed_item, pushed_entry, empty_nil, not_empty}
-use Rattle.ksv_yaml.proofs.BlockLoops.{EndsBefore, before_first, before_end, inline_lighter, node_items_fail, node_items_end, node_items_stay, node_items_limit, node_entries, node_entries_limit, node_inline, node_nothing, node_refused, value_on_line, value_deep, value_end, value_above, value_beside, value_level, value_limit, item_on_line, item_behind_tab, item_deep, item_end, item_beside, entries_start, entries_no_key, entries_twice, entries_fail, entries_end, entries_deeper, entries_on, items_start, items_no_dash, items_fail, items_end, items_beside, items_deeper, items_on}
+use Rattle.ksv_yaml.proofs.BlockLoops.{EndsBefore, before_first, before_end, inline_lighter, node_items_fail, node_items_end, node_items_stay, node_items_limit}
+use Rattle.ksv_yaml.proofs.BlockLoops.{node_entries, node_entries_limit, node_inline, node_nothing, node_refused, value_on_line, value_deep, value_end}
+use Rattle.ksv_yaml.proofs.BlockLoops.{value_above, value_beside, value_level, value_limit, item_on_line, item_behind_tab, item_deep, item_end, item_beside}
+use Rattle.ksv_yaml.proofs.BlockLoops.{entries_start, entries_no_key, entries_twice, entries_fail, entries_end, entries_deeper, entries_on, items_start}
+use Rattle.ksv_yaml.proofs.BlockLoops.{items_no_dash, items_fail, items_end, items_beside, items_deeper, items_on}
 use Rattle.ksv_yaml_scan.specs.Got.{Got, got}
 use Rattle.ksv_yaml_scan.specs.Lines.{Line}
 use Rattle.ksv_yaml_scan.specs.Starts.{Dashed, start_of}
@@ -18,74 +22,120 @@ use Rattle.ksv_yaml.proofs.reader.+reader.Goals.{node-in-Some+else-line-first, n
 pub item-returns-in_default-clause-read : goal.item-returns-in_default-clause-read
 item-returns-in_default-clause-read t c =
     let text = c.make_text.ensures ∙ ap (λ (cs : List ℕ). Text c.args.line.number false cs) c.new.ensures.items in
-    rw text (item_end (lines_view c.skip-below.result.now) (empty_nil c.args.behind.now c.is_empty.result c.if-is_empty.true c.is_empty.ensures) c.skip-below.ensures.value (ap lines_view c.in_default.ensures))
+    rw text (item_end (lines_view c.skip-below.result.now) (empty_nil c.args.behind.now c.is_empty.result c.if-is_empty.true c.is_empty.ensures)
+    c.skip-below.ensures.value (ap lines_view c.in_default.ensures))
 
 pub item-returns-then-first-line-clause-read : goal.item-returns-then-first-line-clause-read
 item-returns-then-first-line-clause-read t c =
-    gives_on (NodeIs c.args.depth (c.args.line.indent + 1) (line_view c.in-Some.first) (lines_view c.in-Some.others.now)) (ItemIs c.args.depth (line_view c.args.line) c.args.columns c.args.tab c.args.behind.now (lines_view c.args.rest.now)) view lines_view c.node.result
-    (λ o h. item_deep (lines_view c.skip-below.result.now) (line_view c.in-Some.first) (lines_view c.in-Some.others.now) o (empty_nil c.args.behind.now c.is_empty.result c.if-is_empty.true c.is_empty.ensures) c.skip-below.ensures.value (ap lines_view c.in-Some.ensures) c.if-first-line.true h) c.node.ensures.read
+    gives_on (NodeIs c.args.depth (c.args.line.indent + 1) (line_view c.in-Some.first) (lines_view c.in-Some.others.now))
+    (ItemIs c.args.depth (line_view c.args.line) c.args.columns c.args.tab c.args.behind.now (lines_view c.args.rest.now)) view lines_view c.node.result
+    (λ o h. item_deep (lines_view c.skip-below.result.now) (line_view c.in-Some.first) (lines_view c.in-Some.others.now) o
+    (empty_nil c.args.behind.now c.is_empty.result c.if-is_empty.true c.is_empty.ensures) c.skip-below.ensures.value (ap lines_view c.in-Some.ensures)
+    c.if-first-line.true h) c.node.ensures.read
 
 pub item-returns-then-is_empty-clause-read : goal.item-returns-then-is_empty-clause-read
 item-returns-then-is_empty-clause-read t c =
     let text = c.make_text-then-is_empty.ensures ∙ ap (λ (cs : List ℕ). Text c.args.line.number false cs) c.new-then-is_empty.ensures.items in
-    rw text (item_beside (lines_view c.skip-below.result.now) (line_view c.in-Some.first) (lines_view c.in-Some.others.now) (empty_nil c.args.behind.now c.is_empty.result c.if-is_empty.true c.is_empty.ensures) c.skip-below.ensures.value (ap lines_view c.in-Some.ensures) c.if-first-line.false)
+    rw text (item_beside (lines_view c.skip-below.result.now) (line_view c.in-Some.first) (lines_view c.in-Some.others.now)
+    (empty_nil c.args.behind.now c.is_empty.result c.if-is_empty.true c.is_empty.ensures) c.skip-below.ensures.value (ap lines_view c.in-Some.ensures)
+    c.if-first-line.false)
 
 pub item-returns-then-tab-clause-read : goal.item-returns-then-tab-clause-read
 item-returns-then-tab-clause-read t c =
-    gives_on (λ (o : Option (Got Line Tree)). value_here (start_of c.args.behind.now) c.args.depth (line_view c.args.line) c.args.behind.now (lines_view c.args.rest.now) ≡ o) (ItemIs c.args.depth (line_view c.args.line) c.args.columns c.args.tab c.args.behind.now (lines_view c.args.rest.now)) view lines_view c.value_here.result
+    gives_on (λ (o : Option (Got Line Tree)). value_here (start_of c.args.behind.now) c.args.depth (line_view c.args.line) c.args.behind.now
+    (lines_view c.args.rest.now) ≡ o)
+    (ItemIs c.args.depth (line_view c.args.line) c.args.columns c.args.tab c.args.behind.now (lines_view c.args.rest.now)) view lines_view
+    c.value_here.result
     (λ o h. item_behind_tab o (not_empty c.args.behind.now c.is_empty.result c.if-is_empty.false c.is_empty.ensures) c.if-tab.true h) c.value_here.ensures.read
 
 pub item-returns-clause-read : goal.item-returns-clause-read
 item-returns-clause-read t c =
-    gives_on (NodeIs c.args.depth (c.args.line.indent + 1) (at_column (line_view c.args.line) c.args.columns c.args.behind.now) (lines_view c.args.rest.now)) (ItemIs c.args.depth (line_view c.args.line) c.args.columns c.args.tab c.args.behind.now (lines_view c.args.rest.now)) view lines_view c.node-2.result
+    gives_on (NodeIs c.args.depth (c.args.line.indent + 1) (at_column (line_view c.args.line) c.args.columns c.args.behind.now) (lines_view c.args.rest.now))
+    (ItemIs c.args.depth (line_view c.args.line) c.args.columns c.args.tab c.args.behind.now (lines_view c.args.rest.now)) view lines_view c.node-2.result
     (λ o h. item_on_line o (not_empty c.args.behind.now c.is_empty.result c.if-is_empty.false c.is_empty.ensures) c.if-tab.false h) c.node-2.ensures.read
 
 pub mapping-entries-init : goal.mapping-entries-init
-mapping-entries-init t c = record { is = entries_start (map pair c.new-entries.result.items) (ap (map pair) c.new-entries.ensures.items); keys = keys_none c.no_keys-keys.result c.new-entries.result.items c.new-entries.ensures.items c.no_keys-keys.ensures; level = refl; shorter = omega arith; within = omega arith }
+mapping-entries-init t c =
+    record {
+      is = entries_start (map pair c.new-entries.result.items) (ap (map pair) c.new-entries.ensures.items);
+      keys = keys_none c.no_keys-keys.result
+          c.new-entries.result.items c.new-entries.ensures.items c.no_keys-keys.ensures;
+      level = refl;
+      shorter = omega arith;
+      within = omega arith;
+    }
 
 pub mapping-returns-in_err-key-clause-read : goal.mapping-returns-in_err-key-clause-read
 mapping-returns-in_err-key-clause-read t c =
     let p = err_from_is_err_and c.from_residual.result c.from_residual.ensures.1 in
-    rw (p.1, p.2) (λ w. entries_no_key (map pair c.entries.entries.items) (line_view c.entries.at.line) (lines_view c.entries.at.rest.now) (c.in_err-key.ensures.err w) c.entries.invariant.is)
+    rw (p.1, p.2) (λ w. entries_no_key (map pair c.entries.entries.items) (line_view c.entries.at.line) (lines_view c.entries.at.rest.now)
+    (c.in_err-key.ensures.err w) c.entries.invariant.is)
 
 pub mapping-returns-then-not-fresh-clause-read : goal.mapping-returns-then-not-fresh-clause-read
-mapping-returns-then-not-fresh-clause-read t c w = entries_twice (map pair c.entries.entries.items) (line_view c.entries.at.line) (lines_view c.entries.at.rest.now) c.in_ok-key.key.items c.in_ok-key.behind.now c.in_ok-key.ensures.ok (own_key_tells c.deref.result.now c.in_ok-key.key.items c.entries.entries.items c.in_ok-fresh.fresh _ (c.in_ok-fresh.ensures.fresh (keys_of (map pair c.entries.entries.items)) c.entries.invariant.keys) c.deref.ensures.value c.if-not-fresh.true) c.entries.invariant.is
+mapping-returns-then-not-fresh-clause-read t c w =
+    entries_twice (map pair c.entries.entries.items) (line_view c.entries.at.line) (lines_view c.entries.at.rest.now) c.in_ok-key.key.items
+    c.in_ok-key.behind.now c.in_ok-key.ensures.ok
+    (own_key_tells c.deref.result.now c.in_ok-key.key.items c.entries.entries.items c.in_ok-fresh.fresh _
+    (c.in_ok-fresh.ensures.fresh (keys_of (map pair c.entries.entries.items)) c.entries.invariant.keys) c.deref.ensures.value
+    c.if-not-fresh.true) c.entries.invariant.is
 
 pub mapping-returns-in_err-value-clause-read : goal.mapping-returns-in_err-value-clause-read
 mapping-returns-in_err-value-clause-read t c =
     let p = err_from_is_err_and c.from_residual-in_err-value.result c.from_residual-in_err-value.ensures.1 in
-    rw (p.1, p.2) (fails_on (ValueIs c.args.depth (line_view c.entries.at.line) c.in_ok-key.behind.now (lines_view c.entries.at.rest.now)) (EntriesIs c.args.depth c.args.first.indent (line_view c.args.first) (lines_view c.args.rest.now)) c.in_err-value.field-0.0
-    (λ v. entries_fail (map pair c.entries.entries.items) (line_view c.entries.at.line) (lines_view c.entries.at.rest.now) c.in_ok-key.key.items c.in_ok-key.behind.now c.in_ok-key.ensures.ok (own_key_tells c.deref.result.now c.in_ok-key.key.items c.entries.entries.items c.in_ok-fresh.fresh _ (c.in_ok-fresh.ensures.fresh (keys_of (map pair c.entries.entries.items)) c.entries.invariant.keys) c.deref.ensures.value c.if-not-fresh.false) c.entries.invariant.is v) c.in_err-value.ensures.read)
+    rw (p.1, p.2) (fails_on (ValueIs c.args.depth (line_view c.entries.at.line) c.in_ok-key.behind.now (lines_view c.entries.at.rest.now))
+    (EntriesIs c.args.depth c.args.first.indent (line_view c.args.first) (lines_view c.args.rest.now)) c.in_err-value.field-0.0
+    (λ v. entries_fail (map pair c.entries.entries.items) (line_view c.entries.at.line) (lines_view c.entries.at.rest.now) c.in_ok-key.key.items
+    c.in_ok-key.behind.now c.in_ok-key.ensures.ok
+    (own_key_tells c.deref.result.now c.in_ok-key.key.items c.entries.entries.items c.in_ok-fresh.fresh _
+    (c.in_ok-fresh.ensures.fresh (keys_of (map pair c.entries.entries.items)) c.entries.invariant.keys) c.deref.ensures.value
+    c.if-not-fresh.false) c.entries.invariant.is v) c.in_err-value.ensures.read)
 
 pub mapping-returns-in_default-clause-read : goal.mapping-returns-in_default-clause-read
 mapping-returns-in_default-clause-read t c =
-    let all = pushed_entry c.push.new.self.items c.entries.entries.items c.make_entry.result c.entries.at.line.number c.in_ok-key.key.items c.in_ok-key.key.items (view c.in_ok-value.value) c.in_ok-push.ensures.items c.make_entry.ensures refl in
-    entries_end (map pair c.entries.entries.items) (map pair c.push.new.self.items) (line_view c.entries.at.line) (lines_view c.entries.at.rest.now) c.in_ok-key.key.items c.in_ok-key.behind.now (view c.in_ok-value.value) (lines_view c.in_ok-value.left.now) all c.in_ok-key.ensures.ok
-    (own_key_tells c.deref.result.now c.in_ok-key.key.items c.entries.entries.items c.in_ok-fresh.fresh _ (c.in_ok-fresh.ensures.fresh (keys_of (map pair c.entries.entries.items)) c.entries.invariant.keys) c.deref.ensures.value c.if-not-fresh.false)
+    let all = pushed_entry c.push.new.self.items c.entries.entries.items c.make_entry.result c.entries.at.line.number c.in_ok-key.key.items
+    c.in_ok-key.key.items (view c.in_ok-value.value) c.in_ok-push.ensures.items c.make_entry.ensures refl in
+    entries_end (map pair c.entries.entries.items) (map pair c.push.new.self.items) (line_view c.entries.at.line) (lines_view c.entries.at.rest.now)
+    c.in_ok-key.key.items c.in_ok-key.behind.now (view c.in_ok-value.value) (lines_view c.in_ok-value.left.now) all c.in_ok-key.ensures.ok
+    (own_key_tells c.deref.result.now c.in_ok-key.key.items c.entries.entries.items c.in_ok-fresh.fresh _
+    (c.in_ok-fresh.ensures.fresh (keys_of (map pair c.entries.entries.items)) c.entries.invariant.keys) c.deref.ensures.value c.if-not-fresh.false)
     (before_end c.args.first.indent (lines_view c.in_ok-value.left.now) (ap lines_view c.in_default.ensures)) c.entries.invariant.is c.in_ok-value.ensures.read
 
 pub mapping-returns-then-next-first-clause-read : goal.mapping-returns-then-next-first-clause-read
 mapping-returns-then-next-first-clause-read t c =
-    let all = pushed_entry c.push.new.self.items c.entries.entries.items c.make_entry.result c.entries.at.line.number c.in_ok-key.key.items c.in_ok-key.key.items (view c.in_ok-value.value) c.in_ok-push.ensures.items c.make_entry.ensures refl in
-    entries_end (map pair c.entries.entries.items) (map pair c.push.new.self.items) (line_view c.entries.at.line) (lines_view c.entries.at.rest.now) c.in_ok-key.key.items c.in_ok-key.behind.now (view c.in_ok-value.value) (lines_view c.in_ok-value.left.now) all c.in_ok-key.ensures.ok
-    (own_key_tells c.deref.result.now c.in_ok-key.key.items c.entries.entries.items c.in_ok-fresh.fresh _ (c.in_ok-fresh.ensures.fresh (keys_of (map pair c.entries.entries.items)) c.entries.invariant.keys) c.deref.ensures.value c.if-not-fresh.false)
-    (before_first c.args.first.indent (lines_view c.in_ok-value.left.now) (line_view c.in-Some.next) (lines_view c.in-Some.after.now) (ap lines_view c.in-Some.ensures) c.if-next-first.true) c.entries.invariant.is c.in_ok-value.ensures.read
+    let all = pushed_entry c.push.new.self.items c.entries.entries.items c.make_entry.result c.entries.at.line.number c.in_ok-key.key.items
+    c.in_ok-key.key.items (view c.in_ok-value.value) c.in_ok-push.ensures.items c.make_entry.ensures refl in
+    entries_end (map pair c.entries.entries.items) (map pair c.push.new.self.items) (line_view c.entries.at.line) (lines_view c.entries.at.rest.now)
+    c.in_ok-key.key.items c.in_ok-key.behind.now (view c.in_ok-value.value) (lines_view c.in_ok-value.left.now) all c.in_ok-key.ensures.ok
+    (own_key_tells c.deref.result.now c.in_ok-key.key.items c.entries.entries.items c.in_ok-fresh.fresh _
+    (c.in_ok-fresh.ensures.fresh (keys_of (map pair c.entries.entries.items)) c.entries.invariant.keys) c.deref.ensures.value c.if-not-fresh.false)
+    (before_first c.args.first.indent (lines_view c.in_ok-value.left.now) (line_view c.in-Some.next) (lines_view c.in-Some.after.now)
+    (ap lines_view c.in-Some.ensures) c.if-next-first.true) c.entries.invariant.is c.in_ok-value.ensures.read
 
 pub mapping-returns-then-next-first-2-clause-read : goal.mapping-returns-then-next-first-2-clause-read
 mapping-returns-then-next-first-2-clause-read t c w =
-    entries_deeper (map pair c.entries.entries.items) (line_view c.entries.at.line) (lines_view c.entries.at.rest.now) c.in_ok-key.key.items c.in_ok-key.behind.now (view c.in_ok-value.value) (lines_view c.in_ok-value.left.now) (line_view c.in-Some.next) (lines_view c.in-Some.after.now) c.in_ok-key.ensures.ok
-    (own_key_tells c.deref.result.now c.in_ok-key.key.items c.entries.entries.items c.in_ok-fresh.fresh _ (c.in_ok-fresh.ensures.fresh (keys_of (map pair c.entries.entries.items)) c.entries.invariant.keys) c.deref.ensures.value c.if-not-fresh.false) (ap lines_view c.in-Some.ensures) c.if-next-first-2.true c.entries.invariant.is c.in_ok-value.ensures.read
+    entries_deeper (map pair c.entries.entries.items) (line_view c.entries.at.line) (lines_view c.entries.at.rest.now) c.in_ok-key.key.items
+    c.in_ok-key.behind.now (view c.in_ok-value.value) (lines_view c.in_ok-value.left.now) (line_view c.in-Some.next) (lines_view c.in-Some.after.now)
+    c.in_ok-key.ensures.ok
+    (own_key_tells c.deref.result.now c.in_ok-key.key.items c.entries.entries.items c.in_ok-fresh.fresh _
+    (c.in_ok-fresh.ensures.fresh (keys_of (map pair c.entries.entries.items)) c.entries.invariant.keys) c.deref.ensures.value c.if-not-fresh.false)
+    (ap lines_view c.in-Some.ensures) c.if-next-first-2.true c.entries.invariant.is c.in_ok-value.ensures.read
 
 pub mapping-entries-preserved : goal.mapping-entries-preserved
 mapping-entries-preserved t c =
-    let all = pushed_entry c.push.new.self.items c.entries.entries.items c.make_entry.result c.entries.at.line.number c.in_ok-key.key.items c.in_ok-key.key.items (view c.in_ok-value.value) c.in_ok-push.ensures.items c.make_entry.ensures refl in
+    let all = pushed_entry c.push.new.self.items c.entries.entries.items c.make_entry.result c.entries.at.line.number c.in_ok-key.key.items
+    c.in_ok-key.key.items (view c.in_ok-value.value) c.in_ok-push.ensures.items c.make_entry.ensures refl in
     let level : c.in-Some.next.indent ≡ c.args.first.indent = omega (arith, c.if-next-first.false, c.if-next-first-2.false) in
     let lighter = ap (λ ls. weight (lines_view ls)) c.in-Some.ensures in
     record {
-      is = entries_on (map pair c.entries.entries.items) (map pair c.push.new.self.items) (line_view c.entries.at.line) (lines_view c.entries.at.rest.now) c.in_ok-key.key.items c.in_ok-key.behind.now (view c.in_ok-value.value) (lines_view c.in_ok-value.left.now) (line_view c.in-Some.next) (lines_view c.in-Some.after.now) all c.in_ok-key.ensures.ok
-          (own_key_tells c.deref.result.now c.in_ok-key.key.items c.entries.entries.items c.in_ok-fresh.fresh _ (c.in_ok-fresh.ensures.fresh (keys_of (map pair c.entries.entries.items)) c.entries.invariant.keys) c.deref.ensures.value c.if-not-fresh.false)
+      is = entries_on (map pair c.entries.entries.items) (map pair c.push.new.self.items) (line_view c.entries.at.line) (lines_view c.entries.at.rest.now)
+          c.in_ok-key.key.items c.in_ok-key.behind.now (view c.in_ok-value.value) (lines_view c.in_ok-value.left.now) (line_view c.in-Some.next)
+          (lines_view c.in-Some.after.now) all c.in_ok-key.ensures.ok
+          (own_key_tells c.deref.result.now c.in_ok-key.key.items c.entries.entries.items c.in_ok-fresh.fresh _
+          (c.in_ok-fresh.ensures.fresh (keys_of (map pair c.entries.entries.items)) c.entries.invariant.keys) c.deref.ensures.value c.if-not-fresh.false)
           (ap lines_view c.in-Some.ensures) level c.in_ok-value.ensures.shorter c.entries.invariant.is c.in_ok-value.ensures.read;
-      keys = keys_hold c.add_key.new.keys (map pair c.entries.entries.items) (map pair c.push.new.self.items) (record { line = c.entries.at.line.number; key = c.in_ok-key.key.items; value = view c.in_ok-value.value }) c.deref.result.now all c.deref.ensures.value (c.in_ok-fresh.ensures.holds (keys_of (map pair c.entries.entries.items)) c.entries.invariant.keys);
+      keys = keys_hold c.add_key.new.keys (map pair c.entries.entries.items) (map pair c.push.new.self.items)
+          (record { line = c.entries.at.line.number; key = c.in_ok-key.key.items; value = view c.in_ok-value.value }) c.deref.result.now all
+          c.deref.ensures.value (c.in_ok-fresh.ensures.holds (keys_of (map pair c.entries.entries.items)) c.entries.invariant.keys);
       level = level;
       shorter = omega (arith, c.in_ok-value.ensures.shorter, c.entries.invariant.shorter, lighter);
       within = omega (arith, c.in_ok-value.ensures.shorter, c.entries.invariant.within, lighter);
@@ -102,19 +152,26 @@ node-returns-then-depth-eq0-clause-read t c w = node_items_limit _ (c.in_ok-star
 pub node-returns-in_err-items-in-Dash-clause-read : goal.node-returns-in_err-items-in-Dash-clause-read
 node-returns-in_err-items-in-Dash-clause-read t c =
     let p = err_from_is_err_and c.from_residual-in_err-items-in-Dash.result c.from_residual-in_err-items-in-Dash.ensures.1 in
-    rw (p.1, p.2) (fails_on (ItemsIs (c.args.depth - 1) c.args.first.indent (line_view c.args.first) (lines_view c.args.rest.now)) (NodeIs c.args.depth c.args.floor (line_view c.args.first) (lines_view c.args.rest.now)) c.in_err-items-in-Dash.field-0.0
+    rw (p.1, p.2) (fails_on (ItemsIs (c.args.depth - 1) c.args.first.indent (line_view c.args.first) (lines_view c.args.rest.now))
+    (NodeIs c.args.depth c.args.floor (line_view c.args.first) (lines_view c.args.rest.now)) c.in_err-items-in-Dash.field-0.0
     (node_items_fail _ (c.in_ok-start_at.ensures.ok ∙ ap start_view c.in-Dash.is) c.if-depth-eq0.false) c.in_err-items-in-Dash.ensures.read)
 
 pub node-returns-then-line-first-clause-read : goal.node-returns-then-line-first-clause-read
-node-returns-then-line-first-clause-read t c w = node_items_stay _ (items_of (map view c.in_ok-items-in-Dash.items.items)) (lines_view c.in_ok-items-in-Dash.left.now) (line_view c.in-Some.line) (lines_view c.in-Some.field-0-1.now) (c.in_ok-start_at.ensures.ok ∙ ap start_view c.in-Dash.is) c.if-depth-eq0.false (ap lines_view c.in-Some.ensures) c.if-line-first.true c.in_ok-items-in-Dash.ensures.read
+node-returns-then-line-first-clause-read t c w = node_items_stay _ (items_of (map view c.in_ok-items-in-Dash.items.items))
+    (lines_view c.in_ok-items-in-Dash.left.now) (line_view c.in-Some.line) (lines_view c.in-Some.field-0-1.now)
+    (c.in_ok-start_at.ensures.ok ∙ ap start_view c.in-Dash.is) c.if-depth-eq0.false (ap lines_view c.in-Some.ensures) c.if-line-first.true
+    c.in_ok-items-in-Dash.ensures.read
 
 pub node-returns-in-Dash-clause-read : goal.node-returns-in-Dash-clause-read
 node-returns-in-Dash-clause-read t c =
     let before : EndsBefore c.args.first.indent (lines_view c.in_ok-items-in-Dash.left.now) = (elim c.match-next.branch [
-      | node-in-Some+else-line-first w ↦ before_first c.args.first.indent (lines_view c.in_ok-items-in-Dash.left.now) (line_view w.in-Some.line) (lines_view w.in-Some.field-0-1.now) (ap lines_view w.in-Some.ensures) w.if-line-first.false
+      | node-in-Some+else-line-first w ↦ before_first c.args.first.indent (lines_view c.in_ok-items-in-Dash.left.now) (line_view w.in-Some.line)
+          (lines_view w.in-Some.field-0-1.now) (ap lines_view w.in-Some.ensures) w.if-line-first.false
       | node-in_default w ↦ before_end c.args.first.indent (lines_view c.in_ok-items-in-Dash.left.now) (ap lines_view w.in_default.ensures)
     ]) in
-    rw c.make_list.ensures (node_items_end _ (items_of (map view c.in_ok-items-in-Dash.items.items)) (lines_view c.in_ok-items-in-Dash.left.now) (c.in_ok-start_at.ensures.ok ∙ ap start_view c.in-Dash.is) c.if-depth-eq0.false before c.in_ok-items-in-Dash.ensures.read)
+    rw c.make_list.ensures
+    (node_items_end _ (items_of (map view c.in_ok-items-in-Dash.items.items)) (lines_view c.in_ok-items-in-Dash.left.now)
+    (c.in_ok-start_at.ensures.ok ∙ ap start_view c.in-Dash.is) c.if-depth-eq0.false before c.in_ok-items-in-Dash.ensures.read)
 
 pub node-returns-then-depth-eq0-2-clause-read : goal.node-returns-then-depth-eq0-2-clause-read
 node-returns-then-depth-eq0-2-clause-read t c w = node_entries_limit _ _ (c.in_ok-start_at.ensures.ok ∙ ap start_view c.in-Key.is) c.if-depth-eq0-2.true
@@ -122,58 +179,84 @@ node-returns-then-depth-eq0-2-clause-read t c w = node_entries_limit _ _ (c.in_o
 pub node-returns-in_err-entries-in-Key-clause-read : goal.node-returns-in_err-entries-in-Key-clause-read
 node-returns-in_err-entries-in-Key-clause-read t c =
     let p = err_from_is_err_and c.from_residual-in_err-entries-in-Key.result c.from_residual-in_err-entries-in-Key.ensures.1 in
-    rw (p.1, p.2) (fails_on (EntriesIs (c.args.depth - 1) c.args.first.indent (line_view c.args.first) (lines_view c.args.rest.now)) (NodeIs c.args.depth c.args.floor (line_view c.args.first) (lines_view c.args.rest.now)) c.in_err-entries-in-Key.field-0.0
+    rw (p.1, p.2) (fails_on (EntriesIs (c.args.depth - 1) c.args.first.indent (line_view c.args.first) (lines_view c.args.rest.now))
+    (NodeIs c.args.depth c.args.floor (line_view c.args.first) (lines_view c.args.rest.now)) c.in_err-entries-in-Key.field-0.0
     (node_entries _ _ None (c.in_ok-start_at.ensures.ok ∙ ap start_view c.in-Key.is) c.if-depth-eq0-2.false) c.in_err-entries-in-Key.ensures.read)
 
 pub node-returns-in-Key-clause-read : goal.node-returns-in-Key-clause-read
-node-returns-in-Key-clause-read t c = rw c.make_mapping.ensures (node_entries _ _ (got (entries_of (map pair c.in_ok-entries-in-Key.entries.items)) (lines_view c.in_ok-entries-in-Key.left.now)) (c.in_ok-start_at.ensures.ok ∙ ap start_view c.in-Key.is) c.if-depth-eq0-2.false c.in_ok-entries-in-Key.ensures.read)
+node-returns-in-Key-clause-read t c = rw c.make_mapping.ensures
+    (node_entries _ _ (got (entries_of (map pair c.in_ok-entries-in-Key.entries.items)) (lines_view c.in_ok-entries-in-Key.left.now))
+    (c.in_ok-start_at.ensures.ok ∙ ap start_view c.in-Key.is) c.if-depth-eq0-2.false c.in_ok-entries-in-Key.ensures.read)
 
 pub node-returns-in-Inline-clause-read : goal.node-returns-in-Inline-clause-read
 node-returns-in-Inline-clause-read t c =
-    gives_on (λ (o : Option (Got Line Tree)). inlined c.args.depth c.args.floor (kind_view c.in-Inline.kind) (line_view c.args.first) (lines_view c.args.rest.now) ≡ o) (NodeIs c.args.depth c.args.floor (line_view c.args.first) (lines_view c.args.rest.now)) view lines_view c.scalar.result
+    gives_on (λ (o : Option (Got Line Tree)). inlined c.args.depth c.args.floor (kind_view c.in-Inline.kind) (line_view c.args.first)
+    (lines_view c.args.rest.now) ≡ o) (NodeIs c.args.depth c.args.floor (line_view c.args.first) (lines_view c.args.rest.now)) view lines_view
+    c.scalar.result
     (λ o h. node_inline (kind_view c.in-Inline.kind) o (c.in_ok-start_at.ensures.ok ∙ ap start_view c.in-Inline.is) h) c.scalar.ensures.read
 
 pub node-returns-in-Inline-clause-shorter : goal.node-returns-in-Inline-clause-shorter
-node-returns-in-Inline-clause-shorter t c = inline_lighter c.args.depth c.args.floor (kind_view c.in-Inline.kind) (line_view c.args.first) (lines_view c.args.rest.now) c.scalar.result c.scalar.ensures.read
+node-returns-in-Inline-clause-shorter t c = inline_lighter c.args.depth c.args.floor (kind_view c.in-Inline.kind) (line_view c.args.first)
+    (lines_view c.args.rest.now) c.scalar.result c.scalar.ensures.read
 
 pub node-returns-clause-read : goal.node-returns-clause-read
 node-returns-clause-read t c w = node_nothing (c.in_ok-start_at.ensures.ok ∙ ap start_view c.in-Nothing.is)
 
 pub sequence-items-init : goal.sequence-items-init
-sequence-items-init t c = record { is = items_start (map view c.new-items.result.items) (ap (map view) c.new-items.ensures.items); level = refl; shorter = omega arith; within = omega arith }
+sequence-items-init t c =
+    record {
+      is = items_start (map view c.new-items.result.items) (ap (map view) c.new-items.ensures.items);
+      level = refl;
+      shorter = omega arith;
+      within =
+          omega arith;
+    }
 
 pub sequence-returns-in_err-columns-clause-read : goal.sequence-returns-in_err-columns-clause-read
 sequence-returns-in_err-columns-clause-read t c =
     let p = err_from_is_err_and c.from_residual.result c.from_residual.ensures.1 in
-    rw (p.1, p.2) (λ w. items_no_dash (map view c.items.items.items) (line_view c.items.at.line) (lines_view c.items.at.rest.now) (c.in_err-columns.ensures.err w) c.items.invariant.is)
+    rw (p.1, p.2) (λ w. items_no_dash (map view c.items.items.items) (line_view c.items.at.line) (lines_view c.items.at.rest.now)
+    (c.in_err-columns.ensures.err w) c.items.invariant.is)
 
 pub sequence-returns-in_err-value-clause-read : goal.sequence-returns-in_err-value-clause-read
 sequence-returns-in_err-value-clause-read t c =
     let p = err_from_is_err_and c.from_residual-in_err-value.result c.from_residual-in_err-value.ensures.1 in
     let dash : Dashed = record { columns = c.in_ok-columns.columns; tab = c.in_ok-columns.tab; behind = c.in_ok-columns.behind.now } in
     let behind : length c.in_ok-columns.behind.now < length c.items.at.line.content.now = omega (arith, c.in_ok-columns.ensures.within) in
-    rw (p.1, p.2) (fails_on (ItemIs c.args.depth (line_view c.items.at.line) c.in_ok-columns.columns c.in_ok-columns.tab c.in_ok-columns.behind.now (lines_view c.items.at.rest.now)) (ItemsIs c.args.depth c.args.first.indent (line_view c.args.first) (lines_view c.args.rest.now)) c.in_err-value.field-0.0
-    (λ v. items_fail (map view c.items.items.items) (line_view c.items.at.line) (lines_view c.items.at.rest.now) dash c.in_ok-columns.ensures.ok behind c.items.invariant.is v) c.in_err-value.ensures.read)
+    rw (p.1, p.2) (fails_on
+    (ItemIs c.args.depth (line_view c.items.at.line) c.in_ok-columns.columns c.in_ok-columns.tab c.in_ok-columns.behind.now
+    (lines_view c.items.at.rest.now)) (ItemsIs c.args.depth c.args.first.indent (line_view c.args.first) (lines_view c.args.rest.now))
+    c.in_err-value.field-0.0
+    (λ v. items_fail (map view c.items.items.items) (line_view c.items.at.line) (lines_view c.items.at.rest.now) dash c.in_ok-columns.ensures.ok behind
+    c.items.invariant.is v) c.in_err-value.ensures.read)
 
 pub sequence-returns-in_default-clause-read : goal.sequence-returns-in_default-clause-read
 sequence-returns-in_default-clause-read t c =
     let dash : Dashed = record { columns = c.in_ok-columns.columns; tab = c.in_ok-columns.tab; behind = c.in_ok-columns.behind.now } in
     let behind : length c.in_ok-columns.behind.now < length c.items.at.line.content.now = omega (arith, c.in_ok-columns.ensures.within) in
     let all = pushed_item c.push.new.self.items c.items.items.items c.in_ok-value.value c.in_ok-push.ensures.items in
-    items_end (map view c.items.items.items) (map view c.push.new.self.items) (line_view c.items.at.line) (lines_view c.items.at.rest.now) dash (view c.in_ok-value.value) (lines_view c.in_ok-value.left.now) all c.in_ok-columns.ensures.ok behind (before_end c.args.first.indent (lines_view c.in_ok-value.left.now) (ap lines_view c.in_default.ensures)) c.items.invariant.is c.in_ok-value.ensures.read
+    items_end (map view c.items.items.items) (map view c.push.new.self.items) (line_view c.items.at.line) (lines_view c.items.at.rest.now) dash
+    (view c.in_ok-value.value) (lines_view c.in_ok-value.left.now) all c.in_ok-columns.ensures.ok behind
+    (before_end c.args.first.indent (lines_view c.in_ok-value.left.now) (ap lines_view c.in_default.ensures)) c.items.invariant.is
+    c.in_ok-value.ensures.read
 
 pub sequence-returns-then-next-first-clause-read : goal.sequence-returns-then-next-first-clause-read
 sequence-returns-then-next-first-clause-read t c =
     let dash : Dashed = record { columns = c.in_ok-columns.columns; tab = c.in_ok-columns.tab; behind = c.in_ok-columns.behind.now } in
     let behind : length c.in_ok-columns.behind.now < length c.items.at.line.content.now = omega (arith, c.in_ok-columns.ensures.within) in
     let all = pushed_item c.push.new.self.items c.items.items.items c.in_ok-value.value c.in_ok-push.ensures.items in
-    items_end (map view c.items.items.items) (map view c.push.new.self.items) (line_view c.items.at.line) (lines_view c.items.at.rest.now) dash (view c.in_ok-value.value) (lines_view c.in_ok-value.left.now) all c.in_ok-columns.ensures.ok behind (before_first c.args.first.indent (lines_view c.in_ok-value.left.now) (line_view c.in-Some.next) (lines_view c.in-Some.after.now) (ap lines_view c.in-Some.ensures) c.if-next-first.true) c.items.invariant.is c.in_ok-value.ensures.read
+    items_end (map view c.items.items.items) (map view c.push.new.self.items) (line_view c.items.at.line) (lines_view c.items.at.rest.now) dash
+    (view c.in_ok-value.value) (lines_view c.in_ok-value.left.now) all c.in_ok-columns.ensures.ok behind
+    (before_first c.args.first.indent (lines_view c.in_ok-value.left.now) (line_view c.in-Some.next) (lines_view c.in-Some.after.now)
+    (ap lines_view c.in-Some.ensures) c.if-next-first.true) c.items.invariant.is c.in_ok-value.ensures.read
 
 pub sequence-returns-then-next-first-2-clause-read : goal.sequence-returns-then-next-first-2-clause-read
 sequence-returns-then-next-first-2-clause-read t c w =
     let dash : Dashed = record { columns = c.in_ok-columns.columns; tab = c.in_ok-columns.tab; behind = c.in_ok-columns.behind.now } in
     let behind : length c.in_ok-columns.behind.now < length c.items.at.line.content.now = omega (arith, c.in_ok-columns.ensures.within) in
-    items_deeper (map view c.items.items.items) (line_view c.items.at.line) (lines_view c.items.at.rest.now) dash (view c.in_ok-value.value) (lines_view c.in_ok-value.left.now) (line_view c.in-Some.next) (lines_view c.in-Some.after.now) c.in_ok-columns.ensures.ok behind (ap lines_view c.in-Some.ensures) c.if-next-first-2.true c.items.invariant.is c.in_ok-value.ensures.read
+    items_deeper (map view c.items.items.items) (line_view c.items.at.line) (lines_view c.items.at.rest.now) dash (view c.in_ok-value.value)
+    (lines_view c.in_ok-value.left.now) (line_view c.in-Some.next) (lines_view c.in-Some.after.now) c.in_ok-columns.ensures.ok behind
+    (ap lines_view c.in-Some.ensures) c.if-next-first-2.true c.items.invariant.is c.in_ok-value.ensures.read
 
 pub sequence-returns-then-not-is_dash-clause-read : goal.sequence-returns-then-not-is_dash-clause-read
 sequence-returns-then-not-is_dash-clause-read t c =
@@ -181,7 +264,10 @@ sequence-returns-then-not-is_dash-clause-read t c =
     let behind : length c.in_ok-columns.behind.now < length c.items.at.line.content.now = omega (arith, c.in_ok-columns.ensures.within) in
     let all = pushed_item c.push.new.self.items c.items.items.items c.in_ok-value.value c.in_ok-push.ensures.items in
     let level : c.in-Some.next.indent ≡ c.args.first.indent = omega (arith, c.if-next-first.false, c.if-next-first-2.false) in
-    items_beside (map view c.items.items.items) (map view c.push.new.self.items) (line_view c.items.at.line) (lines_view c.items.at.rest.now) dash (view c.in_ok-value.value) (lines_view c.in_ok-value.left.now) (line_view c.in-Some.next) (lines_view c.in-Some.after.now) all c.in_ok-columns.ensures.ok behind (ap lines_view c.in-Some.ensures) level (sym c.is_dash.ensures ∙ c.if-not-is_dash.true) c.items.invariant.is c.in_ok-value.ensures.read
+    items_beside (map view c.items.items.items) (map view c.push.new.self.items) (line_view c.items.at.line) (lines_view c.items.at.rest.now) dash
+    (view c.in_ok-value.value) (lines_view c.in_ok-value.left.now) (line_view c.in-Some.next) (lines_view c.in-Some.after.now) all
+    c.in_ok-columns.ensures.ok behind (ap lines_view c.in-Some.ensures) level (sym c.is_dash.ensures ∙ c.if-not-is_dash.true) c.items.invariant.is
+    c.in_ok-value.ensures.read
 
 pub sequence-items-preserved : goal.sequence-items-preserved
 sequence-items-preserved t c =
@@ -191,7 +277,10 @@ sequence-items-preserved t c =
     let level : c.in-Some.next.indent ≡ c.args.first.indent = omega (arith, c.if-next-first.false, c.if-next-first-2.false) in
     let lighter = ap (λ ls. weight (lines_view ls)) c.in-Some.ensures in
     record {
-      is = items_on (map view c.items.items.items) (map view c.push.new.self.items) (line_view c.items.at.line) (lines_view c.items.at.rest.now) dash (view c.in_ok-value.value) (lines_view c.in_ok-value.left.now) (line_view c.in-Some.next) (lines_view c.in-Some.after.now) all c.in_ok-columns.ensures.ok behind (ap lines_view c.in-Some.ensures) level (sym c.is_dash.ensures ∙ c.if-not-is_dash.false) c.in_ok-value.ensures.shorter c.items.invariant.is c.in_ok-value.ensures.read;
+      is = items_on (map view c.items.items.items) (map view c.push.new.self.items) (line_view c.items.at.line) (lines_view c.items.at.rest.now) dash
+          (view c.in_ok-value.value) (lines_view c.in_ok-value.left.now) (line_view c.in-Some.next) (lines_view c.in-Some.after.now) all
+          c.in_ok-columns.ensures.ok behind (ap lines_view c.in-Some.ensures) level (sym c.is_dash.ensures ∙ c.if-not-is_dash.false)
+          c.in_ok-value.ensures.shorter c.items.invariant.is c.in_ok-value.ensures.read;
       level = level;
       shorter = omega (arith, c.in_ok-value.ensures.shorter, c.items.invariant.shorter, lighter);
       within = omega (arith, c.in_ok-value.ensures.shorter, c.items.invariant.within, lighter);
@@ -199,42 +288,62 @@ sequence-items-preserved t c =
 
 pub value-returns-then-not-is_empty-clause-read : goal.value-returns-then-not-is_empty-clause-read
 value-returns-then-not-is_empty-clause-read t c =
-    gives_on (λ (o : Option (Got Line Tree)). value_here (start_of c.args.behind.now) c.args.depth (line_view c.args.line) c.args.behind.now (lines_view c.args.rest.now) ≡ o) (ValueIs c.args.depth (line_view c.args.line) c.args.behind.now (lines_view c.args.rest.now)) view lines_view c.value_here.result
+    gives_on (λ (o : Option (Got Line Tree)). value_here (start_of c.args.behind.now) c.args.depth (line_view c.args.line) c.args.behind.now
+    (lines_view c.args.rest.now) ≡ o) (ValueIs c.args.depth (line_view c.args.line) c.args.behind.now (lines_view c.args.rest.now)) view lines_view
+    c.value_here.result
     (λ o h. value_on_line o (not_empty c.args.behind.now c.is_empty.result c.if-not-is_empty.true c.is_empty.ensures) h) c.value_here.ensures.read
 
 pub value-returns-in_default-clause-read : goal.value-returns-in_default-clause-read
 value-returns-in_default-clause-read t c =
     let text = c.make_text.ensures ∙ ap (λ (cs : List ℕ). Text c.args.line.number false cs) c.new.ensures.items in
-    rw text (value_end (lines_view c.skip-below.result.now) (empty_nil c.args.behind.now c.is_empty.result c.if-not-is_empty.false c.is_empty.ensures) c.skip-below.ensures.value (ap lines_view c.in_default.ensures))
+    rw text (value_end (lines_view c.skip-below.result.now) (empty_nil c.args.behind.now c.is_empty.result c.if-not-is_empty.false c.is_empty.ensures)
+    c.skip-below.ensures.value (ap lines_view c.in_default.ensures))
 
 pub value-returns-then-first-line-clause-read : goal.value-returns-then-first-line-clause-read
 value-returns-then-first-line-clause-read t c =
-    gives_on (NodeIs c.args.depth (c.args.line.indent + 1) (line_view c.in-Some.first) (lines_view c.in-Some.others.now)) (ValueIs c.args.depth (line_view c.args.line) c.args.behind.now (lines_view c.args.rest.now)) view lines_view c.node.result
-    (λ o h. value_deep (lines_view c.skip-below.result.now) (line_view c.in-Some.first) (lines_view c.in-Some.others.now) o (empty_nil c.args.behind.now c.is_empty.result c.if-not-is_empty.false c.is_empty.ensures) c.skip-below.ensures.value (ap lines_view c.in-Some.ensures) c.if-first-line.true h) c.node.ensures.read
+    gives_on (NodeIs c.args.depth (c.args.line.indent + 1) (line_view c.in-Some.first) (lines_view c.in-Some.others.now))
+    (ValueIs c.args.depth (line_view c.args.line) c.args.behind.now (lines_view c.args.rest.now)) view lines_view c.node.result
+    (λ o h. value_deep (lines_view c.skip-below.result.now) (line_view c.in-Some.first) (lines_view c.in-Some.others.now) o
+    (empty_nil c.args.behind.now c.is_empty.result c.if-not-is_empty.false c.is_empty.ensures) c.skip-below.ensures.value
+    (ap lines_view c.in-Some.ensures) c.if-first-line.true h) c.node.ensures.read
 
 pub value-returns-then-first-line-2-clause-read : goal.value-returns-then-first-line-2-clause-read
 value-returns-then-first-line-2-clause-read t c =
     let text = c.make_text-then-first-line-2.ensures ∙ ap (λ (cs : List ℕ). Text c.args.line.number false cs) c.new-then-first-line-2.ensures.items in
-    rw text (value_above (lines_view c.skip-below.result.now) (line_view c.in-Some.first) (lines_view c.in-Some.others.now) (empty_nil c.args.behind.now c.is_empty.result c.if-not-is_empty.false c.is_empty.ensures) c.skip-below.ensures.value (ap lines_view c.in-Some.ensures) c.if-first-line-2.true)
+    rw text (value_above (lines_view c.skip-below.result.now) (line_view c.in-Some.first) (lines_view c.in-Some.others.now)
+    (empty_nil c.args.behind.now c.is_empty.result c.if-not-is_empty.false c.is_empty.ensures) c.skip-below.ensures.value
+    (ap lines_view c.in-Some.ensures) c.if-first-line-2.true)
 
 pub value-returns-then-not-is_dash-clause-read : goal.value-returns-then-not-is_dash-clause-read
 value-returns-then-not-is_dash-clause-read t c =
     let text = c.make_text-then-not-is_dash.ensures ∙ ap (λ (cs : List ℕ). Text c.args.line.number false cs) c.new-then-not-is_dash.ensures.items in
-    rw text (value_beside (lines_view c.skip-below.result.now) (line_view c.in-Some.first) (lines_view c.in-Some.others.now) (empty_nil c.args.behind.now c.is_empty.result c.if-not-is_empty.false c.is_empty.ensures) c.skip-below.ensures.value (ap lines_view c.in-Some.ensures) c.if-first-line.false (sym c.is_dash.ensures ∙ c.if-not-is_dash.true))
+    rw text (value_beside (lines_view c.skip-below.result.now) (line_view c.in-Some.first) (lines_view c.in-Some.others.now)
+    (empty_nil c.args.behind.now c.is_empty.result c.if-not-is_empty.false c.is_empty.ensures) c.skip-below.ensures.value
+    (ap lines_view c.in-Some.ensures) c.if-first-line.false (sym c.is_dash.ensures ∙ c.if-not-is_dash.true))
 
 pub value-returns-then-depth-eq0-clause-read : goal.value-returns-then-depth-eq0-clause-read
 value-returns-then-depth-eq0-clause-read t c w =
     let level : c.in-Some.first.indent ≡ c.args.line.indent = omega (arith, c.if-first-line.false, c.if-first-line-2.false) in
-    value_limit (lines_view c.skip-below.result.now) (line_view c.in-Some.first) (lines_view c.in-Some.others.now) (empty_nil c.args.behind.now c.is_empty.result c.if-not-is_empty.false c.is_empty.ensures) c.skip-below.ensures.value (ap lines_view c.in-Some.ensures) level (sym c.is_dash.ensures ∙ c.if-not-is_dash.false) c.if-depth-eq0.true
+    value_limit (lines_view c.skip-below.result.now) (line_view c.in-Some.first) (lines_view c.in-Some.others.now)
+    (empty_nil c.args.behind.now c.is_empty.result c.if-not-is_empty.false c.is_empty.ensures) c.skip-below.ensures.value
+    (ap lines_view c.in-Some.ensures) level (sym c.is_dash.ensures ∙ c.if-not-is_dash.false) c.if-depth-eq0.true
 
 pub value-returns-in_err-items-clause-read : goal.value-returns-in_err-items-clause-read
 value-returns-in_err-items-clause-read t c =
     let p = err_from_is_err_and c.from_residual.result c.from_residual.ensures.1 in
     let level : c.in-Some.first.indent ≡ c.args.line.indent = omega (arith, c.if-first-line.false, c.if-first-line-2.false) in
-    rw (p.1, p.2) (fails_on (ItemsIs (c.args.depth - 1) c.in-Some.first.indent (line_view c.in-Some.first) (lines_view c.in-Some.others.now)) (ValueIs c.args.depth (line_view c.args.line) c.args.behind.now (lines_view c.args.rest.now)) c.in_err-items.field-0.0
-    (value_level (lines_view c.skip-below.result.now) (line_view c.in-Some.first) (lines_view c.in-Some.others.now) None (empty_nil c.args.behind.now c.is_empty.result c.if-not-is_empty.false c.is_empty.ensures) c.skip-below.ensures.value (ap lines_view c.in-Some.ensures) level (sym c.is_dash.ensures ∙ c.if-not-is_dash.false) c.if-depth-eq0.false) c.in_err-items.ensures.read)
+    rw (p.1, p.2) (fails_on (ItemsIs (c.args.depth - 1) c.in-Some.first.indent (line_view c.in-Some.first) (lines_view c.in-Some.others.now))
+    (ValueIs c.args.depth (line_view c.args.line) c.args.behind.now (lines_view c.args.rest.now)) c.in_err-items.field-0.0
+    (value_level (lines_view c.skip-below.result.now) (line_view c.in-Some.first) (lines_view c.in-Some.others.now) None
+    (empty_nil c.args.behind.now c.is_empty.result c.if-not-is_empty.false c.is_empty.ensures) c.skip-below.ensures.value
+    (ap lines_view c.in-Some.ensures) level (sym c.is_dash.ensures ∙ c.if-not-is_dash.false) c.if-depth-eq0.false) c.in_err-items.ensures.read)
 
 pub value-returns-clause-read : goal.value-returns-clause-read
 value-returns-clause-read t c =
     let level : c.in-Some.first.indent ≡ c.args.line.indent = omega (arith, c.if-first-line.false, c.if-first-line-2.false) in
-    rw c.make_list.ensures (value_level (lines_view c.skip-below.result.now) (line_view c.in-Some.first) (lines_view c.in-Some.others.now) (got (items_of (map view c.in_ok-items.items.items)) (lines_view c.in_ok-items.left.now)) (empty_nil c.args.behind.now c.is_empty.result c.if-not-is_empty.false c.is_empty.ensures) c.skip-below.ensures.value (ap lines_view c.in-Some.ensures) level (sym c.is_dash.ensures ∙ c.if-not-is_dash.false) c.if-depth-eq0.false c.in_ok-items.ensures.read)
+    rw c.make_list.ensures
+    (value_level (lines_view c.skip-below.result.now) (line_view c.in-Some.first) (lines_view c.in-Some.others.now)
+    (got (items_of (map view c.in_ok-items.items.items)) (lines_view c.in_ok-items.left.now))
+    (empty_nil c.args.behind.now c.is_empty.result c.if-not-is_empty.false c.is_empty.ensures) c.skip-below.ensures.value
+    (ap lines_view c.in-Some.ensures) level (sym c.is_dash.ensures ∙ c.if-not-is_dash.false) c.if-depth-eq0.false
+    c.in_ok-items.ensures.read)

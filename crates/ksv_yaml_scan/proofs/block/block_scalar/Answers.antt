@@ -8,4 +8,5 @@ pub returns-clause-ok : goal.returns-clause-ok
 returns-clause-ok c =
     let joined = c.in_ok-text.field-0 in
     block_is c.args.folded c.args.keep joined.ended (lines_view c.args.lines.now) c.in-Some.first.indent joined.text.items c.push_end.new.text.items
-    c.in-Some.ensures.indent c.in_default-shallow_line.ensures (sym c.is_led.ensures ∙ c.if-not-is_led.false) c.in_ok-text.ensures.text c.in_ok-text.ensures.ended c.in_ok-push_end.ensures
+    c.in-Some.ensures.indent c.in_default-shallow_line.ensures (sym c.is_led.ensures ∙ c.if-not-is_led.false) c.in_ok-text.ensures.text
+    c.in_ok-text.ensures.ended c.in_ok-push_end.ensures

@@ -18,4 +18,5 @@ pub returns-in-None-clause-cut : goal.returns-in-None-clause-cut
 returns-in-None-clause-cut c =
     let text = c.args.text.now in
     cut_only text (grind (arith, common_steps)) c.in-None.ensures
-    ∙ ap (λ (ys : List ℕ). raw text false ∷ cut_lines ys) (let e : take (length text - length text) (drop (length text) text) ≡ [] = grind (arith, common_steps) in sym e)
+    ∙ ap (λ (ys : List ℕ). raw text false ∷ cut_lines ys)
+    (let e : take (length text - length text) (drop (length text) text) ≡ [] = grind (arith, common_steps) in sym e)

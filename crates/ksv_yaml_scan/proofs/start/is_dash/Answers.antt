@@ -9,13 +9,17 @@ use Rattle.ksv_yaml_scan.proofs.start.is_dash.Goals as goal
 
 -- a dash, and what stands behind it
 behind_dash : (cs rest : List ℕ) (c : ℕ) (b : Bool) → cs ≡ c ∷ rest → c ≡ 45 → b ≡ white_or_end rest → b ≡ is_dash (start_of cs)
-behind_dash cs rest c b e h w = sym (ap (λ (cs : List ℕ). is_dash (start_of cs)) e ∙ dash_at c rest b (ap (λ (d : Bool). d && white_or_end rest) (same_byte c 45 h) ∙ sym w))
+behind_dash cs rest c b e h w =
+    sym (ap (λ (cs : List ℕ). is_dash (start_of cs)) e ∙ dash_at c rest b (ap (λ (d : Bool). d && white_or_end rest) (same_byte c 45 h) ∙ sym w))
 
 no_dash : (cs rest : List ℕ) (c : ℕ) → cs ≡ c ∷ rest → (c ≡ 45 → ⊥) → (c == 45) ≡ is_dash (start_of cs)
-no_dash cs rest c e h = other_byte c 45 h ∙ sym (ap (λ (cs : List ℕ). is_dash (start_of cs)) e ∙ dash_at c rest false (and_left (c == 45) (white_or_end rest) (other_byte c 45 h)))
+no_dash cs rest c e h =
+    other_byte c 45 h ∙ sym
+    (ap (λ (cs : List ℕ). is_dash (start_of cs)) e ∙ dash_at c rest false (and_left (c == 45) (white_or_end rest) (other_byte c 45 h)))
 
 pub returns-then-byte-eq45 : goal.returns-then-byte-eq45
-returns-then-byte-eq45 c = behind_dash c.args.content.now c.in-Some.rest.now c.in-Some.byte c.is_white_or_end.result c.in-Some.ensures c.if-byte-eq45.true c.is_white_or_end.ensures
+returns-then-byte-eq45 c = behind_dash c.args.content.now c.in-Some.rest.now c.in-Some.byte c.is_white_or_end.result c.in-Some.ensures c.if-byte-eq45.true
+    c.is_white_or_end.ensures
 
 pub returns-else-byte-eq45 : goal.returns-else-byte-eq45
 returns-else-byte-eq45 c = no_dash c.args.content.now c.in-Some.rest.now c.in-Some.byte c.in-Some.ensures c.if-byte-eq45.false

@@ -25,5 +25,6 @@ returns-clause-small c =
     let few : length (front ++ back) ≤ 9 = c.requires in
     let most : 256 ^ length (front ++ back) ≤ 256 ^ 9 = pow-le-pow_right {n = 256} (lit< tt) {i = length (front ++ back)} {j = 9} few in
     let first : c.with_bytes-front.result ≡ number_of (bits_of front) = omega (arith, c.with_bytes-front.ensures) in
-    let whole : c.with_bytes.result ≡ number_of (bits_of (front ++ back)) = c.with_bytes.ensures ∙ ap (λ n. n * 256 ^ length back + number_of (bits_of back)) first ∙ sym (bytes_joined front back) in
+    let whole : c.with_bytes.result ≡ number_of (bits_of (front ++ back)) =
+    c.with_bytes.ensures ∙ ap (λ n. n * 256 ^ length back + number_of (bits_of back)) first ∙ sym (bytes_joined front back) in
     omega (arith, most, bytes_small (front ++ back), whole)

@@ -13,12 +13,14 @@ overflow_shl-result c = omega (arith, few_between c.args.from c.args.to (length 
 
 pub nonzero_rem-result : goal.nonzero_rem-result
 nonzero_rem-result c =
-    let few : c.bits_to.result ≤ 72 = omega (arith, few_between c.args.from c.args.to (length (content c.args.self)) c.requires.met, c.requires.few, c.bits_to.ensures) in
+    let few : c.bits_to.result ≤ 72 =
+    omega (arith, few_between c.args.from c.args.to (length (content c.args.self)) c.requires.met, c.requires.few, c.bits_to.ensures) in
     omega (arith, count_unit c.bits_to.result few, pow_pos c.bits_to.result)
 
 pub returns-clause-value : goal.returns-clause-value
 returns-clause-value c =
-    let few : c.bits_to.result ≤ 72 = omega (arith, few_between c.args.from c.args.to (length (content c.args.self)) c.requires.met, c.requires.few, c.bits_to.ensures) in
+    let few : c.bits_to.result ≤ 72 =
+    omega (arith, few_between c.args.from c.args.to (length (content c.args.self)) c.requires.met, c.requires.few, c.bits_to.ensures) in
     ap (λ n. c.number.result / 2 ^ c.bits_left.result % n) (count_unit c.bits_to.result few)
     ∙ ap (λ n. n / 2 ^ c.bits_left.result % 2 ^ c.bits_to.result) c.number.ensures.value
     ∙ ap (λ n. number_of (bits_of (content c.args.self)) / 2 ^ n % 2 ^ c.bits_to.result) c.bits_left.ensures

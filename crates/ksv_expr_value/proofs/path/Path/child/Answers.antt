@@ -18,11 +18,16 @@ with-requires c =
 pub invariant_of-result : goal.invariant_of-result
 invariant_of-result c =
     let up : reverse c.self.inside.steps ≡ c.args.self.now.upward = ap (λ (t : Trail). t.upward) c.self.view_is in
-    let few : length (reverse c.self.inside.steps) < 64 = rw up (omega (arith, c.len-len.ensures.len, c.len-len.ensures.small, c.if-len-eq-MAX_STEPS.false)) in
-    (fits-push c.self.inside.steps c.args.step c.in_ok-steps.steps c.in_ok-steps.ensures (fits-more c.args.step (reverse c.self.inside.steps) c.requires c.self.inside.valid few), tt)
+    let few : length (reverse c.self.inside.steps) < 64 =
+    rw up (omega (arith, c.len-len.ensures.len, c.len-len.ensures.small, c.if-len-eq-MAX_STEPS.false)) in (
+      fits-push c.self.inside.steps c.args.step c.in_ok-steps.steps c.in_ok-steps.ensures
+          (fits-more c.args.step (reverse c.self.inside.steps) c.requires c.self.inside.valid few),
+      tt,
+    )
 
 pub returns : goal.returns
 returns c =
     let up : reverse c.self.inside.steps ≡ c.args.self.now.upward = ap (λ (t : Trail). t.upward) c.self.view_is in
-    let seen : reverse c.in_ok-steps.steps ≡ c.args.step ∷ c.args.self.now.upward = ap reverse c.in_ok-steps.ensures ∙ reverse-push c.self.inside.steps c.args.step ∙ ap (λ q. c.args.step ∷ q) up in
+    let seen : reverse c.in_ok-steps.steps ≡ c.args.step ∷ c.args.self.now.upward =
+    ap reverse c.in_ok-steps.ensures ∙ reverse-push c.self.inside.steps c.args.step ∙ ap (λ q. c.args.step ∷ q) up in
     sym (trail_of-true _) ∙ ap trail_of seen

@@ -14,14 +14,16 @@ returns-in-Ok-Answered-Ok-clause-kept g c =
     let w = on (g.R.Rules.meaning c.args.rules.now) c.args.bytes.now in
     let ms = done w [] c.args.node in
     let all = c.ask.new.self.table.kept in
-    subst (λ es. AreExactly w (nodes_of all) (nodes_of es ++ ms)) (ap (λ v. v.kept) c.self.view_is) (exactly w c.self.inside.machine.table.kept all ms c.in-Ok-Answered-Ok.ensures.right c.in-Ok-Answered-Ok.ensures.kept)
+    subst (λ es. AreExactly w (nodes_of all) (nodes_of es ++ ms)) (ap (λ v. v.kept) c.self.view_is)
+    (exactly w c.self.inside.machine.table.kept all ms c.in-Ok-Answered-Ok.ensures.right c.in-Ok-Answered-Ok.ensures.kept)
 
 pub returns-in-Ok-Answered-Err-clause-kept : goal.returns-in-Ok-Answered-Err-clause-kept
 returns-in-Ok-Answered-Err-clause-kept g c =
     let w = on (g.R.Rules.meaning c.args.rules.now) c.args.bytes.now in
     let ms = done w [] c.args.node in
     let all = c.ask.new.self.table.kept in
-    subst (λ es. AreExactly w (nodes_of all) (nodes_of es ++ ms)) (ap (λ v. v.kept) c.self.view_is) (exactly w c.self.inside.machine.table.kept all ms c.in-Ok-Answered-Err.ensures.right c.in-Ok-Answered-Err.ensures.kept)
+    subst (λ es. AreExactly w (nodes_of all) (nodes_of es ++ ms)) (ap (λ v. v.kept) c.self.view_is)
+    (exactly w c.self.inside.machine.table.kept all ms c.in-Ok-Answered-Err.ensures.right c.in-Ok-Answered-Err.ensures.kept)
 
 pub returns-in-Ok-Circle-clause-kept : goal.returns-in-Ok-Circle-clause-kept
 returns-in-Ok-Circle-clause-kept g c =
@@ -29,7 +31,8 @@ returns-in-Ok-Circle-clause-kept g c =
     let ms = done w [] c.args.node in
     let all = c.ask.new.self.table.kept in
     subst (λ t. AreExactly w (nodes_of t.kept) (nodes_of c.args.self.now.kept ++ ms)) (sym c.stop.ensures.table)
-    (subst (λ es. AreExactly w (nodes_of all) (nodes_of es ++ ms)) (ap (λ v. v.kept) c.self.view_is) (exactly w c.self.inside.machine.table.kept all ms c.in-Ok-Circle.ensures.right c.in-Ok-Circle.ensures.kept))
+    (subst (λ es. AreExactly w (nodes_of all) (nodes_of es ++ ms)) (ap (λ v. v.kept) c.self.view_is)
+    (exactly w c.self.inside.machine.table.kept all ms c.in-Ok-Circle.ensures.right c.in-Ok-Circle.ensures.kept))
 
 pub returns-in-Err-clause-refused : goal.returns-in-Err-clause-refused
 returns-in-Err-clause-refused g c =
@@ -37,28 +40,37 @@ returns-in-Err-clause-refused g c =
     let ms = done w [] c.args.node in
     let all = c.ask.new.self.table.kept in
     subst (λ t. AreBetween w (nodes_of c.args.self.now.kept) (nodes_of t.kept) (nodes_of c.args.self.now.kept ++ ms)) (sym c.stop-in-Err.ensures.table)
-    (subst (λ es. AreBetween w (nodes_of es) (nodes_of all) (nodes_of es ++ ms)) (ap (λ v. v.kept) c.self.view_is) (between w c.self.inside.machine.table.kept all ms c.in-Err.ensures.left))
+    (subst (λ es. AreBetween w (nodes_of es) (nodes_of all) (nodes_of es ++ ms)) (ap (λ v. v.kept) c.self.view_is)
+    (between w c.self.inside.machine.table.kept all ms c.in-Err.ensures.left))
 
 pub invariant_of-self : goal.invariant_of-self
 invariant_of-self g c = record {
   opened = c.in-Ok-Answered-Ok.ensures.opened;
-  ends = subst (λ n. AllEndBy n c.ask.new.self.table.kept) (sym c.len-self-inside.ensures.len) (right-ends (g.R.Rules.meaning c.args.rules.now) (g.met.R.Rules.lawful c.args.rules.now) c.args.bytes.now c.ask.new.self.table.kept c.in-Ok-Answered-Ok.ensures.right);
+  ends = subst (λ n. AllEndBy n c.ask.new.self.table.kept) (sym c.len-self-inside.ensures.len)
+      (right-ends (g.R.Rules.meaning c.args.rules.now) (g.met.R.Rules.lawful c.args.rules.now) c.args.bytes.now c.ask.new.self.table.kept
+      c.in-Ok-Answered-Ok.ensures.right);
 }
 
 pub invariant_of-self-in-Ok-Answered-Err : goal.invariant_of-self-in-Ok-Answered-Err
 invariant_of-self-in-Ok-Answered-Err g c = record {
   opened = c.in-Ok-Answered-Err.ensures.opened;
-  ends = subst (λ n. AllEndBy n c.ask.new.self.table.kept) (sym c.len-self-inside.ensures.len) (right-ends (g.R.Rules.meaning c.args.rules.now) (g.met.R.Rules.lawful c.args.rules.now) c.args.bytes.now c.ask.new.self.table.kept c.in-Ok-Answered-Err.ensures.right);
+  ends = subst (λ n. AllEndBy n c.ask.new.self.table.kept) (sym c.len-self-inside.ensures.len)
+      (right-ends (g.R.Rules.meaning c.args.rules.now) (g.met.R.Rules.lawful c.args.rules.now) c.args.bytes.now c.ask.new.self.table.kept
+      c.in-Ok-Answered-Err.ensures.right);
 }
 
 pub invariant_of-self-in-Ok-Circle : goal.invariant_of-self-in-Ok-Circle
 invariant_of-self-in-Ok-Circle g c = subst (λ t. IsResting (nodes t) c.len-self-inside.result) (sym c.stop.ensures.table) (record {
   opened = c.in-Ok-Circle.ensures.opened;
-  ends = subst (λ n. AllEndBy n c.ask.new.self.table.kept) (sym c.len-self-inside.ensures.len) (right-ends (g.R.Rules.meaning c.args.rules.now) (g.met.R.Rules.lawful c.args.rules.now) c.args.bytes.now c.ask.new.self.table.kept c.in-Ok-Circle.ensures.right);
+  ends = subst (λ n. AllEndBy n c.ask.new.self.table.kept) (sym c.len-self-inside.ensures.len)
+      (right-ends (g.R.Rules.meaning c.args.rules.now) (g.met.R.Rules.lawful c.args.rules.now) c.args.bytes.now c.ask.new.self.table.kept
+      c.in-Ok-Circle.ensures.right);
 })
 
 pub invariant_of-self-in-Err : goal.invariant_of-self-in-Err
 invariant_of-self-in-Err g c = subst (λ t. IsResting (nodes t) c.len-self-inside.result) (sym c.stop-in-Err.ensures.table) (record {
   opened = c.in-Err.ensures.opened;
-  ends = subst (λ n. AllEndBy n c.ask.new.self.table.kept) (sym c.len-self-inside.ensures.len) (right-ends (g.R.Rules.meaning c.args.rules.now) (g.met.R.Rules.lawful c.args.rules.now) c.args.bytes.now c.ask.new.self.table.kept c.in-Err.ensures.right);
+  ends = subst (λ n. AllEndBy n c.ask.new.self.table.kept) (sym c.len-self-inside.ensures.len)
+      (right-ends (g.R.Rules.meaning c.args.rules.now) (g.met.R.Rules.lawful c.args.rules.now) c.args.bytes.now c.ask.new.self.table.kept
+      c.in-Err.ensures.right);
 })

@@ -13,7 +13,8 @@ use Rattle.ksv_memo.proofs.engine.Engine.forget.Goals as goal
 pub returns-clause-right : goal.returns-clause-right
 returns-clause-right g c rules before after right made =
     let view = ap (λ v. v.kept) c.self.view_is in
-    forgets-right (g.R.Rules.meaning rules) (g.met.R.Rules.lawful rules) c.args.change before after made (pages_to c.self.inside.reach) c.self.inside.machine.table.kept c.forget-self-inside.new.self.kept c.forget-self-inside.result c.forget-self-inside.ensures.kept
+    forgets-right (g.R.Rules.meaning rules) (g.met.R.Rules.lawful rules) c.args.change before after made (pages_to c.self.inside.reach)
+    c.self.inside.machine.table.kept c.forget-self-inside.new.self.kept c.forget-self-inside.result c.forget-self-inside.ensures.kept
     (subst (IsRight (on (g.R.Rules.meaning rules) before)) (sym view) right)
 
 pub returns-clause-left : goal.returns-clause-left
@@ -22,12 +23,14 @@ returns-clause-left g c rules before right =
     let view = ap (λ v. v.kept) c.self.view_is in
     let law = law_on (g.R.Rules.meaning rules) (g.met.R.Rules.lawful rules) before in
     subst (λ es. AreExactly w (nodes_of c.forget-self-inside.new.self.kept) (left_after w c.args.change (nodes_of es))) view
-    (forgets w law c.args.change (pages_to c.self.inside.reach) c.self.inside.machine.table.kept c.forget-self-inside.new.self.kept c.forget-self-inside.result (subst (IsRight w) (sym view) right) c.forget-self-inside.ensures.kept).1
+    (forgets w law c.args.change (pages_to c.self.inside.reach) c.self.inside.machine.table.kept c.forget-self-inside.new.self.kept c.forget-self-inside.result
+    (subst (IsRight w) (sym view) right) c.forget-self-inside.ensures.kept).1
 
 pub returns-clause-kept : goal.returns-clause-kept
 returns-clause-kept g c =
     subst (λ es. AllByRecursion (Contains es) c.forget-self-inside.new.self.kept) (ap (λ v. v.kept) c.self.view_is)
-    (forgets-kept c.args.change (pages_to c.self.inside.reach) c.self.inside.machine.table.kept c.forget-self-inside.new.self.kept c.forget-self-inside.result c.forget-self-inside.ensures.kept)
+    (forgets-kept c.args.change (pages_to c.self.inside.reach) c.self.inside.machine.table.kept c.forget-self-inside.new.self.kept c.forget-self-inside.result
+    c.forget-self-inside.ensures.kept)
 
 pub returns-clause-looked : goal.returns-clause-looked
 returns-clause-looked g c rules before after right made wrote =
@@ -35,7 +38,8 @@ returns-clause-looked g c rules before after right made wrote =
     let view = ap (λ v. v.kept) c.self.view_is in
     let law = law_on (g.R.Rules.meaning rules) (g.met.R.Rules.lawful rules) before in
     subst (λ es. LooksNear w c.args.change es c.forget-self-inside.result) view
-    (looks-near w law c.args.change (pages_to c.self.inside.reach) c.self.inside.machine.table.kept c.forget-self-inside.new.self.kept c.forget-self-inside.result (subst (IsRight w) (sym view) right) c.forget-self-inside.ensures.kept wrote)
+    (looks-near w law c.args.change (pages_to c.self.inside.reach) c.self.inside.machine.table.kept c.forget-self-inside.new.self.kept
+    c.forget-self-inside.result (subst (IsRight w) (sym view) right) c.forget-self-inside.ensures.kept wrote)
 
 pub returns-clause-behind : goal.returns-clause-behind
 returns-clause-behind g c rules before right moves =
@@ -43,7 +47,8 @@ returns-clause-behind g c rules before right moves =
     let law = law_on (g.R.Rules.meaning rules) (g.met.R.Rules.lawful rules) before in
     let reach = c.self.inside.reach in
     subst (λ v. LooksBehind w c.args.change v.reach v.kept c.forget-self-inside.result) c.self.view_is
-    (looks-behind w law c.args.change (pages_to reach) c.self.inside.machine.table.kept c.forget-self-inside.new.self.kept c.forget-self-inside.result (subst (λ v. IsRight w v.kept) (sym c.self.view_is) right) c.forget-self-inside.ensures.kept reach refl moves)
+    (looks-behind w law c.args.change (pages_to reach) c.self.inside.machine.table.kept c.forget-self-inside.new.self.kept c.forget-self-inside.result
+    (subst (λ v. IsRight w v.kept) (sym c.self.view_is) right) c.forget-self-inside.ensures.kept reach refl moves)
 
 pub returns-clause-reach : goal.returns-clause-reach
 returns-clause-reach g c before after made le =
@@ -54,7 +59,9 @@ returns-clause-reach g c before after made le =
 pub invariant_of-self : goal.invariant_of-self
 invariant_of-self g c = record {
   opened = c.forget-self-inside.ensures.opened;
-  ends = subst (λ n. AllEndBy n c.forget-self-inside.new.self.kept) (sym c.reach_after-self-inside.ensures) (left-ends c.args.change (pages_to c.self.inside.reach) c.self.inside.reach c.self.inside.machine.table.kept c.forget-self-inside.new.self.kept c.forget-self-inside.result c.forget-self-inside.ensures.kept c.self.invariant.ends);
+  ends = subst (λ n. AllEndBy n c.forget-self-inside.new.self.kept) (sym c.reach_after-self-inside.ensures)
+      (left-ends c.args.change (pages_to c.self.inside.reach) c.self.inside.reach c.self.inside.machine.table.kept c.forget-self-inside.new.self.kept
+      c.forget-self-inside.result c.forget-self-inside.ensures.kept c.self.invariant.ends);
 }
 
 pub forget-self-inside-requires-clause-within : goal.forget-self-inside-requires-clause-within

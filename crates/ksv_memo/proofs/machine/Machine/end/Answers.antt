@@ -24,4 +24,5 @@ returns-clause-ok g c =
     let laws = g.met.R.Node.Eq.laws in
     let exact = g.met.R.Rules.exact in
     let old = c.args.self.now.table in
-    closes_last w law eq laws exact old.kept old.opened c.args.answer c.in_ok-reply.reply (nodes c.close.new.self) c.requires.reached c.in_ok-close.ensures.ok c.requires.alone (c.in_ok-reply.ensures ∙ c.lend.ensures)
+    closes_last w law eq laws exact old.kept old.opened c.args.answer c.in_ok-reply.reply (nodes c.close.new.self) c.requires.reached c.in_ok-close.ensures.ok
+    c.requires.alone (c.in_ok-reply.ensures ∙ c.lend.ensures)

@@ -8,11 +8,13 @@ pub add-requires-clause-none : goal.add-requires-clause-none
 add-requires-clause-none g c =
     let t = c.self.inside in
     let eq = g.N.PartialEq.eq in
-    sym (any-zip (eq c.args.node.now) (g.P.Places.nodes t.places) t.slots.items c.self.invariant) ∙ ap (λ v. list_any (λ p. eq c.args.node.now p.0) v.entries) c.self.view_is ∙ c.requires.none
+    sym (any-zip (eq c.args.node.now) (g.P.Places.nodes t.places) t.slots.items c.self.invariant)
+    ∙ ap (λ v. list_any (λ p. eq c.args.node.now p.0) v.entries) c.self.view_is ∙ c.requires.none
 
 -- the node and its slot go last
 pub returns-clause-ok : goal.returns-clause-ok
 returns-clause-ok g c =
     let t = c.self.inside in
     let slots = c.push_reserved.ensures.items ∙ ap (λ ss. ss ++ Open ∷ []) c.reserve.ensures.items in
-    (λ i. zip (c.in_ok-add.ensures.ok i) (slots i)) ∙ push-zip (g.P.Places.nodes t.places) t.slots.items c.args.node.now Open c.self.invariant ∙ ap (λ v. v.entries ++ (c.args.node.now, Open) ∷ []) c.self.view_is
+    (λ i. zip (c.in_ok-add.ensures.ok i) (slots i)) ∙ push-zip (g.P.Places.nodes t.places) t.slots.items c.args.node.now Open c.self.invariant
+    ∙ ap (λ v. v.entries ++ (c.args.node.now, Open) ∷ []) c.self.view_is

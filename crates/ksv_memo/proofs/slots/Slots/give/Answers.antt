@@ -8,7 +8,8 @@ pub give-requires-clause-none : goal.give-requires-clause-none
 give-requires-clause-none g c =
     let t = c.self.inside in
     let eq = g.N.PartialEq.eq in
-    sym (any-zip (eq c.args.node.now) (g.P.Places.nodes t.places) t.slots.items c.self.invariant) ∙ ap (λ v. list_any (λ p. eq c.args.node.now p.0) v.entries) c.self.view_is ∙ c.requires.none
+    sym (any-zip (eq c.args.node.now) (g.P.Places.nodes t.places) t.slots.items c.self.invariant)
+    ∙ ap (λ v. list_any (λ p. eq c.args.node.now p.0) v.entries) c.self.view_is ∙ c.requires.none
 
 pub give-requires-clause-place_in : goal.give-requires-clause-place_in
 give-requires-clause-place_in g c =
@@ -29,4 +30,6 @@ write-requires g c =
 pub returns-clause-ok : goal.returns-clause-ok
 returns-clause-ok g c =
     let t = c.self.inside in
-    (λ i. zip (c.in_ok-give.ensures.ok i) (c.write.ensures i)) ∙ set-zip (g.P.Places.nodes t.places) t.slots.items c.args.place c.args.node.now Open c.self.invariant ∙ ap (λ v. slice_set v.entries c.args.place (c.args.node.now, Open)) c.self.view_is
+    (λ i. zip (c.in_ok-give.ensures.ok i) (c.write.ensures i))
+    ∙ set-zip (g.P.Places.nodes t.places) t.slots.items c.args.place c.args.node.now Open c.self.invariant
+    ∙ ap (λ v. slice_set v.entries c.args.place (c.args.node.now, Open)) c.self.view_is

@@ -16,7 +16,8 @@ write-requires g c =
 pub returns-clause-slots : goal.returns-clause-slots
 returns-clause-slots g c =
     let t = c.self.inside in
-    ap (zip (g.P.Places.nodes t.places)) c.write.ensures ∙ write-zip (g.P.Places.nodes t.places) t.slots.items c.args.place c.args.new ∙ ap (λ v. with_slot v.entries c.args.place c.args.new) c.self.view_is ∙ ap (λ es. with_slot es c.args.place c.args.new) c.look.ensures.entries
+    ap (zip (g.P.Places.nodes t.places)) c.write.ensures ∙ write-zip (g.P.Places.nodes t.places) t.slots.items c.args.place c.args.new
+    ∙ ap (λ v. with_slot v.entries c.args.place c.args.new) c.self.view_is ∙ ap (λ es. with_slot es c.args.place c.args.new) c.look.ensures.entries
 
 pub invariant_of-self : goal.invariant_of-self
 invariant_of-self g c = ap length c.write.ensures ∙ length-set c.self.inside.slots.items c.args.place c.args.new ∙ c.self.invariant

@@ -14,10 +14,12 @@ forget-requires-clause-idle g c = c.self.invariant.kept.idle
 pub forget-requires-clause-within : goal.forget-requires-clause-within
 forget-requires-clause-within g c moves =
     let t = c.self.inside in
-    kept-within c.args.pages t.slots.entries t.links c.self.invariant.kept (subst (λ v. AllByRecursion (λ e. AreWithin c.args.pages e.uses) v.kept) (sym c.self.view_is) c.requires.within)
+    kept-within c.args.pages t.slots.entries t.links c.self.invariant.kept
+    (subst (λ v. AllByRecursion (λ e. AreWithin c.args.pages e.uses) v.kept) (sym c.self.view_is) c.requires.within)
 
 pub empty_taken-requires-clause-inside : goal.empty_taken-requires-clause-inside
-empty_taken-requires-clause-inside g c = waits-in c.args.change c.self.inside.slots.entries c.self.inside.links c.forget.new.self c.self.invariant.kept c.forget.ensures.forgets
+empty_taken-requires-clause-inside g c = waits-in c.args.change c.self.inside.slots.entries c.self.inside.links c.forget.new.self c.self.invariant.kept
+    c.forget.ensures.forgets
 
 pub empty_taken-requires-clause-apart : goal.empty_taken-requires-clause-apart
 empty_taken-requires-clause-apart g c = c.forget.ensures.forgets.apart
@@ -30,8 +32,10 @@ invariant_of-self g c =
     let none : Frames _ = record { frames = t.frames.frames; asked = c.clear.new.self; uses = t.frames.uses; has_grown = t.frames.has_grown } in
     let e = c.empty_taken.ensures in
     record {
-      kept = swept-links c.args.change ps qs t.links c.forget.new.self c.empty_taken.new.links t.slots.looks c.empty_taken.new.slots.looks c.self.invariant.kept c.forget.ensures.forgets e;
-      waits = no-frames ps qs e.taken.opens t.frames none c.self.invariant.waits (ap (λ v. v.opened) c.self.view_is ∙ c.requires.opened) refl c.clear.ensures.items;
+      kept = swept-links c.args.change ps qs t.links c.forget.new.self c.empty_taken.new.links t.slots.looks c.empty_taken.new.slots.looks c.self.invariant.kept
+          c.forget.ensures.forgets e;
+      waits = no-frames ps qs e.taken.opens t.frames none c.self.invariant.waits (ap (λ v. v.opened) c.self.view_is ∙ c.requires.opened) refl
+          c.clear.ensures.items;
     }
 
 pub returns-clause-opened : goal.returns-clause-opened

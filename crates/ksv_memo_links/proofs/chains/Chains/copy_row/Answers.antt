@@ -11,7 +11,8 @@ copy_block-requires c k lt =
     let n = named-length i.entries.items i.blocks.items in
     let e = ap (λ x. length x.named) c.self.view_is in
     let o = c.requires in
-    let read : c.index.result.now ≡ block_at i.blocks.items c.args.owner = get_or_read i.blocks.items c.args.owner c.index.result.now (omega arith) c.index.ensures (record { begin = 0; count = 0 }) in
+    let read : c.index.result.now ≡ block_at i.blocks.items c.args.owner =
+    get_or_read i.blocks.items c.args.owner c.index.result.now (omega arith) c.index.ensures (record { begin = 0; count = 0 }) in
     let b = ap (λ (x : Block). x.begin) read in
     let m = ap (λ (x : Block). x.count) read in
     let s = ap (λ (xs : List _). length xs) c.as_slice.ensures.value in

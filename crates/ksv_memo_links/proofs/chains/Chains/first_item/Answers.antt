@@ -25,4 +25,6 @@ returns-clause-result c =
 pub returns-clause-none : goal.returns-clause-none
 returns-clause-none c z =
     let P : Chained → Type 0 = λ x. c.index.result.now ≡ (item_at x.lists c.args.list 0).at → length (row x.lists c.args.list) ≤ 0 in
-    subst P c.self.view_is (no-item c.self.inside.entries.items c.self.inside.blocks.items c.self.inside.first.items c.self.invariant c.index.result.now c.args.list 0 (inl z)) (returns-clause-result c)
+    subst P c.self.view_is
+    (no-item c.self.inside.entries.items c.self.inside.blocks.items c.self.inside.first.items c.self.invariant c.index.result.now c.args.list 0 (inl z))
+    (returns-clause-result c)

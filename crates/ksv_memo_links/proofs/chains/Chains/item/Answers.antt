@@ -10,7 +10,12 @@ use Rattle.ksv_memo_links.proofs.chains.Chains.item.Goals.{then-at-eq0-via-then-
 pub returns-then-at-eq0-clause-none : goal.returns-then-at-eq0-clause-none
 returns-then-at-eq0-clause-none c slot i =
     let a = c.self.inside.entries.items in
-    let out : (c.args.at ≡ 0) ⊎ (length a ≤ c.args.at) = elim c.then-at-eq0.branch [ then-at-eq0-via-then-at-eq0 w ↦ inl (let k = w.if-at-eq0 in omega arith) | then-at-eq0-via-else-at-eq0+then-at-len w ↦ inr (let k = w.if-at-len in let n = w.len.ensures in omega arith) ] in
+    let out : (c.args.at ≡ 0) ⊎ (length a ≤ c.args.at) =
+    elim c.then-at-eq0.branch [
+      | then-at-eq0-via-then-at-eq0 w ↦ inl (let k = w.if-at-eq0 in omega arith)
+      | then-at-eq0-via-else-at-eq0+then-at-len w
+          ↦ inr (let k = w.if-at-len in let n = w.len.ensures in omega arith)
+    ] in
     let P : Chained → Type 0 = λ x. c.args.at ≡ (item_at x.lists slot i).at → length (row x.lists slot) ≤ i in
     subst P c.self.view_is (no-item a c.self.inside.blocks.items c.self.inside.first.items c.self.invariant c.args.at slot i out)
 
@@ -21,7 +26,10 @@ returns-clause-some c slot i =
     let k = c.if-at-len.false in
     let z = c.if-at-eq0.false in
     let some : c.args.at ≢ 0 = λ e. absurd (omega arith) in
-    let read : c.index-entry.result.now ≡ entry_at a c.args.at = get_or_read a c.args.at c.index-entry.result.now (omega arith) c.index-entry.ensures (record { owner = 0; list = 0; next = 0; before = 0 }) in
-    let P : Chained → Type 0 = λ x. c.args.at ≡ (item_at x.lists slot i).at → (i < length (row x.lists slot)) × (c.index-entry.result.now.owner ≡ (item_at x.lists slot i).owner) × (c.index-entry.result.now.next ≡ (item_at x.lists slot (i + 1)).at) in
+    let read : c.index-entry.result.now ≡ entry_at a c.args.at =
+    get_or_read a c.args.at c.index-entry.result.now (omega arith) c.index-entry.ensures (record { owner = 0; list = 0; next = 0; before = 0 }) in
+    let P : Chained → Type 0 = λ x. c.args.at ≡ (item_at x.lists slot i).at
+    → (i < length (row x.lists slot)) × (c.index-entry.result.now.owner ≡ (item_at x.lists slot i).owner)
+    × (c.index-entry.result.now.next ≡ (item_at x.lists slot (i + 1)).at) in
     subst P c.self.view_is (λ e. (let u = item-found a c.self.inside.blocks.items c.self.inside.first.items c.self.invariant c.args.at slot i some e in
     (u.0, ap (λ x. x.owner) read ∙ u.1, ap (λ x. x.next) read ∙ u.2)))

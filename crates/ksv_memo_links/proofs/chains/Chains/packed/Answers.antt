@@ -30,7 +30,8 @@ loop-owner-init c =
       copied = record {
         size = omega arith;
         done = λ t lt. absurd (omega arith);
-        none = λ t le. ap (λ (rows : List (List ℕ)). row rows t) c.reach_lists.ensures.named ∙ c.reach_owners.ensures.named.each t ∙ get_or_past c.new-packed.result.named t [] (omega arith);
+        none = λ t le. ap (λ (rows : List (List ℕ)). row rows t) c.reach_lists.ensures.named ∙ c.reach_owners.ensures.named.each t
+            ∙ get_or_past c.new-packed.result.named t [] (omega arith);
       };
       lists = omega arith;
     }
@@ -50,9 +51,11 @@ link_row-requires-clause-none c = c.loop-owner.invariant.copied.none c.loop-owne
 
 pub link_row-requires-clause-lists_in : goal.link_row-requires-clause-lists_in
 link_row-requires-clause-lists_in c k d lt =
-    let is : c.as_slice-in-loop-owner.result.now ≡ row c.args.self.now.named c.loop-owner.owner = c.as_slice-in-loop-owner.ensures.value ∙ c.in_ok-copy_row.ensures in
+    let is : c.as_slice-in-loop-owner.result.now ≡ row c.args.self.now.named c.loop-owner.owner =
+    c.as_slice-in-loop-owner.ensures.value ∙ c.in_ok-copy_row.ensures in
     let n = c.loop-owner.invariant.lists in
-    let there = subst (λ (xs : List ℕ). k < length xs → get_or xs k d < length c.args.self.now.lists) (sym is) (list-there c.args.self.now.lists c.args.self.now.named c.loop-owner.owner c.linked.ensures k d) lt in
+    let there = subst (λ (xs : List ℕ). k < length xs → get_or xs k d < length c.args.self.now.lists) (sym is)
+    (list-there c.args.self.now.lists c.args.self.now.named c.loop-owner.owner c.linked.ensures k d) lt in
     omega arith
 
 pub loop-owner-preserved : goal.loop-owner-preserved
@@ -63,7 +66,8 @@ loop-owner-preserved c =
     let b = ap (λ (xs : List Block). length xs) c.as_slice-owners.ensures.value in
     let t = c.loop-owner-test.true in
     record {
-      copied = copied-more c.args.self.now.named c.loop-owner.packed.named c.link_row.new.self.named c.loop-owner.owner c.as_slice-in-loop-owner.result.now c.loop-owner.invariant.copied (omega arith) (c.as_slice-in-loop-owner.ensures.value ∙ c.in_ok-copy_row.ensures) c.in_ok-link_row.ensures.ok;
+      copied = copied-more c.args.self.now.named c.loop-owner.packed.named c.link_row.new.self.named c.loop-owner.owner c.as_slice-in-loop-owner.result.now
+          c.loop-owner.invariant.copied (omega arith) (c.as_slice-in-loop-owner.ensures.value ∙ c.in_ok-copy_row.ensures) c.in_ok-link_row.ensures.ok;
       lists = c.link_row.ensures.count ∙ c.loop-owner.invariant.lists;
     }
 

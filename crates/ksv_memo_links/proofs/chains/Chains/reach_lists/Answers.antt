@@ -8,13 +8,16 @@ use Rattle.ksv_memo_links.proofs.chains.Chains.reach_lists.Goals as goal
 pub invariant_of-self : goal.invariant_of-self
 invariant_of-self c =
     let i = c.self.inside in
-    let p = padded-by c.reach_first.result i.first.items c.reach_first.new.first.items (c.args.count - length i.first.items) 0 c.reach_first.ensures.ok c.reach_first.ensures.err in
-    subst (λ (first : List ℕ). IsChained i.entries.items i.blocks.items first) (sym p.1) (chained-lists i.entries.items i.blocks.items i.first.items p.0 c.self.invariant)
+    let p = padded-by c.reach_first.result i.first.items c.reach_first.new.first.items (c.args.count - length i.first.items) 0 c.reach_first.ensures.ok
+    c.reach_first.ensures.err in
+    subst (λ (first : List ℕ). IsChained i.entries.items i.blocks.items first) (sym p.1)
+    (chained-lists i.entries.items i.blocks.items i.first.items p.0 c.self.invariant)
 
 pub returns-clause-lists : goal.returns-clause-lists
 returns-clause-lists c =
     let i = c.self.inside in
-    let p = padded-by c.reach_first.result i.first.items c.reach_first.new.first.items (c.args.count - length i.first.items) 0 c.reach_first.ensures.ok c.reach_first.ensures.err in
+    let p = padded-by c.reach_first.result i.first.items c.reach_first.new.first.items (c.args.count - length i.first.items) 0 c.reach_first.ensures.ok
+    c.reach_first.ensures.err in
     let n = ap (λ (first : List ℕ). length first) p.1 in
     let m = lists-length i.entries.items i.blocks.items c.reach_first.new.first.items in
     let k = lists-length i.entries.items i.blocks.items i.first.items in
@@ -24,7 +27,8 @@ returns-clause-lists c =
 pub returns-clause-few : goal.returns-clause-few
 returns-clause-few c =
     let i = c.self.inside in
-    let p = padded-by c.reach_first.result i.first.items c.reach_first.new.first.items (c.args.count - length i.first.items) 0 c.reach_first.ensures.ok c.reach_first.ensures.err in
+    let p = padded-by c.reach_first.result i.first.items c.reach_first.new.first.items (c.args.count - length i.first.items) 0 c.reach_first.ensures.ok
+    c.reach_first.ensures.err in
     let le = p.2 in
     let n = ap (λ (first : List ℕ). length first) p.1 in
     let m = lists-length i.entries.items i.blocks.items c.reach_first.new.first.items in

@@ -7,8 +7,10 @@ use Rattle.ksv_memo_links.proofs.marks.Marks.keep.Goals as goal
 -- one more is kept
 one_more : (kept : List Bool) (s : ℕ) → s < length kept → is_kept kept s ≡ false → count_by (λ b. b) (set kept s true) ≡ count_by (λ b. b) kept + 1
 one_more kept s lt none =
-    let e : count_by (λ b. b) (set kept s true) + cond (get_or kept s false) 1 0 ≡ count_by (λ b. b) kept + 1 = sum_by-set (λ b. cond b 1 0) kept s true false lt in
-    let f : count_by (λ b. b) (set kept s true) + 0 ≡ count_by (λ b. b) kept + 1 = subst (λ (b : Bool). count_by (λ b. b) (set kept s true) + cond b 1 0 ≡ count_by (λ b. b) kept + 1) none e in
+    let e : count_by (λ b. b) (set kept s true) + cond (get_or kept s false) 1 0 ≡ count_by (λ b. b) kept + 1 =
+    sum_by-set (λ b. cond b 1 0) kept s true false lt in
+    let f : count_by (λ b. b) (set kept s true) + 0 ≡ count_by (λ b. b) kept + 1 =
+    subst (λ (b : Bool). count_by (λ b. b) (set kept s true) + cond b 1 0 ≡ count_by (λ b. b) kept + 1) none e in
     omega arith
 
 at_most : (kept : List Bool) (s : ℕ) → s < length kept → is_kept kept s ≡ false → count_by (λ b. b) kept + 1 ≤ length kept

@@ -15,4 +15,5 @@ returns-then-is_touched c =
       least = c.mark.ensures.least;
       rises = let a = c.is_touched.ensures.grows in let b = c.mark.ensures.grows in omega arith;
     } in
-    hit-marked p q c.args.change c.args.slot one (sym c.is_touched.ensures.result ∙ c.if-is_touched.true) (let a = c.is_touched.ensures.looks in let b = c.mark.ensures.looks in omega arith)
+    hit-marked p q c.args.change c.args.slot one (sym c.is_touched.ensures.result ∙ c.if-is_touched.true)
+    (let a = c.is_touched.ensures.looks in let b = c.mark.ensures.looks in omega arith)

@@ -25,6 +25,7 @@ loop-list-preserved c =
     let same = ap (λ (lists : List (List Item)). row lists c.end_list.result) c.loop-list.invariant.hits.more.same.use_lists in
     let there = ap (λ n. row p.uses.lists n) c.end_list.ensures.number ∙ row-of-end p.uses.lists c.loop-list.list in
     record {
-      hits = rows-more p q r c.args.change (end_lists p.uses.lists) c.args.first c.loop-list.list (omega arith) c.loop-list.invariant.hits (row-as q r c.args.change (row q.uses.lists c.end_list.result) (row (end_lists p.uses.lists) c.loop-list.list) (same ∙ there) c.hit_list.ensures);
+      hits = rows-more p q r c.args.change (end_lists p.uses.lists) c.args.first c.loop-list.list (omega arith) c.loop-list.invariant.hits
+          (row-as q r c.args.change (row q.uses.lists c.end_list.result) (row (end_lists p.uses.lists) c.loop-list.list) (same ∙ there) c.hit_list.ensures);
       bound = omega arith;
     }

@@ -23,7 +23,8 @@ hit-requires-clause-slot_in c =
     let p = c.args.self.now in
     let i = c.loop-item.invariant in
     let n = seen_to (row p.uses.lists c.args.list) c.loop-item.at in
-    let step = steps p.uses.lists (map lists_of_uses p.uses.rows) c.args.list c.linked.ensures.listed c.loop-item.self.uses.lists c.loop-item.at c.in-Some.item i.hits.more.same.use_lists i.at c.in-Some.ensures.some in
+    let step = steps p.uses.lists (map lists_of_uses p.uses.rows) c.args.list c.linked.ensures.listed c.loop-item.self.uses.lists c.loop-item.at c.in-Some.item
+    i.hits.more.same.use_lists i.at c.in-Some.ensures.some in
     let some = listed-in p.uses.rows p.uses.lists c.args.list n c.linked.ensures.listed step.inside in
     let there = c.requires.shaped.used_in (item_at p.uses.lists c.args.list n).owner some in
     let is = step.owner in
@@ -38,10 +39,13 @@ loop-item-preserved c =
     let i = c.loop-item.invariant in
     let h = c.item.ensures in
     let items = row p.uses.lists c.args.list in
-    let step = steps p.uses.lists (map lists_of_uses p.uses.rows) c.args.list c.linked.ensures.listed q.uses.lists c.loop-item.at c.in-Some.item i.hits.more.same.use_lists i.at c.in-Some.ensures.some in
+    let step = steps p.uses.lists (map lists_of_uses p.uses.rows) c.args.list c.linked.ensures.listed q.uses.lists c.loop-item.at c.in-Some.item
+    i.hits.more.same.use_lists i.at c.in-Some.ensures.some in
     let k = peek-uses q q1.uses h.rows h.lists (let l = c.in-Some.ensures.looks in omega arith) h.grows in
     record {
-      hits = subst (λ n. HitsRow p c.hit.new.self c.args.change items n 0) (sym step.seen) (row-more p q q1 c.hit.new.self c.args.change items (seen_to items c.loop-item.at) c.in-Some.item.owner i.hits k step.inside step.owner c.hit.ensures);
+      hits = subst (λ n. HitsRow p c.hit.new.self c.args.change items n 0) (sym step.seen)
+          (row-more p q q1 c.hit.new.self c.args.change items (seen_to items c.loop-item.at) c.in-Some.item.owner i.hits k step.inside step.owner
+          c.hit.ensures);
       at = step.stands;
     }
 
@@ -49,7 +53,8 @@ pub loop-item-smaller : goal.loop-item-smaller
 loop-item-smaller c =
     let p = c.args.self.now in
     let i = c.loop-item.invariant in
-    (steps p.uses.lists (map lists_of_uses p.uses.rows) c.args.list c.linked.ensures.listed c.loop-item.self.uses.lists c.loop-item.at c.in-Some.item i.hits.more.same.use_lists i.at c.in-Some.ensures.some).less
+    (steps p.uses.lists (map lists_of_uses p.uses.rows) c.args.list c.linked.ensures.listed c.loop-item.self.uses.lists c.loop-item.at c.in-Some.item
+    i.hits.more.same.use_lists i.at c.in-Some.ensures.some).less
 
 pub returns : goal.returns
 returns c =
@@ -60,5 +65,6 @@ returns c =
     let h = c.item.ensures in
     let idle = c.in_default.ensures.idle in
     let items = row p.uses.lists c.args.list in
-    let end = ended p.uses.lists (map lists_of_uses p.uses.rows) c.args.list c.linked.ensures.listed q.uses.lists c.loop-item.at i.hits.more.same.use_lists i.at c.in_default.ensures.none in
+    let end = ended p.uses.lists (map lists_of_uses p.uses.rows) c.args.list c.linked.ensures.listed q.uses.lists c.loop-item.at i.hits.more.same.use_lists i.at
+    c.in_default.ensures.none in
     row-end p q q1 c.args.change items (seen_to items c.loop-item.at) i.hits (peek-uses q q1.uses h.rows h.lists (omega arith) h.grows) (omega arith) end

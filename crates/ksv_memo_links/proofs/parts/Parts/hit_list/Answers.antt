@@ -18,4 +18,5 @@ returns c =
     let h = c.first_item-first.ensures in
     let k = peek-uses p p1.uses h.rows h.lists (let l = h.looks in omega arith) h.grows in
     let P : List (List Item) → Type 0 = λ lists. HitsRow p1 c.hit_items.new.self c.args.change (row lists c.args.list) (length (row lists c.args.list)) 0 in
-    row-from p p1 c.hit_items.new.self c.args.change (row p.uses.lists c.args.list) (length (row p.uses.lists c.args.list)) k (subst P h.lists c.hit_items.ensures)
+    row-from p p1 c.hit_items.new.self c.args.change (row p.uses.lists c.args.list) (length (row p.uses.lists c.args.list)) k
+    (subst P h.lists c.hit_items.ensures)

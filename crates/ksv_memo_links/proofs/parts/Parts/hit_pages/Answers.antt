@@ -25,6 +25,7 @@ loop-page-preserved c =
     let same = ap (λ (lists : List (List Item)). row lists c.page_list.result) c.loop-page.invariant.hits.more.same.use_lists in
     let there = ap (λ n. row p.uses.lists n) c.page_list.ensures.number ∙ row-of-page p.uses.lists c.loop-page.page in
     record {
-      hits = rows-more p q r c.args.change (page_lists p.uses.lists) c.args.first c.loop-page.page (omega arith) c.loop-page.invariant.hits (row-as q r c.args.change (row q.uses.lists c.page_list.result) (row (page_lists p.uses.lists) c.loop-page.page) (same ∙ there) c.hit_list.ensures);
+      hits = rows-more p q r c.args.change (page_lists p.uses.lists) c.args.first c.loop-page.page (omega arith) c.loop-page.invariant.hits
+          (row-as q r c.args.change (row q.uses.lists c.page_list.result) (row (page_lists p.uses.lists) c.loop-page.page) (same ∙ there) c.hit_list.ensures);
       bound = omega arith;
     }

@@ -21,7 +21,8 @@ returns-then-ends-gt0 c =
     let L = end_lists p.uses.lists in
     let same = ap (λ n. row p.uses.lists n) c.end_list.ensures.number ∙ row-of-end p.uses.lists 0 in
     let e : 0 + 1 ≡ min 1 (length L) = omega arith in
-    subst (λ n. HitsRows p r x L 0 n) e (rows-more p p r x L 0 0 (omega arith) (rows-none p x L 0) (row-as p r x (row p.uses.lists c.end_list.result) (row L 0) same c.hit_few.ensures))
+    subst (λ n. HitsRows p r x L 0 n) e
+    (rows-more p p r x L 0 0 (omega arith) (rows-none p x L 0) (row-as p r x (row p.uses.lists c.end_list.result) (row L 0) same c.hit_few.ensures))
 
 pub returns-else-ends-gt0 : goal.returns-else-ends-gt0
 returns-else-ends-gt0 c =

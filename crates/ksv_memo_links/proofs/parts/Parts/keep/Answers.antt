@@ -12,7 +12,8 @@ returns-clause-whole c =
     let q = c.fill.new.self in
     let r : Parts = record { asks = q.asks; uses = q.uses; marks = c.keep.new.self } in
     let f = c.in_ok-fill.ensures.ok in
-    filled_whole p q r c.args.slot c.args.asked.now c.args.uses.now c.requires.whole c.requires.idle c.requires.slot_in c.requires.asked_kept f refl refl (c.keep.ensures.kept ∙ ap (λ m. set m.kept c.args.slot true) f.marks) c.keep.ensures.work
+    filled_whole p q r c.args.slot c.args.asked.now c.args.uses.now c.requires.whole c.requires.idle c.requires.slot_in c.requires.asked_kept f refl refl
+    (c.keep.ensures.kept ∙ ap (λ m. set m.kept c.args.slot true) f.marks) c.keep.ensures.work
 
 pub returns-clause-ok : goal.returns-clause-ok
 returns-clause-ok c =

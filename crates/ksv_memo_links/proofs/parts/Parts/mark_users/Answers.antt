@@ -15,7 +15,8 @@ loop-user-init c =
     let h = c.first_item-at.ensures in
     let start = starts p.asks.lists p.asks.named c.args.slot c.linked.ensures c.first_item-at.result h.result in
     record {
-      users = subst (λ n. HitsUsers p p1 c.args.slot n 1) (sym start.1) (users-first p p1 c.args.slot (peek-asks p p1.asks h.named h.lists (let l = h.looks in omega arith) h.grows));
+      users = subst (λ n. HitsUsers p p1 c.args.slot n 1) (sym start.1)
+          (users-first p p1 c.args.slot (peek-asks p p1.asks h.named h.lists (let l = h.looks in omega arith) h.grows));
       at = start.0;
     }
 
@@ -27,7 +28,8 @@ loop-user-preserved c =
     let r : Parts = record { asks = c.item.new.self; uses = q.uses; marks = c.mark.new.self } in
     let i = c.loop-user.invariant in
     let h = c.item.ensures in
-    let step = steps p.asks.lists p.asks.named c.args.slot c.linked.ensures q.asks.lists c.loop-user.at c.in-Some.user i.users.more.same.ask_lists i.at c.in-Some.ensures.some in
+    let step = steps p.asks.lists p.asks.named c.args.slot c.linked.ensures q.asks.lists c.loop-user.at c.in-Some.user i.users.more.same.ask_lists i.at
+    c.in-Some.ensures.some in
     let one : MarksOne q1 r c.in-Some.user.owner = record {
       same = record { asks = refl; ask_lists = refl; uses = refl; use_lists = refl };
       kept = c.mark.ensures.kept;
@@ -37,7 +39,9 @@ loop-user-preserved c =
     } in
     let k = peek-asks q q1.asks h.named h.lists (let l = c.in-Some.ensures.looks in omega arith) h.grows in
     record {
-      users = subst (λ n. HitsUsers p r c.args.slot n 1) (sym step.seen) (users-more p q q1 r c.args.slot (seen_to (row p.asks.lists c.args.slot) c.loop-user.at) c.in-Some.user.owner i.users k c.linked.ensures step.inside step.owner one (let l = c.mark.ensures.looks in omega arith));
+      users = subst (λ n. HitsUsers p r c.args.slot n 1) (sym step.seen)
+          (users-more p q q1 r c.args.slot (seen_to (row p.asks.lists c.args.slot) c.loop-user.at) c.in-Some.user.owner i.users k c.linked.ensures step.inside
+          step.owner one (let l = c.mark.ensures.looks in omega arith));
       at = step.stands;
     }
 
@@ -45,7 +49,8 @@ pub mark-requires : goal.mark-requires
 mark-requires c =
     let p = c.args.self.now in
     let i = c.loop-user.invariant in
-    let step = steps p.asks.lists p.asks.named c.args.slot c.linked.ensures c.loop-user.self.asks.lists c.loop-user.at c.in-Some.user i.users.more.same.ask_lists i.at c.in-Some.ensures.some in
+    let step = steps p.asks.lists p.asks.named c.args.slot c.linked.ensures c.loop-user.self.asks.lists c.loop-user.at c.in-Some.user
+    i.users.more.same.ask_lists i.at c.in-Some.ensures.some in
     let there = user-there p c.args.slot (seen_to (row p.asks.lists c.args.slot) c.loop-user.at) c.requires.shaped c.linked.ensures step.inside in
     let is = step.owner in
     let n = i.users.more.same_length in
@@ -55,7 +60,8 @@ pub loop-user-smaller : goal.loop-user-smaller
 loop-user-smaller c =
     let p = c.args.self.now in
     let i = c.loop-user.invariant in
-    (steps p.asks.lists p.asks.named c.args.slot c.linked.ensures c.loop-user.self.asks.lists c.loop-user.at c.in-Some.user i.users.more.same.ask_lists i.at c.in-Some.ensures.some).less
+    (steps p.asks.lists p.asks.named c.args.slot c.linked.ensures c.loop-user.self.asks.lists c.loop-user.at c.in-Some.user i.users.more.same.ask_lists i.at
+    c.in-Some.ensures.some).less
 
 pub returns : goal.returns
 returns c =
@@ -65,5 +71,7 @@ returns c =
     let i = c.loop-user.invariant in
     let h = c.item.ensures in
     let idle = c.in_default.ensures.idle in
-    let end = ended p.asks.lists p.asks.named c.args.slot c.linked.ensures q.asks.lists c.loop-user.at i.users.more.same.ask_lists i.at c.in_default.ensures.none in
-    users-end p q q1 c.args.slot (seen_to (row p.asks.lists c.args.slot) c.loop-user.at) i.users (peek-asks q q1.asks h.named h.lists (omega arith) h.grows) (omega arith) end
+    let end = ended p.asks.lists p.asks.named c.args.slot c.linked.ensures q.asks.lists c.loop-user.at i.users.more.same.ask_lists i.at
+    c.in_default.ensures.none in
+    users-end p q q1 c.args.slot (seen_to (row p.asks.lists c.args.slot) c.loop-user.at) i.users (peek-asks q q1.asks h.named h.lists (omega arith) h.grows)
+    (omega arith) end

@@ -16,7 +16,9 @@ returns-in_err-reach_lists-clause-whole c =
     let l = c.reach_lists.ensures.lists in
     let h = c.requires.whole.shaped in
     let h1 = h.asks in let h2 = h.lists in
-    grown_whole p r c.requires.whole (subst (λ (rows : List (List ℕ)). HasSameRows p.asks.named rows) (sym c.reach_lists.ensures.named) (same_rows p.asks.named)) (same_rows p.uses.rows) (same_slots p.marks.kept) refl (omega arith) (omega arith) h.uses
+    grown_whole p r c.requires.whole
+    (subst (λ (rows : List (List ℕ)). HasSameRows p.asks.named rows) (sym c.reach_lists.ensures.named) (same_rows p.asks.named)) (same_rows p.uses.rows)
+    (same_slots p.marks.kept) refl (omega arith) (omega arith) h.uses
 
 pub returns-in_err-reach_owners-clause-whole : goal.returns-in_err-reach_owners-clause-whole
 returns-in_err-reach_owners-clause-whole c =

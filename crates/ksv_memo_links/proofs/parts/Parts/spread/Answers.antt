@@ -19,7 +19,8 @@ loop-slot-preserved c =
       least = c.at.ensures.least;
       rises = let l = c.at.ensures.grows in omega arith;
     } in
-    spread-more c.args.self.now q q1 c.mark_users.new.self c.loop-slot.i c.in-Some.slot c.loop-slot.invariant k c.in-Some.ensures.some.0 c.in-Some.ensures.some.1 c.mark_users.ensures
+    spread-more c.args.self.now q q1 c.mark_users.new.self c.loop-slot.i c.in-Some.slot c.loop-slot.invariant k c.in-Some.ensures.some.0
+    c.in-Some.ensures.some.1 c.mark_users.ensures
 
 pub returns : goal.returns
 returns c =

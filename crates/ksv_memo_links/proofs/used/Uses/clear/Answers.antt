@@ -16,7 +16,8 @@ clear-linked-requires c =
     omega arith
 
 pub returns-clause-rows : goal.returns-clause-rows
-returns-clause-rows c = row_written uses_of (λ (xs : List Use). []) c.self.inside.rows.items c.args.self.now.rows c.args.slot c.index_mut.result.now Nothing (sym (ap (λ v. v.rows) c.self.view_is)) c.index_mut.ensures.value c.requires refl
+returns-clause-rows c = row_written uses_of (λ (xs : List Use). []) c.self.inside.rows.items c.args.self.now.rows c.args.slot c.index_mut.result.now Nothing
+    (sym (ap (λ v. v.rows) c.self.view_is)) c.index_mut.ensures.value c.requires refl
 
 pub invariant_of-self : goal.invariant_of-self
 invariant_of-self c =
@@ -24,18 +25,23 @@ invariant_of-self c =
     let rows = map uses_of items in
     let C = c.self.inside.chains in
     let slot_in = subst (λ (rs : List (List Use)). c.args.slot < length rs) (sym (ap (λ v. v.rows) c.self.view_is)) c.requires in
-    let written = row_written uses_of (λ (xs : List Use). []) items rows c.args.slot c.index_mut.result.now Nothing refl c.index_mut.ensures.value slot_in refl in
+    let written = row_written uses_of (λ (xs : List Use). []) items rows c.args.slot c.index_mut.result.now Nothing refl c.index_mut.ensures.value slot_in
+    refl in
     let n = c.clear-linked.ensures.lists in
     let f = c.self.invariant.fits in
-    met-put rows _ C.named c.clear-linked.new.self.named C.lists c.clear-linked.new.self.lists c.args.slot [] c.self.invariant c.clear-linked.ensures.named (omega arith) slot_in written
+    met-put rows _ C.named c.clear-linked.new.self.named C.lists c.clear-linked.new.self.lists c.args.slot [] c.self.invariant c.clear-linked.ensures.named
+    (omega arith) slot_in written
 
 pub returns-clause-looks : goal.returns-clause-looks
 returns-clause-looks c =
     let rows = c.args.self.now.rows in
     let us = row rows c.args.slot in
     let v = ap (λ v. v.rows) c.self.view_is in
-    let read : us ≡ uses_of c.index.result.now = row_read uses_of c.self.inside.rows.items rows c.args.slot c.index.result.now (sym v) c.index.ensures c.requires in
-    let count : c.clear-linked.result ≡ length (lists_of_uses us) = c.clear-linked.ensures.count ∙ ap (λ (ns : List _). length ns) (c.self.invariant.each c.args.slot ∙ ap (λ rs. lists_of_uses (row rs c.args.slot)) v) in
+    let read : us ≡ uses_of c.index.result.now = row_read uses_of c.self.inside.rows.items rows c.args.slot c.index.result.now (sym v) c.index.ensures
+    c.requires in
+    let count : c.clear-linked.result ≡ length (lists_of_uses us) =
+    c.clear-linked.ensures.count ∙ ap (λ (ns : List _). length ns)
+    (c.self.invariant.each c.args.slot ∙ ap (λ rs. lists_of_uses (row rs c.args.slot)) v) in
     let pages = pages-among us c.noted_end-end.result c.clear-linked.result (c.noted_end-end.ensures ∙ ap ends_in (sym read)) count in
     let p = c.pages_linked-pages.ensures in
     let l = ap (λ v. v.looks) c.self.view_is in

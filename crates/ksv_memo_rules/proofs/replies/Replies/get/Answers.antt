@@ -14,5 +14,6 @@ returns-in_err-slot_at g c =
 pub returns : goal.returns
 returns g c =
     c.answer_at.ensures
-    ∙ sym (lent_at c.self.inside.slots.now c.self.inside.asked.now c.args.place c.in_ok-slot_at.field-0 c.self.invariant (sym c.slot_at.ensures ∙ c.in_ok-slot_at.was))
+    ∙ sym (lent_at c.self.inside.slots.now c.self.inside.asked.now c.args.place c.in_ok-slot_at.field-0 c.self.invariant
+    (sym c.slot_at.ensures ∙ c.in_ok-slot_at.was))
     ∙ ap (λ rs. slice_get rs c.args.place) c.self.view_is

@@ -27,4 +27,5 @@ returns c =
     let there = sym c.get.ensures ∙ ap (option_map lent) c.in_ok-reply.was in
     λ n.
     let behind = from n t.here.now t.bytes.now t.uses.items t.replies.now (t.at + 1) in
-    subst (λ s. run turns (ask n) s ≡ come (lent c.in_ok-reply.reply) behind) c.self.view_is (given_next n t.here.now t.bytes.now t.uses.items t.replies.now t.at (lent c.in_ok-reply.reply) there)
+    subst (λ s. run turns (ask n) s ≡ come (lent c.in_ok-reply.reply) behind) c.self.view_is
+    (given_next n t.here.now t.bytes.now t.uses.items t.replies.now t.at (lent c.in_ok-reply.reply) there)

@@ -7,12 +7,15 @@ use Rattle.ksv_nodes.proofs.Parts.{raised_as, runs_missing, runs_replied, needed
 use Rattle.ksv_nodes.proofs.turn.Turn.value_of_part.Goals as goal
 
 pub returns-then-not-has_part : goal.returns-then-not-has_part
-returns-then-not-has_part c = runs_missing nodes.Value in_value c.args.path.now c.args.step (λ v. v.now) c.args.self.now (sym c.has_part.ensures ∙ c.if-not-has_part.true) c.raise.result (raised_as kinds.PathTooLong (λ v. v.now) c.args.self.now c.raise.result c.raise.ensures)
+returns-then-not-has_part c = runs_missing nodes.Value in_value c.args.path.now c.args.step (λ v. v.now) c.args.self.now
+    (sym c.has_part.ensures ∙ c.if-not-has_part.true) c.raise.result (raised_as kinds.PathTooLong (λ v. v.now) c.args.self.now c.raise.result c.raise.ensures)
 
 -- no reply is left
 pub returns-in_ok-path-in-None : goal.returns-in_ok-path-in-None
-returns-in_ok-path-in-None c = needed_part nodes.Value in_value c.args.path.now c.args.step c.args.self.now c.next_reply.new.self c.in_ok-path-in-None.path c.in_ok-path-in-None.ensures c.in-None.ensures
+returns-in_ok-path-in-None c = needed_part nodes.Value in_value c.args.path.now c.args.step c.args.self.now c.next_reply.new.self c.in_ok-path-in-None.path
+    c.in_ok-path-in-None.ensures c.in-None.ensures
 
 -- the next one is taken
 pub returns-in-Some : goal.returns-in-Some
-returns-in-Some c = runs_replied nodes.Value in_value c.args.path.now c.args.step (λ v. v.now) c.args.self.now c.next_reply.new.self (lent c.in-Some.reply) (sym c.has_part.ensures ∙ c.if-not-has_part.false) c.in-Some.ensures c.valued.result c.valued.ensures
+returns-in-Some c = runs_replied nodes.Value in_value c.args.path.now c.args.step (λ v. v.now) c.args.self.now c.next_reply.new.self (lent c.in-Some.reply)
+    (sym c.has_part.ensures ∙ c.if-not-has_part.false) c.in-Some.ensures c.valued.result c.valued.ensures

@@ -11,6 +11,9 @@ put_in old wide i c l same = record { here = get_or-set_same wide i c 0 l; other
 pub returns-clause-ok : goal.returns-clause-ok
 returns-clause-ok c =
     let wide = c.if-len-index-2.self-inside.numbers.items in
-    let inside : c.args.index < length wide = elim c.if-len-index-2.branch [ then-len-index-2+in_ok-resize w ↦ grind (arith, common_steps) | else-len-index-2 w ↦ grind (arith, common_steps) ] in
-    let same : (k : ℕ) → number_at wide k ≡ number_at c.args.self.now k = λ k. elim c.if-len-index-2.branch [ then-len-index-2+in_ok-resize w ↦ grind (arith, common_steps) | else-len-index-2 w ↦ grind (arith, common_steps) ] in
+    let inside : c.args.index < length wide = elim c.if-len-index-2.branch
+    [ then-len-index-2+in_ok-resize w ↦ grind (arith, common_steps) | else-len-index-2 w ↦ grind (arith, common_steps) ] in
+    let same : (k : ℕ) → number_at wide k ≡ number_at c.args.self.now k =
+    λ k. elim c.if-len-index-2.branch
+    [ then-len-index-2+in_ok-resize w ↦ grind (arith, common_steps) | else-len-index-2 w ↦ grind (arith, common_steps) ] in
     put_in c.args.self.now wide c.args.index c.args.number inside same

@@ -20,7 +20,8 @@ pub add-requires-clause-none : goal.add-requires-clause-none
 add-requires-clause-none c =
     let ps = c.self.inside.spots.nodes in
     let n = c.args.node.now in
-    λ i e. is_none ps n (ap (λ (p : Placed). list_any (node_tests.eq n) p.nodes) c.self.view_is ∙ c.requires.none) i (e ∙ ap Some (steps_up n c.steps.result.now c.steps.ensures))
+    λ i e. is_none ps n (ap (λ (p : Placed). list_any (node_tests.eq n) p.nodes) c.self.view_is ∙ c.requires.none) i
+    (e ∙ ap Some (steps_up n c.steps.result.now c.steps.ensures))
 
 pub add-requires-clause-ends : goal.add-requires-clause-ends
 add-requires-clause-ends c =
@@ -42,4 +43,5 @@ returns-clause-ok c =
     let n = c.args.node.now in
     let up = steps_up n c.steps.result.now c.steps.ensures in
     on_ok c.add.result _ (all_named c.add.new.self.nodes ≡ c.args.self.now.nodes ++ n ∷ [])
-    (λ e. ap all_named (e ∙ ap (λ (p : NodeKind × List Step). ps ++ p ∷ []) up) ∙ named_push ps n ∙ ap (λ (p : Placed). p.nodes ++ n ∷ []) c.self.view_is) c.add.ensures.ok
+    (λ e. ap all_named (e ∙ ap (λ (p : NodeKind × List Step). ps ++ p ∷ []) up) ∙ named_push ps n ∙ ap (λ (p : Placed). p.nodes ++ n ∷ []) c.self.view_is)
+    c.add.ensures.ok

@@ -44,4 +44,5 @@ returns-clause-nodes c = ap all_named c.find.ensures.nodes ∙ ap (λ (p : Place
 pub returns-clause-unique : goal.returns-clause-unique
 returns-clause-unique c =
     let ps : List (NodeKind × List Step) = c.self.inside.spots.nodes in
-    subst (λ (ns : List (NodeKind × List Step)). IsDistinct node_tests.eq (all_named ns)) (sym c.find.ensures.nodes) (distinct _ (apart_named ps c.self.invariant c.apart.ensures))
+    subst (λ (ns : List (NodeKind × List Step)). IsDistinct node_tests.eq (all_named ns)) (sym c.find.ensures.nodes)
+    (distinct _ (apart_named ps c.self.invariant c.apart.ensures))

@@ -19,7 +19,8 @@ pub give-given-requires-clause-none : goal.give-given-requires-clause-none
 give-given-requires-clause-none c =
     let ps = c.self.inside.spots.nodes in
     let n = c.args.node.now in
-    λ i e. is_none ps n (ap (λ (p : Placed). list_any (node_tests.eq n) p.nodes) c.self.view_is ∙ c.requires.none) i (e ∙ ap Some (steps_up n c.steps.result.now c.steps.ensures))
+    λ i e. is_none ps n (ap (λ (p : Placed). list_any (node_tests.eq n) p.nodes) c.self.view_is ∙ c.requires.none) i
+    (e ∙ ap Some (steps_up n c.steps.result.now c.steps.ensures))
 
 pub invariant_of-self : goal.invariant_of-self
 invariant_of-self c =
@@ -37,4 +38,5 @@ returns-clause-ok c =
     let place = c.args.place in
     let up = steps_up n c.steps.result.now c.steps.ensures in
     on_ok c.give-given.result _ (all_named c.give-given.new.self.nodes ≡ set c.args.self.now.nodes place n)
-    (λ e. ap all_named (e ∙ ap (λ (p : NodeKind × List Step). set ps place p) up) ∙ named_set ps place n ∙ ap (λ (p : Placed). set p.nodes place n) c.self.view_is) c.give-given.ensures.ok
+    (λ e. ap all_named (e ∙ ap (λ (p : NodeKind × List Step). set ps place p) up) ∙ named_set ps place n
+    ∙ ap (λ (p : Placed). set p.nodes place n) c.self.view_is) c.give-given.ensures.ok

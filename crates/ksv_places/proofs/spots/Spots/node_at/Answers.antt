@@ -27,8 +27,10 @@ steps_of-requires c =
     let m = ap (λ (s : Spotted). length s.nodes) c.self.view_is in
     let h = c.requires in
     let there : c.args.place < length spots = omega arith in
-    let spot : c.spot_at-spot.result ≡ spot_at spots c.args.place = c.spot_at-spot.ensures ∙ (λ i. spot_at (spots_of (c.as_slice.ensures.value i) (c.as_slice-2.ensures.value i)) c.args.place) in
-    subst (λ (s : Spot). s.path < length t.tree) (sym spot) (let a = path_in t.tree t.rows.items spots c.self.invariant.filed c.args.place there in let b = c.self.invariant.filed.few in omega arith)
+    let spot : c.spot_at-spot.result ≡ spot_at spots c.args.place =
+    c.spot_at-spot.ensures ∙ (λ i. spot_at (spots_of (c.as_slice.ensures.value i) (c.as_slice-2.ensures.value i)) c.args.place) in
+    subst (λ (s : Spot). s.path < length t.tree) (sym spot)
+    (let a = path_in t.tree t.rows.items spots c.self.invariant.filed c.args.place there in let b = c.self.invariant.filed.few in omega arith)
 
 pub returns : goal.returns
 returns c =

@@ -22,7 +22,9 @@ add-requires-clause-none c = λ i e.
     let lt : n < length ns = (let t = c.loop-place-test.true in let h = c.requires in omega arith) in
     let node : NodeKind × List Step = (c.in_ok-kind.kind, reverse c.node_at.new.steps.items) in
     let at : slice_get ns n ≡ Some node = c.in_ok-kind.ensures in
-    let e1 : slice_get (take n ns) i ≡ Some node = ap (λ (xs : List (NodeKind × List Step)). slice_get xs i) (sym (c.find-none.ensures.nodes ∙ c.loop-place.invariant)) ∙ e ∙ ap (λ (q : List Step). Some (c.in_ok-kind.kind, reverse q)) c.as_slice-slice.ensures.value in
+    let e1 : slice_get (take n ns) i ≡ Some node = ap (λ (xs : List (NodeKind × List Step)). slice_get xs i)
+    (sym (c.find-none.ensures.nodes ∙ c.loop-place.invariant)) ∙ e
+    ∙ ap (λ (q : List Step). Some (c.in_ok-kind.kind, reverse q)) c.as_slice-slice.ensures.value in
     let w = of_whole ns n i node (Head, []) (omega arith) e1 in
     let below : i < n = w.0 in
     let same : i ≡ n = c.apart.ensures i n (omega arith) lt (w.1 ∙ sym at) in
@@ -37,7 +39,8 @@ loop-place-preserved c =
     let at : slice_get ns n ≡ Some node = c.in_ok-kind.ensures in
     c.in_ok-add.ensures.ok
     ∙ ap (λ (q : List Step). c.find-none.new.self.nodes ++ (c.in_ok-kind.kind, reverse q) ∷ []) c.as_slice-slice.ensures.value
-    ∙ ap (λ (xs : List (NodeKind × List Step)). xs ++ (c.in_ok-kind.kind, reverse c.node_at.new.steps.items) ∷ []) (c.find-none.ensures.nodes ∙ c.loop-place.invariant)
+    ∙ ap (λ (xs : List (NodeKind × List Step)). xs ++ (c.in_ok-kind.kind, reverse c.node_at.new.steps.items) ∷ [])
+    (c.find-none.ensures.nodes ∙ c.loop-place.invariant)
     ∙ ap (λ (x : NodeKind × List Step). take n ns ++ x ∷ []) (sym (get_or_from_slice_get ns n node (Head, []) at))
     ∙ sym (take-suc ns n (Head, []) lt)
     ∙ ap (λ k. take k ns) (let k : suc n ≡ n + 1 = omega arith in k)

@@ -19,11 +19,19 @@ returns-clause-ok c =
     let n = c.in_ok-page.page in
     let old : Pages = record { near = c.self.inside.near; descent = c.self.inside.descent; starts = c.self.inside.starts; pages = c.self.inside.pages.items } in
     let part : IsPartOf (number_at starts) (length pages) (c.args.index / 1024) n = c.in_ok-page.ensures.ok in
-    let same = subst (λ (fresh : List ℕ). (q : ℕ) → part_at fresh pages (number_at starts q) ≡ part_at fresh old.pages (number_at old.starts q)) c.new-fresh.ensures c.reach_part.ensures.same in
-    let lent : c.index_mut-numbers.result.now ≡ get_or pages (n - 1) [] = c.index_mut-numbers.ensures.value ∙ get_or_default pages (n - 1) _ _ (let a = part.some in let b = part.inside in omega arith) in
+    let same = subst (λ (fresh : List ℕ). (q : ℕ) → part_at fresh pages (number_at starts q) ≡ part_at fresh old.pages (number_at old.starts q))
+    c.new-fresh.ensures c.reach_part.ensures.same in
+    let lent : c.index_mut-numbers.result.now ≡ get_or pages (n - 1) [] =
+    c.index_mut-numbers.ensures.value ∙ get_or_default pages (n - 1) _ _ (let a = part.some in let b = part.inside in omega arith) in
     let far : 1024 ≤ c.args.index = omega arith in
     let alone : takes old.descent c.args.index ≡ false = sym c.takes.ensures ∙ c.if-takes.false in
-    on_ok _ _ _ (λ put. subst (λ (t : Pages). IsPut (table_at t) (table_at (record { near = old.near; descent = old.descent; starts = starts; pages = set pages (n - 1) c.put-2.new.self })) c.args.index c.args.number) c.self.view_is (page_put old starts pages c.args.index n c.reach_part.ensures.apart part same c.put-2.new.self c.args.number far alone (subst (λ (page : List ℕ). IsPut (number_at page) (number_at c.put-2.new.self) (c.args.index % 1024) c.args.number) lent put))) c.put-2.ensures.ok
+    on_ok _ _ _ (λ put. subst
+    (λ (t : Pages). IsPut (table_at t)
+    (table_at (record { near = old.near; descent = old.descent; starts = starts; pages = set pages (n - 1) c.put-2.new.self })) c.args.index
+    c.args.number) c.self.view_is
+    (page_put old starts pages c.args.index n c.reach_part.ensures.apart part same c.put-2.new.self c.args.number far alone
+    (subst (λ (page : List ℕ). IsPut (number_at page) (number_at c.put-2.new.self) (c.args.index % 1024) c.args.number) lent
+    put))) c.put-2.ensures.ok
 
 pub returns-clause-err : goal.returns-clause-err
 returns-clause-err c =
@@ -32,6 +40,9 @@ returns-clause-err c =
     let n = c.in_ok-page.page in
     let old : Pages = record { near = c.self.inside.near; descent = c.self.inside.descent; starts = c.self.inside.starts; pages = c.self.inside.pages.items } in
     let part : IsPartOf (number_at starts) (length pages) (c.args.index / 1024) n = c.in_ok-page.ensures.ok in
-    let same = subst (λ (fresh : List ℕ). (q : ℕ) → part_at fresh pages (number_at starts q) ≡ part_at fresh old.pages (number_at old.starts q)) c.new-fresh.ensures c.reach_part.ensures.same in
-    let lent : c.index_mut-numbers.result.now ≡ get_or pages (n - 1) [] = c.index_mut-numbers.ensures.value ∙ get_or_default pages (n - 1) _ _ (let a = part.some in let b = part.inside in omega arith) in
-    on_err _ _ _ (λ e. page_same old starts pages c.args.index n c.reach_part.ensures.apart part same c.put-2.new.self (e ∙ lent) ∙ ap table_at c.self.view_is) c.put-2.ensures.err
+    let same = subst (λ (fresh : List ℕ). (q : ℕ) → part_at fresh pages (number_at starts q) ≡ part_at fresh old.pages (number_at old.starts q))
+    c.new-fresh.ensures c.reach_part.ensures.same in
+    let lent : c.index_mut-numbers.result.now ≡ get_or pages (n - 1) [] =
+    c.index_mut-numbers.ensures.value ∙ get_or_default pages (n - 1) _ _ (let a = part.some in let b = part.inside in omega arith) in
+    on_err _ _ _ (λ e. page_same old starts pages c.args.index n c.reach_part.ensures.apart part same c.put-2.new.self (e ∙ lent) ∙ ap table_at c.self.view_is)
+    c.put-2.ensures.err

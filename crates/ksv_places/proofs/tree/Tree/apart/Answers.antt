@@ -9,4 +9,5 @@ pub returns : goal.returns
 returns c =
     let t = c.self.inside in
     subst (λ (ps : List (List Step)). (i j : ℕ) → i < length ps → j < length ps → get_or ps i [] ≡ get_or ps j [] → i ≡ j) c.self.view_is
-    (λ i j a b e. one_path t.links.items (number_at t.firsts) (shelf_at t.members) (shelf_at t.elements) c.self.invariant (get_or (paths_of t.links.items) j []) i j (let n = length-paths t.links.items in omega arith) (let n = length-paths t.links.items in omega arith) e refl)
+    (λ i j a b e. one_path t.links.items (number_at t.firsts) (shelf_at t.members) (shelf_at t.elements) c.self.invariant (get_or (paths_of t.links.items) j [])
+    i j (let n = length-paths t.links.items in omega arith) (let n = length-paths t.links.items in omega arith) e refl)

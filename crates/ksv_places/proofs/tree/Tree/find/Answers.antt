@@ -16,7 +16,8 @@ some_there (suc n) e = omega arith
 
 pub loop-count-init : goal.loop-count-init
 loop-count-init c =
-    let n : 0 < length c.self.inside.links.items = some_there _ (ap (λ xs. length xs == 0) (sym c.as_slice.ensures.value) ∙ sym c.is_empty.ensures ∙ c.if-is_empty.false) in
+    let n : 0 < length c.self.inside.links.items = some_there _
+    (ap (λ xs. length xs == 0) (sym c.as_slice.ensures.value) ∙ sym c.is_empty.ensures ∙ c.if-is_empty.false) in
     (n, root_at c.self.inside.links.items n, omega arith, omega arith)
 
 pub returns-then-next-eq0-clause-none : goal.returns-then-next-eq0-clause-none
@@ -24,9 +25,12 @@ returns-then-next-eq0-clause-none c =
     let t = c.self.inside in
     let r = c.loop-count.path in
     let s = get_or c.args.steps.now c.loop-count.count (Name 0) in
-    let is : look t.links.items (number_at t.firsts) (shelf_at t.members) (shelf_at t.elements) r s ≡ 0 = sym (c.look-next.ensures ∙ (λ i. look (c.as_slice-in-loop-count.ensures.value i) (number_at t.firsts) (shelf_at t.members) (shelf_at t.elements) r s)) ∙ c.if-next-eq0.true in
+    let is : look t.links.items (number_at t.firsts) (shelf_at t.members) (shelf_at t.elements) r s ≡ 0 =
+    sym (c.look-next.ensures ∙ (λ i. look (c.as_slice-in-loop-count.ensures.value i) (number_at t.firsts) (shelf_at t.members) (shelf_at t.elements) r s))
+    ∙ c.if-next-eq0.true in
     subst (λ (ps : List (List Step)). (i : ℕ) → i < length ps → get_or ps i [] ≡ reverse c.args.steps.now → ⊥) c.self.view_is
-    (λ i lt e. no_path t.links.items (number_at t.firsts) (shelf_at t.members) (shelf_at t.elements) c.self.invariant c.args.steps.now c.loop-count.count r c.loop-count-test.true c.loop-count.invariant.0 c.loop-count.invariant.1 is i (let n = length-paths t.links.items in omega arith) e)
+    (λ i lt e. no_path t.links.items (number_at t.firsts) (shelf_at t.members) (shelf_at t.elements) c.self.invariant c.args.steps.now c.loop-count.count r
+    c.loop-count-test.true c.loop-count.invariant.0 c.loop-count.invariant.1 is i (let n = length-paths t.links.items in omega arith) e)
 
 pub overflow_cast-end : goal.overflow_cast-end
 overflow_cast-end c = let few = c.loop-count.invariant.2 in let fits = c.loop-count.invariant.3 in omega arith
@@ -37,7 +41,8 @@ returns-then-next-eq0-clause-ends c =
     let r = c.loop-count.path in
     let h = c.loop-count-test.true in
     subst (λ (ps : List (List Step)). EndsAt ps c.args.steps.now (record { path = r; steps = c.loop-count.count })) c.self.view_is
-    (stopped (paths_of links) c.args.steps.now r c.loop-count.count (omega arith) (let n = length-paths links in let h = c.loop-count.invariant.0 in omega arith) c.loop-count.invariant.1)
+    (stopped (paths_of links) c.args.steps.now r c.loop-count.count (omega arith)
+    (let n = length-paths links in let h = c.loop-count.invariant.0 in omega arith) c.loop-count.invariant.1)
 
 pub loop-count-preserved : goal.loop-count-preserved
 loop-count-preserved c =
@@ -45,12 +50,16 @@ loop-count-preserved c =
     let r = c.loop-count.path in
     let s = get_or c.args.steps.now c.loop-count.count (Name 0) in
     let k = look t.links.items (number_at t.firsts) (shelf_at t.members) (shelf_at t.elements) r s in
-    let is : c.look-next.result ≡ k = c.look-next.ensures ∙ (λ i. look (c.as_slice-in-loop-count.ensures.value i) (number_at t.firsts) (shelf_at t.members) (shelf_at t.elements) r s) in
+    let is : c.look-next.result ≡ k = c.look-next.ensures
+    ∙ (λ i. look (c.as_slice-in-loop-count.ensures.value i) (number_at t.firsts) (shelf_at t.members) (shelf_at t.elements) r s) in
     let some : 0 < k = (let h = c.if-next-eq0.false in omega arith) in
     let past : r < k = beyond t.links.items (number_at t.firsts) (shelf_at t.members) (shelf_at t.elements) c.self.invariant r s some in
     let few = c.loop-count.invariant.2 in (
-      subst (λ n. n < length t.links.items) (sym is) (inside t.links.items (number_at t.firsts) (shelf_at t.members) (shelf_at t.elements) c.self.invariant r s c.loop-count.invariant.0 some),
-      ap (λ n. get_or (paths_of t.links.items) n []) is ∙ further t.links.items (number_at t.firsts) (shelf_at t.members) (shelf_at t.elements) c.self.invariant r s _ c.loop-count.invariant.0 c.loop-count.invariant.1 some ∙ more c.args.steps.now c.loop-count.count c.loop-count-test.true,
+      subst (λ n. n < length t.links.items) (sym is)
+          (inside t.links.items (number_at t.firsts) (shelf_at t.members) (shelf_at t.elements) c.self.invariant r s c.loop-count.invariant.0 some),
+      ap (λ n. get_or (paths_of t.links.items) n []) is
+          ∙ further t.links.items (number_at t.firsts) (shelf_at t.members) (shelf_at t.elements) c.self.invariant r s _ c.loop-count.invariant.0
+          c.loop-count.invariant.1 some ∙ more c.args.steps.now c.loop-count.count c.loop-count-test.true,
       omega arith,
       c.look-next.type_inv,
     )
@@ -64,7 +73,8 @@ returns-clause-some c =
     let i = c.loop-count.path in
     let lt : i < length ps = (let n = length-paths c.self.inside.links.items in let h = c.loop-count.invariant.0 in omega arith) in
     subst (λ (ps : List (List Step)). slice_get ps i ≡ Some (reverse c.args.steps.now)) c.self.view_is
-    (slice_get-get_or ps i [] lt ∙ ap Some (c.loop-count.invariant.1 ∙ ap (λ (xs : List Step). reverse xs) (take_all c.loop-count.count c.args.steps.now c.loop-count-test.false)))
+    (slice_get-get_or ps i [] lt
+    ∙ ap Some (c.loop-count.invariant.1 ∙ ap (λ (xs : List Step). reverse xs) (take_all c.loop-count.count c.args.steps.now c.loop-count-test.false)))
 
 pub returns-clause-ends : goal.returns-clause-ends
 returns-clause-ends c =
@@ -72,4 +82,7 @@ returns-clause-ends c =
     let i = c.loop-count.path in
     let lt : i < length ps = (let n = length-paths c.self.inside.links.items in let h = c.loop-count.invariant.0 in omega arith) in
     subst (λ (ps : List (List Step)). EndsAt ps c.args.steps.now (record { path = i; steps = length c.args.steps.now })) c.self.view_is
-    (whole ps c.args.steps.now i (length c.args.steps.now) refl (slice_get-get_or ps i [] lt ∙ ap Some (c.loop-count.invariant.1 ∙ ap (λ (xs : List Step). reverse xs) (take_all c.loop-count.count c.args.steps.now c.loop-count-test.false))))
+    (whole ps c.args.steps.now i (length c.args.steps.now) refl
+    (slice_get-get_or ps i [] lt
+    ∙ ap Some (c.loop-count.invariant.1 ∙ ap (λ (xs : List Step). reverse xs)
+    (take_all c.loop-count.count c.args.steps.now c.loop-count-test.false))))

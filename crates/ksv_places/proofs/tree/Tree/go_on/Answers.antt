@@ -23,7 +23,8 @@ loop-count-preserved c =
     let f = c.in_ok-path.ensures.ok in (
       (c.further.ensures.tree, f.inside),
       more_more _ _ _ c.loop-count.invariant.1 c.further.ensures.more,
-      f.is ∙ ap (λ (q : List Step). get_or c.args.steps.now c.loop-count.count (Name 0) ∷ q) c.loop-count.invariant.2 ∙ more c.args.steps.now c.loop-count.count c.loop-count-test.true,
+      f.is ∙ ap (λ (q : List Step). get_or c.args.steps.now c.loop-count.count (Name 0) ∷ q) c.loop-count.invariant.2
+          ∙ more c.args.steps.now c.loop-count.count c.loop-count-test.true,
     )
 
 pub returns-clause-ok : goal.returns-clause-ok
@@ -31,4 +32,5 @@ returns-clause-ok c =
     let ps = paths_of c.loop-count.self-inside.links.items in
     let i = c.loop-count.path in
     let lt : i < length ps = (let n = length-paths c.loop-count.self-inside.links.items in let h = c.loop-count.invariant.0.1 in omega arith) in
-    slice_get-get_or ps i [] lt ∙ ap (λ (q : List Step). Some q) (c.loop-count.invariant.2 ∙ ap (λ (xs : List Step). reverse xs) (take_all c.loop-count.count c.args.steps.now c.loop-count-test.false))
+    slice_get-get_or ps i [] lt ∙ ap (λ (q : List Step). Some q)
+    (c.loop-count.invariant.2 ∙ ap (λ (xs : List Step). reverse xs) (take_all c.loop-count.count c.args.steps.now c.loop-count-test.false))

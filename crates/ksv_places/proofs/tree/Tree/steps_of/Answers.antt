@@ -23,9 +23,11 @@ loop-above-preserved c =
     let link : c.index-link.result.now ≡ link_at links k = c.index-link.ensures ∙ get_or_default links k _ _ inside in
     let l = c.index-link.result.now in
     let pushed : c.push.new.self.items ≡ steps ++ l.step ∷ [] = c.in_ok-push.ensures.items in
-    let whole : l.step ∷ get_or (paths_of links) l.parent [] ≡ get_or (paths_of links) k [] = ap (λ (x : Link). x.step ∷ get_or (paths_of links) x.parent []) link ∙ sym (path_at links k some inside up) in (
+    let whole : l.step ∷ get_or (paths_of links) l.parent [] ≡ get_or (paths_of links) k [] =
+    ap (λ (x : Link). x.step ∷ get_or (paths_of links) x.parent []) link ∙ sym (path_at links k some inside up) in (
       subst (λ (x : Link). x.parent < length links) (sym link) (omega arith),
-      ap (λ (xs : List Step). xs ++ get_or (paths_of links) l.parent []) pushed ∙ append_assoc steps (l.step ∷ []) (get_or (paths_of links) l.parent []) ∙ ap (λ (xs : List Step). steps ++ xs) whole ∙ c.loop-above.invariant.1,
+      ap (λ (xs : List Step). xs ++ get_or (paths_of links) l.parent []) pushed ∙ append_assoc steps (l.step ∷ []) (get_or (paths_of links) l.parent [])
+          ∙ ap (λ (xs : List Step). steps ++ xs) whole ∙ c.loop-above.invariant.1,
     )
 
 pub returns : goal.returns
@@ -35,4 +37,5 @@ returns c =
     let end : c.loop-above.above ≡ 0 = c.loop-above-test.false in
     let inside = c.loop-above.invariant.0 in
     let root : get_or (paths_of links) c.loop-above.above [] ≡ [] = ap (λ k. get_or (paths_of links) k []) end ∙ root_at links (omega arith) in
-    ap (λ (xs : List Step). reverse xs) c.reverse.ensures.items ∙ reverse-reverse steps ∙ sym (ap (λ (xs : List Step). steps ++ xs) root ∙ append-nil steps) ∙ c.loop-above.invariant.1 ∙ ap (λ (ps : List (List Step)). get_or ps c.args.path []) c.self.view_is
+    ap (λ (xs : List Step). reverse xs) c.reverse.ensures.items ∙ reverse-reverse steps ∙ sym (ap (λ (xs : List Step). steps ++ xs) root ∙ append-nil steps)
+    ∙ c.loop-above.invariant.1 ∙ ap (λ (ps : List (List Step)). get_or ps c.args.path []) c.self.view_is

@@ -11,7 +11,8 @@ step : (rs : List Row) (i : ℕ) (r : Row) (o p q : Option Fault) → i < length
     → noted o (all_types_faults i (map row_of (drop i rs))) ≡ q → noted p (all_types_faults (i + 1) (map row_of (drop (i + 1) rs))) ≡ q
 step rs i r o p q lt is new now =
     ap (λ (j : ℕ). noted p (all_types_faults (i + 1) (map row_of (drop j rs)))) (add-one i)
-    ∙ ap (λ (p : Option Fault). noted p (all_types_faults (i + 1) (map row_of (drop (suc i) rs)))) (new ∙ ap (λ (s : Row). noted o (type_faults i (row_of s))) is)
+    ∙ ap (λ (p : Option Fault). noted p (all_types_faults (i + 1) (map row_of (drop (suc i) rs))))
+    (new ∙ ap (λ (s : Row). noted o (type_faults i (row_of s))) is)
     ∙ sym (noted_append o (type_faults i (row_of (get_or rs i r))) (all_types_faults (i + 1) (map row_of (drop (suc i) rs))))
     ∙ sym (ap (λ (ss : List Row). noted o (all_types_faults i (map row_of ss))) (drop-cons rs i r lt)) ∙ now
 

@@ -12,6 +12,8 @@ loop-members-preserved c =
     let texts : are_texts (map row c.deref.result.now) ≡ true = sym c.in_ok-add_members.ensures.texts ∙ all in
     record {
       added = distinct_step (λ v. map row v.items) names_in c.args.types.now _ _ _ _ _ c.loop-members-test.true c.members-item.is
-          (c.in_ok-add_members.ensures.added all ∙ ap (λ ms. distinct_behind c.loop-members.names (names_in (map row ms))) c.deref.ensures.value) c.loop-members.invariant.added;
-      texts = all_step (λ v. map row v.items) c.args.types.now _ _ c.loop-members-test.true c.members-item.is _ (ap (λ ms. are_texts (map row ms)) (sym c.deref.ensures.value) ∙ texts) c.loop-members.invariant.texts;
+          (c.in_ok-add_members.ensures.added all ∙ ap (λ ms. distinct_behind c.loop-members.names (names_in (map row ms))) c.deref.ensures.value)
+          c.loop-members.invariant.added;
+      texts = all_step (λ v. map row v.items) c.args.types.now _ _ c.loop-members-test.true c.members-item.is _
+          (ap (λ ms. are_texts (map row ms)) (sym c.deref.ensures.value) ∙ texts) c.loop-members.invariant.texts;
     }

@@ -7,6 +7,7 @@ use Rattle.ksv_schema.proofs.members.description.add_all_members.Given as goal
 
 abbrev pub invariant-loop-members : goal.invariant-loop-members
 invariant-loop-members l = record {
-  added : distinct_behind l.names (flat_map names_in (map (λ v. map row v.items) (drop l.members-index l.types))) ≡ distinct_behind l.fn.names (flat_map names_in (map (λ v. map row v.items) l.types));
+  added : distinct_behind l.names (flat_map names_in (map (λ v. map row v.items) (drop l.members-index l.types)))
+      ≡ distinct_behind l.fn.names (flat_map names_in (map (λ v. map row v.items) l.types));
   texts : list_all are_texts (map (λ v. map row v.items) l.types) ≡ list_all are_texts (map (λ v. map row v.items) (drop l.members-index l.types));
 }

@@ -10,4 +10,5 @@ use Rattle.ksv_schema.proofs.members.description.all_members.Given as goal
 abbrev pub invariant-loop-within : goal.invariant-loop-within
 invariant-loop-within l =
     let read = members (declared l.scopes) in
-    IsSoFar (each_from read 0 (map (λ v. map row v.items) l.types)) (each_from read l.within (map (λ v. map row v.items) (drop l.within l.types))) (option_map (λ v. map (λ w. map plain_kind w.items) v.items) l.made) l.fn.reader l.reader
+    IsSoFar (each_from read 0 (map (λ v. map row v.items) l.types)) (each_from read l.within (map (λ v. map row v.items) (drop l.within l.types)))
+    (option_map (λ v. map (λ w. map plain_kind w.items) v.items) l.made) l.fn.reader l.reader

@@ -10,4 +10,5 @@ use Rattle.ksv_schema.proofs.members.description.each_member.Given as goal
 abbrev pub invariant-loop-number : goal.invariant-loop-number
 invariant-loop-number l =
     let read = member (declared l.scopes) l.within in
-    IsSoFar (each_from read 0 (map row l.members)) (each_from read l.number (map row (drop l.number l.members))) (option_map (λ v. map plain_kind v.items) l.made) l.fn.reader l.reader
+    IsSoFar (each_from read 0 (map row l.members)) (each_from read l.number (map row (drop l.number l.members)))
+    (option_map (λ v. map plain_kind v.items) l.made) l.fn.reader l.reader

@@ -9,5 +9,6 @@ use Rattle.ksv_schema.proofs.members.description.members_of.Given as goal
 
 abbrev pub invariant-loop-member : goal.invariant-loop-member
 invariant-loop-member l =
-    onto (map plain_member l.made.items) (each_of (member_of (context_of l.context)) (map row (drop l.member-index l.members)) (map plain_kind (into_iter_items l.rest)))
+    onto (map plain_member l.made.items)
+    (each_of (member_of (context_of l.context)) (map row (drop l.member-index l.members)) (map plain_kind (into_iter_items l.rest)))
     ≡ each_of (member_of (context_of l.context)) (map row l.members) (map plain_kind l.fn.kinds.items)

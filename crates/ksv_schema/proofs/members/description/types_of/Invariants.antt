@@ -9,5 +9,6 @@ use Rattle.ksv_schema.proofs.members.description.types_of.Given as goal
 
 abbrev pub invariant-loop-within : goal.invariant-loop-within
 invariant-loop-within l =
-    onto (map plain_type l.made.items) (types_of (declared l.scopes) l.names l.within (map row_of (drop l.within l.types)) (map (λ w. map plain_kind w.items) (into_iter_items l.rest)))
+    onto (map plain_type l.made.items)
+    (types_of (declared l.scopes) l.names l.within (map row_of (drop l.within l.types)) (map (λ w. map plain_kind w.items) (into_iter_items l.rest)))
     ≡ types_of (declared l.scopes) l.names 0 (map row_of l.types) (map (λ w. map plain_kind w.items) l.fn.kinds.items)

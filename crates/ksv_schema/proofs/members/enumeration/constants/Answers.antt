@@ -12,10 +12,15 @@ loop-number-preserved c =
     let before = take c.loop-number.number (map pair c.args.entries.now) in
     record {
       read =
-          each_from_step pair (λ i. constant (take i (map pair c.args.entries.now))) c.args.entries.now _ _ _ _ _ _ _ _ _ c.loop-number-test.true c.index-entries-number.is (c.in_ok-next.ensures.read before c.loop-number.invariant.given)
+          each_from_step pair (λ i. constant (take i (map pair c.args.entries.now))) c.args.entries.now _ _ _ _ _ _ _ _ _ c.loop-number-test.true
+          c.index-entries-number.is (c.in_ok-next.ensures.read before c.loop-number.invariant.given)
           (pushed_seen plain_entry _ _ _ c.in_ok-made.ensures) c.loop-number.invariant.read;
-      given = subst (AreOf c.constant.new.seen) (sym (take_more pair c.args.entries.now c.loop-number.number _ c.loop-number-test.true c.index-entries-number.is) ∙ ap (λ n. take n (map pair c.args.entries.now)) (sym (add-one c.loop-number.number))) (c.in_ok-next.ensures.given before c.loop-number.invariant.given);
+      given = subst (AreOf c.constant.new.seen)
+          (sym (take_more pair c.args.entries.now c.loop-number.number _ c.loop-number-test.true c.index-entries-number.is)
+          ∙ ap (λ n. take n (map pair c.args.entries.now)) (sym (add-one c.loop-number.number)))
+          (c.in_ok-next.ensures.given before c.loop-number.invariant.given);
     }
 
 pub returns : goal.returns
-returns c = each_from_end pair (λ i. constant (take i (map pair c.args.entries.now))) c.args.entries.now _ _ _ _ _ c.loop-number-test.false c.loop-number.invariant.read
+returns c = each_from_end pair (λ i. constant (take i (map pair c.args.entries.now))) c.args.entries.now _ _ _ _ _ c.loop-number-test.false
+    c.loop-number.invariant.read

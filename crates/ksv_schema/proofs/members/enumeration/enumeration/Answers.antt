@@ -12,5 +12,7 @@ use Rattle.ksv_schema.proofs.members.enumeration.enumeration.Goals as goal
 pub returns-in_ok-new-in-Some : goal.returns-in_ok-new-in-Some
 returns-in_ok-new-in-Some c =
     let plain : Enum = record { id = string_bytes c.in-Some.id; members = map plain_entry c.in-Some.entries.items } in
-    let same : plain_enum c.in_ok-new-in-Some.field-0 ≡ plain = (λ j. record { id = string_bytes (c.in_ok-new-in-Some.ensures.id j); members = map plain_entry (c.in_ok-new-in-Some.ensures.entries j).items }) in
-    subst (λ (p : Enum). IsRead (enum (row_of c.args.row.now)) (Some p) c.args.reader.now c.constants.new.reader) (sym same) (first_of (search rules, grind (arith, steps), grind (arith, common_steps, steps)))
+    let same : plain_enum c.in_ok-new-in-Some.field-0 ≡ plain =
+    (λ j. record { id = string_bytes (c.in_ok-new-in-Some.ensures.id j); members = map plain_entry (c.in_ok-new-in-Some.ensures.entries j).items }) in
+    subst (λ (p : Enum). IsRead (enum (row_of c.args.row.now)) (Some p) c.args.reader.now c.constants.new.reader) (sym same)
+    (first_of (search rules, grind (arith, steps), grind (arith, common_steps, steps)))

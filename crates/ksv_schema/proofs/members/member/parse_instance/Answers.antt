@@ -19,5 +19,7 @@ unfolding parse_instance
 returns-in-Some c =
     let h = seen_home c.args.home.now in
     let es = map pair c.args.entries.now in
-    three_read (λ p. ParseInstance p.0.0 p.0.1 p.1) (must c.args.line (expression h sites.Place) (entry_at (codes "pos") es)) (perhaps (expression h sites.Stream) (entry_at (codes "io") es)) (own_field h kinds.ParseInstance c.args.line es)
-    view (λ e. option_map view e) plain_field _ _ _ _ _ _ _ _ _ c.in_ok-at.ensures (rw c.in-Some.is at c.in_ok-read.ensures) (rw c.find.ensures at c.in_ok-place.ensures) (rw c.find-2.ensures at c.perhaps_expression-stream.ensures) c.own_field-field.ensures
+    three_read (λ p. ParseInstance p.0.0 p.0.1 p.1) (must c.args.line (expression h sites.Place) (entry_at (codes "pos") es))
+    (perhaps (expression h sites.Stream) (entry_at (codes "io") es)) (own_field h kinds.ParseInstance c.args.line es)
+    view (λ e. option_map view e) plain_field _ _ _ _ _ _ _ _ _ c.in_ok-at.ensures (rw c.in-Some.is at c.in_ok-read.ensures)
+    (rw c.find.ensures at c.in_ok-place.ensures) (rw c.find-2.ensures at c.perhaps_expression-stream.ensures) c.own_field-field.ensures

@@ -7,8 +7,10 @@ use Rattle.ksv_schema.proofs.members.number.number_trees.Goals as goal
 
 pub loop-expr-preserved : goal.loop-expr-preserved
 loop-expr-preserved c = record {
-  done = done_more view (in_tree (context_of c.args.context.now)) c.loop-expr.exprs c.args.exprs.now c.loop-expr.expr-index c.expr-item.result c.number_tree.new.expr (omega arith) c.number_tree.ensures c.loop-expr.invariant.left c.loop-expr.invariant.done;
-  left = left_less view (in_tree (context_of c.args.context.now)) c.loop-expr.exprs c.args.exprs.now c.loop-expr.expr-index c.expr-item.result c.number_tree.new.expr c.loop-expr.invariant.left;
+  done = done_more view (in_tree (context_of c.args.context.now)) c.loop-expr.exprs c.args.exprs.now c.loop-expr.expr-index c.expr-item.result
+      c.number_tree.new.expr (omega arith) c.number_tree.ensures c.loop-expr.invariant.left c.loop-expr.invariant.done;
+  left = left_less view (in_tree (context_of c.args.context.now)) c.loop-expr.exprs c.args.exprs.now c.loop-expr.expr-index c.expr-item.result
+      c.number_tree.new.expr c.loop-expr.invariant.left;
 }
 
 pub returns : goal.returns

@@ -11,4 +11,7 @@ use Rattle.ksv_schema.proofs.values.rule.note_together.Goals as goal
 
 pub returns : goal.returns
 unfolding together
-returns c = c.note_each.ensures ∙ ap (λ (rs : List Ruled). noted (seen_fault c.args.least.now) (flat_map (ruled_faults c.args.kind c.args.line (seen_type_at c.args.typed.now) (map pair c.args.entries.now)) (map seen_ruled rs))) c.as_slice.ensures
+returns c = c.note_each.ensures
+    ∙ ap (λ (rs : List Ruled). noted (seen_fault c.args.least.now)
+    (flat_map (ruled_faults c.args.kind c.args.line (seen_type_at c.args.typed.now) (map pair c.args.entries.now)) (map seen_ruled rs)))
+    c.as_slice.ensures

@@ -10,4 +10,5 @@ use Rattle.ksv_schema.proofs.values.types.cases.Given as goal
 abbrev pub invariant-loop-case : goal.invariant-loop-case
 invariant-loop-case l =
     let read = case (seen_keys l.keys) in
-    IsSoFar (each read (map pair l.cases)) (each_from (λ i. read) l.case-index (map pair (drop l.case-index l.cases))) (option_map (λ v. map plain_case v.items) l.made) l.fn.reader l.reader
+    IsSoFar (each read (map pair l.cases)) (each_from (λ i. read) l.case-index (map pair (drop l.case-index l.cases)))
+    (option_map (λ v. map plain_case v.items) l.made) l.fn.reader l.reader

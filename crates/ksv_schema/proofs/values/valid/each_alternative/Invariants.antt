@@ -10,4 +10,5 @@ use Rattle.ksv_schema.proofs.values.valid.each_alternative.Given as goal
 abbrev pub invariant-loop-node : goal.invariant-loop-node
 invariant-loop-node l =
     let read = alternative (seen_home l.home) in
-    IsSoFar (each read (map view_node l.nodes)) (each_from (λ i. read) l.node-index (map view_node (drop l.node-index l.nodes))) (option_map (λ v. map view v.items) l.made) l.fn.reader l.reader
+    IsSoFar (each read (map view_node l.nodes)) (each_from (λ i. read) l.node-index (map view_node (drop l.node-index l.nodes)))
+    (option_map (λ v. map view v.items) l.made) l.fn.reader l.reader

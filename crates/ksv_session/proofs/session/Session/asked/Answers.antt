@@ -19,4 +19,5 @@ returns-in_err-reply-clause-refused g c m h =
 pub returns-clause-memory : goal.returns-clause-memory
 returns-clause-memory g c m h =
     answered_holds c.self.inside.described.desc c.self.inside.buffer c.self.inside.engine c.self.inside.turns c.args.self.now c.self.view_is m h
-    (λ d b. asks d b (asking d b c.args.question.now)) c.begin.new.self c.answer.new.engine c.turns-self-inside.result c.begin.ensures.kept c.begin.ensures.turns c.in_ok-told.ensures.asked c.turns-self-inside.ensures
+    (λ d b. asks d b (asking d b c.args.question.now)) c.begin.new.self c.answer.new.engine c.turns-self-inside.result c.begin.ensures.kept
+    c.begin.ensures.turns c.in_ok-told.ensures.asked c.turns-self-inside.ensures

@@ -6,9 +6,11 @@ use Rattle.ksv_session.proofs.KeptLemmas.{edited_holds}
 use Rattle.ksv_session.proofs.session.Session.insert.Goals as goal
 
 pub invariant_of-self-2 : goal.invariant_of-self-2
-invariant_of-self-2 g c = c.forget.ensures.right c.self.inside.described c.self.inside.buffer c.insert.new.self c.self.invariant (insert_makes c.self.inside.buffer c.args.at c.args.bytes.now c.insert.new.self c.in_ok-insert.ensures.done)
+invariant_of-self-2 g c = c.forget.ensures.right c.self.inside.described c.self.inside.buffer c.insert.new.self c.self.invariant
+    (insert_makes c.self.inside.buffer c.args.at c.args.bytes.now c.insert.new.self c.in_ok-insert.ensures.done)
 
 pub returns-clause-memory : goal.returns-clause-memory
 returns-clause-memory g c m h =
     edited_holds c.self.inside.described.desc c.self.inside.buffer c.self.inside.engine c.self.inside.turns c.args.self.now c.self.view_is m h
-    (λ b. insert b c.args.at c.args.bytes.now) (changes.Insert c.args.at (length c.args.bytes.now)) c.insert.new.self c.forget.new.self c.in_ok-insert.ensures.done (c.forget.ensures.left c.self.inside.described c.self.inside.buffer c.self.invariant)
+    (λ b. insert b c.args.at c.args.bytes.now) (changes.Insert c.args.at (length c.args.bytes.now)) c.insert.new.self c.forget.new.self
+    c.in_ok-insert.ensures.done (c.forget.ensures.left c.self.inside.described c.self.inside.buffer c.self.invariant)

@@ -8,4 +8,5 @@ returns-clause-ok g c =
     let ns = c.args.self.now.nodes.keys in
     let n = c.args.node.now in
     let put = c.in_ok-insert.ensures.keys ∙ new-key g.N.PartialEq.eq ns n c.requires.none in
-    removed ns c.insert.new.self.keys c.args.place n c.swap_remove_index.result put c.requires.place_in c.swap_remove_index.ensures.key c.swap_remove_index.new.self.keys c.swap_remove_index.ensures.keys
+    removed ns c.insert.new.self.keys c.args.place n c.swap_remove_index.result put c.requires.place_in c.swap_remove_index.ensures.key
+    c.swap_remove_index.new.self.keys c.swap_remove_index.ensures.keys
