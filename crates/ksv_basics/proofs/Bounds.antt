@@ -11,7 +11,7 @@ asks_more zero n (Ask q k) h b = absurd b
 asks_more (suc m) zero (Ask q k) h b = absurd (omega arith)
 asks_more (suc m) (suc n) (Ask q k) h b = λ r. asks_more m n (k r) (omega arith) (b r)
 
--- one plan behind another puts the questions of both
+-- one plan after another puts the questions of both
 pub asks_bind : {Q : Type 0} {R : Q → Type 0} {F A B : Type 0} (m n : ℕ) (p : Plan Q R F A) (f : A → Plan Q R F B) → AsksAtMost m p
     → ((a : A) → AsksAtMost n (f a)) → AsksAtMost (m + n) (bind p f)
 unfolding bind
@@ -34,7 +34,7 @@ pub asks_if : {Q : Type 0} {R : Q → Type 0} {F A : Type 0} (b : Bool) (n : ℕ
 asks_if true n p q f g = f
 asks_if false n p q f g = g
 
--- a plan that has as many replies as it can ask for comes to its end, whatever they say
+-- a plan that has as many replies as it can ask for ends, whatever they say
 pub enough : {Q P H F E A : Type 0} (raise : P → F → E) (n : ℕ) (p : Plan Q (λ _. H) F A) (here : P) (replies : List (Result H E)) → AsksAtMost n p
     → n ≤ length replies → IsEnded (run (by_replies raise) p (record { here = here; replies = replies }))
 enough raise n (Answer a) here replies b h = tt

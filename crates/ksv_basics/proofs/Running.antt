@@ -1,4 +1,4 @@
--- What running does with plans behind one another.
+-- What running does with plans after one another.
 use Rattle.std.proofs.Common.{◌≡◌, refl, sym, ◌∙◌}
 use Rattle.ksv_basics.specs.Plan.{Plan, Answer, Fail, Ask, bind, Ran, Need, Failed, Done, Handler, next, run, translate}
 
@@ -15,7 +15,7 @@ next_same (Need n s) f g same = refl
 next_same (Failed e s) f g same = refl
 next_same (Done a s) f g same = same a s
 
--- one plan behind another runs behind it
+-- one plan after another runs after it
 pub run_bind : {Q : Type 0} {R : Q → Type 0} {F S N E A B : Type 0} (h : Handler Q R F S N E) (p : Plan Q R F A) (f : A → Plan Q R F B) (s : S)
     → run h (bind p f) s ≡ next (run h p s) (λ a s'. run h (f a) s')
 unfolding bind

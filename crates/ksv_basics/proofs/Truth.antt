@@ -16,7 +16,7 @@ module _ {Q P H F E : Type 0} (raise : P → F → E) (here : P) (met : Q → Re
   bind_behind k f same (Ok h) = same h
   bind_behind k f same (Err e) = refl
 
-  -- the answer of one plan behind another
+  -- the answer of one plan after another
   pub answer_bind : {A B : Type 0} (p : Plan Q (λ _. H) F A) (f : A → Plan Q (λ _. H) F B)
       → answer_of (raise here) met (bind p f) ≡ and_then (answer_of (raise here) met p) (λ a. answer_of (raise here) met (f a))
   unfolding bind
@@ -30,7 +30,7 @@ module _ {Q P H F E : Type 0} (raise : P → F → E) (here : P) (met : Q → Re
   answer_if true p q = refl
   answer_if false p q = refl
 
-  -- with all the replies it ends with the answer, and what stands behind them is left
+  -- with all the replies it ends with the answer, and what comes after them is left
   abbrev pub Ends : {A : Type 0} → Plan Q (λ _. H) F A → Type 0
   Ends p = (more : List (Result H E)) → run (by_replies raise) p (at (map met (asks_of met p) ++ more)) ≡ ended (answer_of (raise here) met p) (at more)
 

@@ -1,4 +1,4 @@
--- What stands around a gap, after bytes were written in it or beside it.
+-- What is around a gap, after bytes were written in it or beside it.
 use Rattle.std.proofs.Common.{◌≡◌, ℕ, ◌+◌, ◌-◌, ◌<◌, ◌≤◌, ◌⊎◌, inl, inr, List, [], ◌++◌, length, take, drop, min, max, refl, ap, ◌∙◌, sym, arith, append_assoc}
 use Rattle.std.proofs.Math.Seq.{drop-append-add, take-add, take-append-add}
 use Rattle.std.proofs.lemmas.Bool.{cases_lt}
@@ -20,7 +20,7 @@ take_end-overwritten : (bytes h : List ℕ) (at n : ℕ) → at ≤ length bytes
 take_end-overwritten bytes h at n held end = take_at (take at bytes ++ h) (drop (at + length h) bytes) n
     (let long : length (take at bytes ++ h) ≡ n = grind (arith, common_steps) in long)
 
--- what is from a write on, and what is behind it
+-- what is from a write on, and what is after it
 drop_at-overwritten : (bytes h : List ℕ) (at : ℕ) → at ≤ length bytes → drop at (overwritten bytes at h) ≡ h ++ drop (at + length h) bytes
 drop_at-overwritten bytes h at held =
     ap (drop at) (append_assoc (take at bytes) h (drop (at + length h) bytes))
@@ -60,7 +60,7 @@ copy-overwritten bytes from k to held =
     ap (λ n. take to bytes ++ take n (drop from bytes) ++ drop (to + n) bytes) count
     ∙ ap (λ n. take to bytes ++ take k (drop from bytes) ++ drop (to + n) bytes) (sym long)
 
--- the gap moves to the left: the bytes that it passes are then behind it
+-- the gap moves to the left: the bytes that it passes are then after it
 pub around-moved_left : (bytes : List ℕ) (front gap to : ℕ) → front + gap ≤ length bytes → to < front
     → around (copy_within bytes to front (to + gap)) to gap ≡ around bytes front gap
 around-moved_left bytes front gap to held lt =
@@ -153,7 +153,7 @@ overwritten-nothing bytes h at none =
     ∙ ap (λ n. take at bytes ++ drop n bytes) end
     ∙ take-append-drop at bytes
 
--- a write, and one right behind it
+-- a write, and one right after it
 overwritten-overwritten : (bytes h more : List ℕ) (at next : ℕ) → next ≡ at + length h → at ≤ length bytes
     → overwritten (overwritten bytes at h) next more ≡ overwritten bytes at (h ++ more)
 overwritten-overwritten bytes h more at next is held =
@@ -172,7 +172,7 @@ around-overwritten_before bytes h front gap at held before =
     ∙ ap (λ ys. overwritten (take front bytes) at h ++ ys) (drop_behind-overwritten bytes h at (front + gap) (omega arith) (omega arith))
     ∙ sym (overwritten-append_left (take front bytes) (drop (front + gap) bytes) h at (omega arith))
 
--- bytes written behind it
+-- bytes written after it
 around-overwritten_behind : (bytes h : List ℕ) (front gap at : ℕ) → at + gap ≤ length bytes → front ≤ at
     → around (overwritten bytes (at + gap) h) front gap ≡ overwritten (around bytes front gap) at h
 around-overwritten_behind bytes h front gap at held behind =
@@ -182,7 +182,7 @@ around-overwritten_behind bytes h front gap at held behind =
     ∙ ap (λ ys. take front bytes ++ ys) (drop-overwritten bytes h (at + gap) (front + gap) k (omega arith) (omega arith))
     ∙ sym (overwritten-append_right (take front bytes) (drop (front + gap) bytes) h at k (omega arith))
 
--- the first of two writes ends at the gap or in front of it, and the second begins at the gap or behind it; where one
+-- the first of two writes ends at the gap or in front of it, and the second begins at the gap or after it; where one
 -- of them doesn't, it is empty
 pub around-overwritten_both : (bytes h more : List ℕ) (front gap at cut : ℕ) → front + gap ≤ length bytes → cut ≡ at + length h → cut + gap ≤ length bytes →
     (cut ≤ front) ⊎ (length h ≡ 0) → (front ≤ cut) ⊎ (length more ≡ 0) →
@@ -202,7 +202,7 @@ around-overwritten_both bytes h more front gap at cut held is inside first secon
     ] in
     two ∙ ap (λ xs. overwritten xs cut more) one ∙ overwritten-overwritten (around bytes front gap) h more at cut is (omega arith)
 
--- a window in front of the gap, behind it, and on both sides of it
+-- a window in front of the gap, after it, and on both sides of it
 range-around_before : (bytes : List ℕ) (front gap from to : ℕ) → front + gap ≤ length bytes → from ≤ to → to ≤ front
     → slice_range (around bytes front gap) from to ≡ slice_range bytes from to
 range-around_before bytes front gap from to held ordered before =
@@ -271,7 +271,7 @@ range-around bytes front gap from to cut held ordered is = elim (cases_lt to fro
   ]
 ]
 
--- a gap that takes in what is behind it
+-- a gap that takes in what is after it
 pub around-wider : (bytes : List ℕ) (front gap n : ℕ) → front + gap + n ≤ length bytes
     → take front (around bytes front gap) ++ drop (front + n) (around bytes front gap) ≡ around bytes front (gap + n)
 around-wider bytes front gap n held =

@@ -18,7 +18,7 @@ use Rattle.ksv_bytes.specs.Uses.{AgreeOn, Touches, Keeps, is_use_touched}
 range-front : (bytes : List ℕ) (from to : ℕ) → from < to → slice_range bytes from to ≡ drop from (take to bytes)
 range-front bytes from to lt = let eq : to ≡ from + (to - from) = omega arith in sym (ap (λ k. drop from (take k bytes)) eq ∙ drop-take from (to - from) bytes)
 
--- the first bytes of a list, behind which anything may stand
+-- the first bytes of a list, after which anything may stand
 front-same : (bytes more : List ℕ) (at to : ℕ) → to ≤ at → at ≤ length bytes → take to (take at bytes ++ more) ≡ take to bytes
 front-same bytes more at to le fits =
     let enough : to ≤ length (take at bytes) = grind (arith, common_steps) in
@@ -32,7 +32,7 @@ front-kept : (bytes more : List ℕ) (at from to : ℕ) → from < to → to ≤
 front-kept bytes more at from to lt le fits =
     range-front (take at bytes ++ more) from to lt ∙ ap (drop from) (front-same bytes more at to le fits) ∙ sym (range-front bytes from to lt)
 
--- what begins at or behind the end of an overwrite
+-- what begins at or after the end of an overwrite
 behind-kept : (bytes new : List ℕ) (at n from to : ℕ) → length new ≡ n → at + n ≤ length bytes → at + n ≤ from
     → slice_range (take at bytes ++ new ++ drop (at + n) bytes) from to ≡ slice_range bytes from to
 behind-kept bytes new at n from to len fits le =
@@ -60,7 +60,7 @@ overwrite-length bytes new at n len fits = grind (arith, common_steps)
 front-reaches : (bytes more : List ℕ) (at to : ℕ) → to ≤ at → at ≤ length bytes → to ≤ length (take at bytes ++ more)
 front-reaches bytes more at to le fits = grind (arith, common_steps)
 
--- the front of an edit that shifts what stands behind its place
+-- the front of an edit that shifts what comes after its place
 shift-bytes : (before after more : List ℕ) (at from to : ℕ) → after ≡ take at before ++ more → at ≤ length before → from < to → to ≤ length before
     → (at < to → ⊥) → AgreeOn before after (Bytes from to)
 shift-bytes before after more at from to is fits lt held apart =

@@ -1,7 +1,7 @@
 -- Bytes with a gap among them. What is in the gap means nothing.
 use Rattle.std.specs.Prelude.{ℕ, ◌+◌, List, ◌++◌, length, take, drop}
 
--- the bytes in front of a gap and those behind it, where the gap begins at a place and is this many bytes long
+-- the bytes before a gap and those after it, where the gap begins at a place and is this many bytes long
 abbrev pub around : List ℕ → ℕ → ℕ → List ℕ
 around bytes front gap = take front bytes ++ drop (front + gap) bytes
 

@@ -34,7 +34,7 @@ fn read_file(rt: &HostRuntime, path: &str, limit: u64) -> io::Result<Vec<u8>> {
     Ok(bytes)
 }
 
-/// Why the program stops at an error of the system: want of memory, or else this.
+/// Why the program stops at an error of the system: out of memory, or else this.
 fn stop_of(error: io::Error, otherwise: Stop) -> Stop {
     if error.kind() == ErrorKind::OutOfMemory {
         Stop::NoMemory

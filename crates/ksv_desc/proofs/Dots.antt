@@ -1,4 +1,4 @@
--- The names behind the dots of an expression, form by form, and how they come into a table.
+-- The names after the dots of an expression, form by form, and how they come into a table.
 use Rattle.std.proofs.Common.{◌≡◌, ℕ, suc, ◌+◌, ◌<◌, ◌≤◌, List, [], ◌∷◌, ◌++◌, if◌then◌else◌, map, length, get_or, drop, refl, sym, ap, ◌∙◌, add-one, drop-cons}
 use Rattle.std.proofs.Common.{string_bytes, Box, Global, String, Vec}
 use Rattle.std.specs.List.{flat_map, list_any}

@@ -8,7 +8,7 @@ use Rattle.std.proofs.lemmas.Slice.Eq.{bytes_eq-Decides}
 use Rattle.ksv_desc.specs.Names.{distinct_behind, number_in}
 use Rattle.ksv_desc.specs.Names.{has_names, AreDistinct, IsTableOf}
 
--- whether a name stands in a list
+-- whether a name is in a list
 abbrev has : List (List ℕ) → List ℕ → Bool
 has names w = list_any (bytes_eq w) names
 
@@ -33,7 +33,7 @@ all_weaker p q (x ∷ xs) weaker h =
     let hs = and_parts (p x) (list_all p xs) h in
     and_from (q x) (list_all q xs) (weaker x hs.0) (all_weaker p q xs weaker hs.1)
 
--- the table has a list's names where each stands in it
+-- the table has a list's names where each is in it
 has_each : (names words : List (List ℕ)) → list_all (has names) words ≡ true → has_names names words ≡ true
 unfolding number_in
 has_each names words h = all_by (λ w. is_some (number_in names w)) (has names) words (λ w. found_any (bytes_eq w) 0 names) ∙ h
@@ -52,7 +52,7 @@ any_last t (x ∷ xs) y h = by_test (t x) (any_last t xs y h) where
   by_test true later = refl
   by_test false later = later
 
--- each name of a list stands in it
+-- each name of a list is in it
 has_own : (names : List (List ℕ)) → list_all (has names) names ≡ true
 has_own [] = refl
 has_own (w ∷ ws) =

@@ -1,4 +1,4 @@
--- What evaluating a node comes to, to a depth, is what the definitions say of it.
+-- What evaluating a node yields, to a depth, is what the definitions say of it.
 use Rattle.std.proofs.Common.{◌≡◌, ℕ, zero, suc, ◌+◌, ◌≤◌, Bool, true, false, List, [], ◌∷◌, ◌++◌, length, if◌then◌else◌, Option, Some, None}
 use Rattle.std.proofs.Common.{option_map, Result, Ok, Err, refl, ap, sym, ◌∙◌, subst, arith}
 use Rattle.std.specs.List.{flat_map}
@@ -35,13 +35,13 @@ use Rattle.ksv_examples.proofs.Sessions.{mapped}
 
 -- ---- rules
 
--- what a node comes to, where these functions say what nodes answer, and what they complete
+-- what a node yields, where these functions say what nodes answer, and what they complete
 record Meets (g : Node → Result Given NodeFault) (l : Node → List Node) (n : Node) (w : Walk Given NodeFault) : Type 0 where
   answer : g n ≡ w.answer
   completed : l n ≡ w.completed
 
 module _ (g : Node → Result Given NodeFault) (l : Node → List Node) (here : Trail) (bytes : List ℕ) where
-  -- what a rule comes to
+  -- what a rule yields
   record Comes {A : Type 0} (p : Rule A) (w : Walk A NodeFault) : Type 0 where
     answer : answer_of g here bytes p ≡ w.answer
     asks : asks_of g here bytes p ≡ w.asks
@@ -130,7 +130,7 @@ module _ (d : Description) (bytes : List ℕ) where
   abbrev w : Standing Node (Result Given Fault)
   w = on (described d) bytes
 
-  -- what a node comes to while these are open, by definitions that go so much deeper
+  -- what a node yields while these are open, by definitions that go so much deeper
   pub record Goes (depth : ℕ) (opened : List Node) (n : Node) (x : Walk Given NodeFault) : Type 0 where
     pub answer : from_nothing d bytes opened n ≡ x.answer
     pub circle : meets_circle d bytes opened n ≡ x.circle
@@ -146,7 +146,7 @@ module _ (d : Description) (bytes : List ℕ) where
   AllGo k opened = AreDistinct w opened → (n : Node) (x : Walk Given NodeFault) → walk_at d bytes k opened n ≡ Some x → (depth : ℕ)
       → node_bound ≤ depth + length opened → Goes depth opened n x
 
-  -- a node that isn't open, and what its rule comes to
+  -- a node that isn't open, and what its rule yields
   module _ (k : ℕ) (opened : List Node) (n : Node) (distinct : AreDistinct w opened) (out : is_among node_number opened n ≡ false)
       (below : AllGo k (n ∷ opened)) (v : Walk Given NodeFault) (e : rule_walk (walk_at d bytes k (n ∷ opened)) n.path bytes (rule_of d n) ≡ Some v) where
     further : AreDistinct w (n ∷ opened)
@@ -156,7 +156,7 @@ module _ (d : Description) (bytes : List ℕ) where
     some_left : node_bound ≤ length opened → ⊥
     some_left deep = let more : length (n ∷ opened) ≤ node_bound = few w (law_on (described d) (described_lawful d) bytes) (n ∷ opened) further in omega arith
 
-    -- what its rule comes to, by definitions that go so much deeper for what it asks
+    -- what its rule yields, by definitions that go so much deeper for what it asks
     coming : (depth : ℕ) → node_bound ≤ suc depth + length opened
         → Comes (from_nothing d bytes (n ∷ opened)) (completed_within d bytes depth (n ∷ opened)) n.path bytes (rule_of d n) v
     coming depth deep =
@@ -210,7 +210,7 @@ module _ (d : Description) (bytes : List ℕ) where
       let b = mapped (closed n) (rule_walk (walk_at d bytes k (n ∷ opened)) n.path bytes (rule_of d n)) x e in
       subst (Goes depth opened n) b.2 (goes k opened n distinct (sym (open_numbered opened n) ∙ found) below b.0 b.1 depth deep)
 
-  -- what a node comes to, to a depth
+  -- what a node yields, to a depth
   pub all_go : (k : ℕ) (opened : List Node) → AllGo k opened
   unfolding walk_at
   all_go zero opened distinct n x e depth deep = absurd (cc)

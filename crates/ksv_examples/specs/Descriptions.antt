@@ -59,7 +59,7 @@ pub record Row : Type 0 where
 abbrev row : List (List ℕ) → ℕ → ℕ → Row
 row lines line number = record { lines = lines; line = line; number = number }
 
--- lines from 5 on, behind `meta:`, `  id: a`, `seq:` and `  - id: x`
+-- lines from 5 on, after `meta:`, `  id: a`, `seq:` and `  - id: x`
 abbrev behind : List (List ℕ) → ℕ → ℕ → Row
 behind lines line number = row (codes "meta:" ∷ codes "  id: a" ∷ codes "seq:" ∷ codes "  - id: x" ∷ lines) line number
 
@@ -85,7 +85,7 @@ refused_texts =
     behind (codes "    type: u1(1)" ∷ []) 5 7 ∷
     -- no type's text
     behind (codes "    type: Foo" ∷ []) 5 10 ∷
-    -- bits of which the lowest of a byte is the first are left out
+    -- bits whose lowest of a byte comes first are unsupported
     behind (codes "    type: b12le" ∷ []) 5 8 ∷
     -- no bits of 65, so a name
     behind (codes "    type: b65" ∷ []) 5 4 ∷
@@ -139,7 +139,7 @@ refused_texts =
     behind (codes "    contents: [1, 256]" ∷ []) 5 6 ∷
     -- a list for a text
     behind (codes "    size: [1]" ∷ []) 5 6 ∷
-    -- a key that is left out
+    -- an unsupported key
     behind (codes "    size: 1" ∷ codes "    process: zlib" ∷ []) 6 8 ∷
     -- an unknown bare name
     behind (codes "    size: y" ∷ []) 5 4 ∷
@@ -185,7 +185,7 @@ refused_texts =
     behind (codes "    type: u1" ∷ codes "instances:" ∷ codes "  i:" ∷ codes "    type: u1" ∷ codes "    value: 1" ∷ []) 8 3 ∷
     -- a value with a terminator
     behind (codes "    type: u1" ∷ codes "instances:" ∷ codes "  i:" ∷ codes "    terminator: 1" ∷ codes "    value: 1" ∷ []) 8 1 ∷
-    -- a value with a key that is left out
+    -- a value with an unsupported key
     behind (codes "    type: u1" ∷ codes "instances:" ∷ codes "  i:" ∷ codes "    process: zlib" ∷ codes "    value: 1" ∷ []) 8 8 ∷
     -- the place of an instance
     behind (codes "    type: u1" ∷ codes "instances:" ∷ codes "  i:" ∷ codes "    pos: _io.pos" ∷ codes "    type: u1" ∷ []) 8 8 ∷

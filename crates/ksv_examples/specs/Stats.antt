@@ -73,7 +73,7 @@ list_grows = record {
   ended = false;
 }
 
--- an empty field stays where a byte behind it is deleted, and goes with a byte before it
+-- an empty field stays where a byte after it is deleted, and goes with a byte before it
 abbrev pub deleted_around : Dialogue
 deleted_around = record {
   lines =
@@ -105,7 +105,7 @@ deleted_around = record {
   ended = false;
 }
 
--- bytes are written over before an attribute behind an object of a size, and in it
+-- bytes are written over before an attribute after an object of a size, and in it
 abbrev pub written_behind : Dialogue
 written_behind = record {
   lines =

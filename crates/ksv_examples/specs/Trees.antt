@@ -60,7 +60,7 @@ texts =
     -- lines that fit no level
     lines (codes "a:" ∷ codes "    b: 1" ∷ codes "  c: 2" ∷ []) None ∷
     lines (codes "a: |" ∷ codes "    b" ∷ codes "  c" ∷ []) None ∷
-    -- a quote that isn't closed, a value in a key's place, and what is left out
+    -- a quote that isn't closed, a value in a key's place, and what is unsupported
     lines (codes "a: 'b" ∷ []) None ∷
     lines (codes "a: b: c" ∷ []) None ∷
     lines (codes "a: &b c" ∷ []) None ∷

@@ -1,4 +1,4 @@
--- What evaluating a node from nothing comes to, to a given depth, so that it computes: all at once what it answers, which nodes it asks,
+-- What evaluating a node from nothing yields, to a given depth, so that it computes: all at once what it answers, which nodes it asks,
 -- what its readings rest on, whether it meets a circle, and which nodes it completes. The definitions of these go over a rule once for
 -- each, and as deep as there are nodes. Where the depth doesn't suffice there is nothing; where there is something, it is what these
 -- definitions say (proofs/Walks), and so is what is kept by it (proofs/Stats).
@@ -31,7 +31,7 @@ use Rattle.ksv_rule_meaning.specs.Meaning.{rule_of}
 use Rattle.ksv_session.specs.Kept.{Memory}
 use Rattle.ksv_examples.specs.Depth.{is_open}
 
--- what an evaluation that ends in an A, or fails by an E, comes to
+-- what an evaluation that ends in an A, or fails by an E, yields
 pub record Walk (A E : Type 0) : Type 0 where
   pub answer : Result A E
   pub asks : List Node
@@ -66,7 +66,7 @@ abbrev pub with_sight : {A B : Type 0} → Trail → List Use → Option A → (
 with_sight here us None f = Some (behind_look us (ended (Err (faults.Raised (fault_at here kinds.EndOfBytes)))))
 with_sight here us (Some a) f = option_map (behind_look us) (f a)
 
--- what running a rule comes to at a path, on these bytes, where `met` has what its nodes come to
+-- what running a rule yields at a path, on these bytes, where `met` has what its nodes yield
 module _ (met : Node → Option (Walk Given NodeFault)) (here : Trail) (bytes : List ℕ) where
   abbrev pub rule_walk : {A : Type 0} → Rule A → Option (Walk A NodeFault)
   rule_walk (Answer a) = Some (ended (Ok a))
@@ -78,7 +78,7 @@ module _ (met : Node → Option (Walk Given NodeFault)) (here : Trail) (bytes : 
 abbrev pub open_walk : Node → Walk Given NodeFault
 open_walk n = record { answer = circle n; asks = []; uses = []; circle = true; completed = [] }
 
--- a node is completed behind all that it asks, unless its answer is a circle
+-- a node is completed after all that it asks, unless its answer is a circle
 abbrev pub closed : Node → Walk Given NodeFault → Walk Given NodeFault
 closed n w = record {
   answer = w.answer;

@@ -28,7 +28,7 @@ use Rattle.ksv_expr_meaning.specs.Methods.{method_named}
 use Rattle.ksv_expr_meaning.specs.Meaning.{value_of, meaning, literal_value, member_value, special_value, enum_member, binary_of, in_truth_value, truth_value}
 use Rattle.ksv_expr_meaning.specs.Meaning.{decides, field_of, is_own_stream, special_of, call_one, call_two, item_at, cast_to}
 
--- a plan behind two is one behind both
+-- a plan after two is one after both
 bind_bind : {A B C : Type 0} (p : Eval A) (f : A → Eval B) (g : B → Eval C) → bind p (λ a. bind (f a) g) ≡ bind (bind p f) g
 unfolding bind
 bind_bind (Answer a) f g = refl

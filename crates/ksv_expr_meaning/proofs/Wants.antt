@@ -180,7 +180,7 @@ binary_asks op (values.Bytes f t) w = bytes_and_asks op f t w
 binary_asks op (values.Member e m) w = member_and_asks op e m w
 binary_asks op _ w = tt
 
--- behind a `.`
+-- after a `.`
 distance_asks : (n end start : ℕ) → AsksAtMost n (distance end start)
 distance_asks n end start = given_asks n _
 

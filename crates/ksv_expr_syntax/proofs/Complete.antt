@@ -286,7 +286,7 @@ pub whole : {l : Level} {d : ℕ} {front : List Lexeme} {e : Tree} → Goal l d 
     → read l d (front ++ rest) q ≡ found e rest p
 whole {l} {d} {e = e} g rest p q h s = g.step rest p q h (stops_more (rank l) (below l) rest (rank_below l) s) ∙ go_stops l e d rest p s
 
--- tokens cut in two or three, with more behind them
+-- tokens cut in two or three, with more after them
 cut_two : {ts : List Lexeme} (xs ys rest : List Lexeme) → ts ≡ xs ++ ys → ts ++ rest ≡ xs ++ (ys ++ rest)
 cut_two xs ys rest e = ap (λ (r : List Lexeme). r ++ rest) e ∙ append_assoc xs ys rest
 

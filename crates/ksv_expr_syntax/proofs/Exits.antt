@@ -100,7 +100,7 @@ pub bind_both : {A B C : Type 0} (o : Option A) (f : A → Option B) (g : B → 
 bind_both None f g = refl
 bind_both (Some x) f g = refl
 
--- ---- an expression and a symbol behind it
+-- ---- an expression and a symbol after it
 
 closing_then : (s : Symbol) (o : Option Found) (g : Tree → List Lexeme → ℕ → Option Found)
     → (o >>= λ a. after s a.rest >>= λ us. g a.tree us a.left) ≡ (closing s o >>= λ a. g a.tree a.rest a.left)

@@ -1,4 +1,4 @@
--- Reading as equations in which no bound on calls stands.
+-- Reading as equations without a bound on calls.
 use Rattle.std.proofs.Common.{◌≡◌, ℕ, suc, ◌+◌, ◌*◌, List, [], ◌∷◌, length, Option, None, refl, ap, ◌∙◌, arith, if◌then◌else◌}
 use Rattle.ksv_expr_syntax.specs.declared.token.Symbol.{Symbol}
 use Rattle.ksv_expr_syntax.specs.declared.token.Symbol.TheVariants as tok

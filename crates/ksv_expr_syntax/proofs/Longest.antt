@@ -281,7 +281,7 @@ exponent_is P e h p q = elim (either (e == 101) (e == 69) h) [
   | inr k ↦ subst P (sym (eqb-true e 69 k)) q
 ]
 
--- a byte with which no digits go on, and which stands in no prefix
+-- a byte with which no digits go on, and which is in no prefix
 abbrev ends_digits : ℕ → Type 0
 ends_digits c = (is_ascii_digit c ≡ false) × ((c == 95) ≡ false) × ((c == 120) ≡ false) × ((c == 98) ≡ false)
 
@@ -815,7 +815,7 @@ is_longest text x h =
 
 -- ---- the longest token is cut
 
--- no longer beginning of these bytes and those behind them has a shape
+-- no longer beginning of these bytes and those after them has a shape
 abbrev NoLonger : List ℕ → List ℕ → Type 0
 NoLonger piece rest = (more behind : List ℕ) → piece ++ rest ≡ more ++ behind → length piece < length more → HasShape more → ⊥
 
@@ -861,7 +861,7 @@ digits_push_line r ds d (last_digit h) k = digit_and_line h (last_digit k)
 digits_push_line r ds d (one_digit {cs = cs} h j) k = one_digit h (digits_push_line r cs d j k)
 digits_push_line r ds d (digit_and_line {cs = cs} h j) k = digit_and_line h (digits_push_line r cs d j k)
 
--- no digits go on behind a number's
+-- no digits go on after a number's
 abbrev NoMore : Radix → List ℕ → List ℕ → Type 0
 NoMore r ds rest = (next behind : List ℕ) → rest ≡ next ++ behind → 0 < length next → IsDigits r (ds ++ next) → ⊥
 

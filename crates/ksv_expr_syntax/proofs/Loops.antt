@@ -5,7 +5,7 @@ use Rattle.ksv_expr_syntax.specs.declared.token.Symbol.TheVariants as tok
 use Rattle.ksv_expr_syntax.specs.Lexemes.{Lexeme, constant, word, symbol}
 use Rattle.ksv_expr_syntax.specs.Reading.{Next, next, ◌>>=◌, choose, after, path_at, path_on}
 
--- behind a name, by what stands there
+-- after a name, by what is there
 pub path_on_is : (w : List ℕ) (ts : List Lexeme) → path_on w ts
     ≡ choose (after tok.ColonColon ts) (next (w ∷ []) ts) (λ us. path_at us >>= λ x. next (w ∷ x.what) x.behind)
 path_on_is w [] = refl

@@ -1,4 +1,4 @@
--- With enough calls in each other, more of them read nothing else.
+-- With enough nested calls, more of them read nothing else.
 use Rattle.std.proofs.Common.{◌≡◌, ℕ, zero, suc, ◌+◌, ◌*◌, ◌≤◌, ◌<◌, List, [], ◌∷◌, ◌++◌, length, length-append, Option, Some, None, refl, ap, ◌∙◌, arith, inl}
 use Rattle.std.proofs.Common.{inr}
 use Rattle.ksv_expr_syntax.specs.declared.token.Symbol.{Symbol}

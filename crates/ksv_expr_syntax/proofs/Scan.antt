@@ -37,7 +37,7 @@ pub scan_stuck : {text : List ℕ} {done : List Lexeme} {dot : Bool} {rest : Lis
     → (ts : List Lexeme) → Tokens false text ts → ⊥
 scan_stuck {dot = dot} {rest} s n e ts k = let b = s.back ts k in stuck dot rest b.0 b.2 n e
 
--- the rest behind a token that is known
+-- the rest after a token that is known
 next_token : (dot : Bool) (rest : List ℕ) (us : List Lexeme) (y : Cut) → Tokens dot rest us → cut (skip rest) ≡ Some y
     → (vs : List Lexeme) × (us ≡ mark dot y ∷ vs) × Tokens (is_dot (mark dot y)) y.rest vs
 next_token dot rest us y (finished h) e = absurd (let k : None ≡ Some y = sym no_cut ∙ ap cut (sym h) ∙ e in cc)
@@ -120,7 +120,7 @@ cut_shrinks bs x h =
     let l = (cut_is_longest bs x).0 h in
     omega (arith, token_length l.piece x.lexeme l.means, ap length l.split, length-append l.piece x.rest)
 
--- behind white space too
+-- after white space too
 pub scan_shorter : (bs : List ℕ) (x : Cut) → cut (skip bs) ≡ Some x → length x.rest < length bs
 scan_shorter bs x h = omega (arith, cut_shrinks (skip bs) x h, skip_shorter bs)
 

@@ -50,7 +50,7 @@ pub record SoundMore (d : ℕ) (ts : List Lexeme) (p : ℕ) (x : FoundList) : Ty
   pub spelled : SpellsList d front x.arguments
   pub spent : p ≡ x.left + all_parts x.arguments
 
--- an operand, and then what is behind it
+-- an operand, and then what is after it
 both : {m l : Level} {d : ℕ} {ts : List Lexeme} {p : ℕ} (a x : Found) → Sound m d ts p a
     → ((front : List Lexeme) → Spells d m front a.tree → Onward l d front a.tree a.rest a.left x) → Sound l d ts p x
 both {l = l} {d = d} {ts = ts} {p = p} a x s next = joined s.front s.cut s.spent (next s.front s.spelled)
@@ -73,7 +73,7 @@ extend {l} {d} before mid e f {x = x} cut spent o = record {
   spent = omega (arith, spent, o.spent);
 }
 
--- one step behind a tree, and then the others
+-- one step after a tree, and then the others
 chain : {l : Level} {d : ℕ} (before : List Lexeme) (e : Tree) {ts : List Lexeme} {p : ℕ} (a x : Found) → Onward l d before e ts p a
     → ((front : List Lexeme) → Spells d l front a.tree → Onward l d front a.tree a.rest a.left x) → Onward l d before e ts p x
 chain before e a x o next = extend before o.front e a.tree o.cut o.spent (next (before ++ o.front) o.spelled)
@@ -88,7 +88,7 @@ stays {l} {d} before e ts p x h s = at_found (λ x. Onward l d before e ts p x) 
 behind : (v : Lexeme) {ts us : List Lexeme} → ts ≡ us → v ∷ ts ≡ v ∷ us
 behind v e = ap (λ (ts : List Lexeme). v ∷ ts) e
 
--- a closing token behind the front
+-- a closing token after the front
 closed : {ts r us : List Lexeme} (front : List Lexeme) (v : Lexeme) → ts ≡ front ++ r → r ≡ v ∷ us → ts ≡ (front ++ v ∷ []) ++ us
 closed {us = us} front v e f = e ∙ ap (λ (r : List Lexeme). front ++ r) f ∙ sym (append_assoc front (v ∷ []) us)
 

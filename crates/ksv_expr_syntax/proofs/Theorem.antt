@@ -177,7 +177,7 @@ no_type_tokens text h t x = h x.tokens x.cut
 pub is_type : (text : List ℕ) (ts : List Lexeme) (t : TypeTree) → Tokens false text ts → SpellsType ts t → SpellsTypeText text t
 is_type text ts t s x = record { tokens = ts; cut = s; spelled = x }
 
--- ---- a text that is refused, whatever is wrong behind its tokens
+-- ---- a text that is refused, whatever is wrong after its tokens
 
 pub refused_text : (text : List ℕ) (ts : List Lexeme) (o : Option ExprFault)
     → MatchOption o (Tokens false text ts) (λ _. (us : List Lexeme) → Tokens false text us → ⊥) → ((e : Tree) → IsExpr ts e → ⊥) → (e : Tree)

@@ -25,7 +25,7 @@ pub(crate) fn beside<'a>(made: Result<Expr, AllocError>, at: Rest<'a>) -> Read<'
     Ok((made?, at))
 }
 
-/// What is there already, and what comes to it; without the second the first is let go.
+/// What is there already, and what is added to it; without the second the first is let go.
 fn pair<A: Drop, T, E>(first: A, second: Result<T, E>) -> Result<(A, T), E>
     ensures { MatchResult result (λ x. (x.0 ≡ first) × (second ≡ Ok x.1)) (λ e. second ≡ Err e) }
 {

@@ -21,7 +21,7 @@ use std::alloc::Global;
 /// What continues a postfix expression.
 #[derive(Clone, Copy)]
 pub enum Opening<'a> {
-    /// `.`, and no call behind it.
+    /// `.`, and no call after it.
     Member,
     /// `.`, this name, and these tokens, which begin with `(`.
     Call(&'a str, &'a [Placed]),
@@ -29,7 +29,7 @@ pub enum Opening<'a> {
     Place,
 }
 
-/// A name with `(` behind it, if one is first: the name, the tokens from the `(` on, and those after it.
+/// A name with `(` after it, if one is first: the name, the tokens from the `(` on, and those after it.
 fn call_at(tokens: &[Placed]) -> Option<(&str, &[Placed], &[Placed])>
     ensures is { MatchOption result (IsNoCall (lexemes tokens.now)) (λ x. (lexemes tokens.now ≡ Lexeme.word x.0.now ∷ lexemes x.1.now) × (after Symbol.OpenParenthesis (lexemes x.1.now) ≡ Some (lexemes x.2.now))) }
     ensures shorter { MatchOption result (Unit {0}) (λ x. length x.2.now < length tokens.now) }

@@ -71,7 +71,7 @@ pub are_of : (bs : List ℕ) → AreBits (bits_of bs)
 are_of [] = tt
 are_of (b ∷ bs) = are_append (bits_of_number 8 b) (bits_of bs) (are_of_number 8 b) (are_of bs)
 
--- so many bits write a number below that power of two
+-- this many bits write a number below that power of two
 pub number_small : (xs : List ℕ) → AreBits xs → number_of xs < 2 ^ length xs
 number_small [] a = omega arith
 number_small (x ∷ xs) a =
@@ -137,7 +137,7 @@ one_more bytes byte i lt is low =
 
 -- ---- numbers of nine bytes
 
--- n bytes have so many bits
+-- n bytes have this many bits
 pub byte_power : (n : ℕ) → 2 ^ (8 * n) ≡ 256 ^ n
 byte_power zero = refl
 byte_power (suc n) =
@@ -206,7 +206,7 @@ field_number from to bytes meets = by (cases_lt to.bits from.bits)
         ap (λ n. number_of (take n (drop (bit_in from) (bits_of bytes)))) none ∙ sym (mod-one _)
         ∙ ap (λ n. number_of (bits_of bytes) / 2 ^ bits_left to % 2 ^ n) (sym none)
 
--- how many numbers so many bits write, as a shift
+-- how many numbers this many bits write, as a shift
 pub count_unit : (n : ℕ) → n ≤ 72 → 1 * 2 ^ n % 340282366920938463463374607431768211456 ≡ 2 ^ n
 count_unit n few = one_shl n 128 (omega arith)
 

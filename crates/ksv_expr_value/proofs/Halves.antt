@@ -35,7 +35,7 @@ split [] (y ∷ f) b h = absurd (omega arith)
 split (x ∷ w) (y ∷ f) b h = ap (λ r. nat_eq x y && r) (split w f b (omega arith))
     ∙ sym (and_assoc (nat_eq x y) (bytes_eq (take (length f) w) f) (bytes_eq (drop (length f) w) b))
 
--- two fronts of which the first is no longer, and two backs
+-- two fronts whose first is no longer, and two backs
 pub halves : (a b c d : List ℕ) → length a ≤ length c → bytes_eq (a ++ b) (c ++ d) ≡ (bytes_eq a (take (length a) c) && bytes_eq b (drop (length a) c ++ d))
 halves [] b c d h = refl
 halves (x ∷ a) b [] d h = absurd (omega arith)

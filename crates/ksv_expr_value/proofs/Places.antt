@@ -14,7 +14,7 @@ byte_in_byte n = omega arith
 pub of_aligned : (p : Place) → byte_of (aligned p) ≡ byte_of p
 of_aligned p = byte_of_byte (byte_of p)
 
--- bits further on, no byte is left behind
+-- bits further on, no byte is left after
 pub of_further : (p : Place) (n : ℕ) → byte_of p ≤ byte_of (further p n)
 unfolding byte_of further
 of_further p n = omega arith

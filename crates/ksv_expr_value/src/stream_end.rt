@@ -8,7 +8,7 @@ use std::marker::Model;
 /// after its last one, if it has one.
 #[derive(Clone, Copy)]
 pub struct StreamEnd {
-    /// The number of that byte; of an open end the greatest number, which is behind the end of every file.
+    /// The number of that byte; of an open end the greatest number, which is after the end of every file.
     number: u32,
 }
 

@@ -1,4 +1,4 @@
--- Texts that are written one behind the other.
+-- Texts that are written one after the other.
 use Rattle.std.proofs.Common.{◌≡◌, ◌∙◌, ℕ, List, ◌++◌, ap, append_assoc, Result, Ok, Err}
 use Rattle.std.specs.Prelude.{OnOk}
 

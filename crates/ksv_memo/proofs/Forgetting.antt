@@ -211,7 +211,7 @@ gone-few {N} {A} change all (k ∷ ks) over h = by k.goes refl (gone-few change 
         let b = sum_by-cons (λ (e : Entry N A). length (pages_in e.uses)) k.entry (entries_gone ks) in
         omega arith
 
--- ---- what goes by another edit has an ask, or meets a page, or uses the size, or reaches behind the place
+-- ---- what goes by another edit has an ask, or meets a page, or uses the size, or reaches after the place
 count-some : (p : ℕ → Bool) (xs : List ℕ) (k x : ℕ) → k < length xs → get_or xs k x ≡ x → p x ≡ true → 1 ≤ count_by p xs
 count-some p [] k x lt is e = absurd (omega arith)
 count-some p (y ∷ ys) zero x lt is e =
@@ -467,7 +467,7 @@ module _ {N A : Type 0} (w : Standing N A) (law : IsSettled w) where
               + sum_by (λ e. length (pages_in e.uses)) xs)) gone (omega arith);
         }
 
-    -- and those of another edit are behind its place
+    -- and those of another edit are after its place
     pub looks-behind : (reach : ℕ) → pages ≡ pages_to reach → IsMove change → LooksBehind w change reach es looked
     looks-behind reach is moves =
         let gone : entries_gone sweeps.marks ≡ gone_of w change es = gone_nodes w change sweeps.marks told ∙ ap (gone_of w change) sweeps.entries in

@@ -101,7 +101,7 @@ calls-more d d' oa ma on e f = omega arith
 calls-open : (d d' oa ma : ℕ) → d' ≡ d → d' + (oa + ma) + 1 ≡ d + (0 + (oa + 1 + ma))
 calls-open d d' oa ma e = omega arith
 
--- ---- what a turn comes to
+-- ---- what a turn yields
 module _ {N A : Type 0} (w : Standing N A) (law : IsSettled w) where
   -- a node is kept and the one below goes on
   goes-kept : (es : List (Entry N A)) (o p : Open N A) (st : List (Open N A)) (a : A) (once : List Use)

@@ -1,4 +1,4 @@
--- How few looks an insert, a delete or an append takes: what is behind its place, and what goes. Pages have 64 bytes.
+-- How few looks an insert, a delete or an append takes: what is after its place, and what goes. Pages have 64 bytes.
 use Rattle.std.specs.Prelude.{ℕ, ◌+◌, ◌*◌, ◌/◌, ◌<◌, ◌≤◌, List, length, sum_by}
 use Rattle.std.specs.List.{AllByRecursion}
 use Rattle.ksv_bytes.specs.declared.uses.Use.{Use}
@@ -27,7 +27,7 @@ behind w change reach es =
     + sum_by (λ e. length e.asked) (gone_of w change es)
     + sum_by (λ e. length (pages_in e.uses)) (gone_of w change es))
 
--- this many looks are no fewer than the nodes that go, and no more than what is behind
+-- this many looks are no fewer than the nodes that go, and no more than what is after
 pub record LooksBehind {N A : Type 0} (w : Standing N A) (change : Change) (reach : ℕ) (es : List (Entry N A)) (looked : ℕ) : Type 0 where
   pub least : length (gone_of w change es) ≤ looked
   pub most : looked ≤ behind w change reach es

@@ -30,7 +30,7 @@ pub enum Answer<N, V, F> {
     Circle(N),
 }
 
-/// A place behind which no node that a change leaves uses a byte or a place, if it was one before the change.
+/// A place after which no node that a change leaves uses a byte or a place, if it was one before the change.
 fn reach_after(change: Change, reach: usize) -> usize
     ensures { result ≡ left_reach change reach }
 {
@@ -153,7 +153,7 @@ impl<R: Rules> Engine<R> {
         // After an overwrite of at least one byte, the looks are no fewer than the nodes that went, and no more than near.
         ensures looked { (rules : R) (before after : List ℕ) → IsRight (on (R.meaning rules) before) self.old.kept → Makes change before after → IsWrite change → LooksNear (on (R.meaning rules) before) change self.old.kept self.new.looked }
 
-        // After any other edit, they are no more than what is behind its place.
+        // After any other edit, they are no more than what is after its place.
         ensures behind { (rules : R) (before : List ℕ) → IsRight (on (R.meaning rules) before) self.old.kept → IsMove change → LooksBehind (on (R.meaning rules) before) change self.old.reach self.old.kept self.new.looked }
 
         // What is kept reaches no further than the file after the edit, if it did so before it.

@@ -322,7 +322,7 @@ impl<R: Rules> Table<R> {
 
     /// Takes out each kept node that a change touches or that asked one that goes, in its tree. No node is open. It takes
     /// no memory. The uses of kept nodes are within this many pages. An overwrite looks only near, and any other edit at
-    /// what is behind it. How many looks it took: what the count is now, less what it was; and no fewer than the nodes that went,
+    /// what is after it. How many looks it took: what the count is now, less what it was; and no fewer than the nodes that went,
     /// where the count has stopped at 2^64 - 1.
     pub(crate) fn forget(&mut self, change: Change, pages: usize) -> u64
         requires opened { self.old.opened ≡ [] }

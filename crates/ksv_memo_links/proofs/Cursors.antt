@@ -1,4 +1,4 @@
--- Where a walk along the items of a list stands, told from the place that it has, and how it goes on.
+-- Where a walk along the items of a list is, told from the place that it has, and how it goes on.
 use Rattle.std.proofs.Common.{◌≡◌, ◌≢◌, ◌⊎◌, inl, inr, true, false, eqb, cond, ℕ, zero, suc, ◌+◌, ◌-◌, ◌<◌, ◌≤◌, List, [], ◌∷◌, length, get_or, refl, sym, ◌∙◌}
 use Rattle.std.proofs.Common.{ap, subst, arith}
 use Rattle.std.proofs.lemmas.Bool.Decides.{eqb_tells}
@@ -35,7 +35,7 @@ left-at (x ∷ xs) h (suc i) le = by (left-at xs (λ j k lt l. h (suc j) (suc k)
     by r (inl e) = absurd (h zero (suc i) (omega arith) le e.1)
     by r (inr e) = let z = ap (λ b. cond b (suc (length xs)) (left_from xs (get_or xs i (at 0 0)).at)) e.0 in omega arith
 
--- a walk stands at the place of an item of a list, or of none after the last
+-- a walk is at the place of an item of a list, or of none after the last
 abbrev pub StandsAt : List (List Item) → ℕ → ℕ → Type 0
 StandsAt lists s p = p ≡ (item_at lists s (seen_to (row lists s) p)).at
 

@@ -186,7 +186,7 @@ rows-more p q r change lists a g le h k = record {
     out f i l lt (inl e) = subst (λ n. P n i) (sym e.1) (here_it i)
     out f i l lt (inr e) = λ n t. stays-out q.marks.kept r.marks.kept (item_at lists f i).owner k.more.fewer (h.out f i l (let ne = e.1 in omega arith) n t)
 
--- the size, the ends behind a place and the pages there, one after the other
+-- the size, the ends after a place and the pages there, one after the other
 pub hits-behind : (p q1 q2 r : Parts) (change : Change) (place pages : ℕ)
     → HitsRows p q1 change (end_lists p.uses.lists) 0 (min 1 (length (end_lists p.uses.lists)))
     → HitsRows q1 q2 change (end_lists p.uses.lists) (first_page place + 1) (min (pages + 1) (length (end_lists p.uses.lists)))

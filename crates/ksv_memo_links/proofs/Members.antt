@@ -18,7 +18,7 @@ first_or_later x xs s h = by (Contains-append_cases (x ∷ []) xs s h)
     by (inl k) = inl (first (Contains-push_cases [] x s k))
     by (inr k) = inr k
 
--- what stands once isn't among what follows
+-- what is there once isn't among what follows
 pub not_later : (xs ys : List ℕ) (x : ℕ) → AllPairs (λ (a b : ℕ). a ≢ b) (xs ++ x ∷ ys) → Contains ys x → ⊥
 not_later xs ys x h k =
     let n = length-append xs (x ∷ ys) in

@@ -8,7 +8,7 @@ use Rattle.std.proofs.lemmas.List.Sums.{sum_by-append, sum_by-cons}
 use Rattle.ksv_memo_links.specs.Shelved.{row, HasSameRows}
 use Rattle.ksv_memo_links.specs.Marking.{HasMore}
 
--- what lies behind is what is found where there is nothing
+-- what lies after is what is found where there is nothing
 pub padded : {X : Type 0} (xs : List X) (n r : ℕ) (d : X) → get_or (xs ++ replicate n d) r d ≡ get_or xs r d
 padded {X} xs n r d = by (cases_lt r (length xs))
   where

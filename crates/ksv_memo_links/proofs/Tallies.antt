@@ -66,7 +66,7 @@ rows-le f g (x ∷ xs) (u ∷ ys) z y h =
     let rest = rows-le f g xs ys z y (λ r. h (suc r)) in
     omega arith
 
--- ---- what is behind a place
+-- ---- what is after a place
 counts : (p q : ℕ → Bool) → ((x : ℕ) → cond (p x) 1 0 ≤ cond (q x) 1 0) → (xs : List ℕ) → count_by p xs ≤ count_by q xs
 counts p q each xs = sum_by-le-sum_by (λ x. cond (p x) 1 0) (λ x. cond (q x) 1 0) xs each
 
@@ -82,7 +82,7 @@ pub tally-behind : (a b : ℕ) (rows : List (List ℕ)) → tally a b rows ≤ s
 tally-behind a b rows = sum_by-le-sum_by (λ ns. count_by (within a b) ns) (λ ns. count_by (nat_le a) ns) rows
     (λ ns. counts (within a b) (nat_le a) (within-behind a b) ns)
 
--- the size and what is behind a place, together
+-- the size and what is after a place, together
 end-one : (a b l : ℕ) → cond (within 0 1 l) 1 0 + cond (within (a + 1) b l) 1 0 ≤ cond (nat_eq l 0 || nat_lt a l) 1 0
 end-one a b l = by (nat_le 0 l) refl (nat_lt l 1) refl (nat_le (a + 1) l) refl (nat_lt l b) (nat_eq l 0) refl (nat_lt a l) refl
   where

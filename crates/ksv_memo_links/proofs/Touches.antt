@@ -1,4 +1,4 @@
--- A touched use meets a page that the overwrite meets, or meets a page or ends behind the insert or the delete.
+-- A touched use meets a page that the overwrite meets, or meets a page or ends after the insert or the delete.
 use Rattle.std.proofs.Common.{◌≡◌, ◌⊎◌, inl, inr, ℕ, zero, suc, ◌+◌, ◌-◌, ◌/◌, ◌<◌, ◌≤◌, max, Bool, true, false, cond, nat_lt, List, [], ◌∷◌, length, get_or}
 use Rattle.std.proofs.Common.{Contains, refl, sym, ap, subst, arith}
 use Rattle.std.specs.List.{list_any}
@@ -66,7 +66,7 @@ uses-meet at n us e =
     record { page = m.page; there = part-in us a.0 a.1 m.page a.2 a.3 m.there; from = m.from; before = m.before }
 
 -- ---- an insert or a delete
--- a use ends behind a place, or is of the size
+-- a use ends after a place, or is of the size
 abbrev pub IsPast : ℕ → Use → Type 0
 IsPast at (Bytes f t) = at < t
 IsPast at (Reach t) = at < t

@@ -120,7 +120,7 @@ module _ (rows : List (List Use)) (lists : List (List Item)) (h : IsListed lists
   pub few-ends : (l : ℕ) → length (row (end_lists lists) l) ≤ naming (map ends_in rows) l
   few-ends l = let a = few-of (list_of_end l) l ends_in refl (named-end l) in let e = ap (λ (xs : List Item). length xs) (row-of-end lists l) in omega arith
 
-  -- a slot stands in each list of its uses
+  -- a slot is in each list of its uses
   in-list : (s l : ℕ) → Contains (lists_of_uses (row rows s)) l → IsOwner (row lists l) s
   in-list s l c =
       let ns = row (map lists_of_uses rows) s in

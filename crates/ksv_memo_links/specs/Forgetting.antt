@@ -78,7 +78,7 @@ pub record HitsRows (p q : Parts) (change : Change) (lists : List (List Item)) (
   pub out : (g i : ℕ) → first ≤ g → g < last → i < length (row lists g) → is_hit change p.uses.rows (item_at lists g i).owner ≡ true → is_kept q.marks.kept (item_at lists g i).owner ≡ false
   pub looks : looks q + first + 3 * sizes lists first + 2 * length p.marks.work ≤ looks p + max first last + 3 * sizes lists (max first last) + 2 * length q.marks.work
 
--- the lists of ends of the size and behind a place, and the pages there, have been looked at
+-- the lists of ends of the size and after a place, and the pages there, have been looked at
 pub record HitsBehind (p q : Parts) (change : Change) (place pages : ℕ) : Type 0 where
   pub more : MarksMore p q (IsEdit change)
   pub sized : (i : ℕ) → i < length (row (end_lists p.uses.lists) 0) → is_hit change p.uses.rows (item_at (end_lists p.uses.lists) 0 i).owner ≡ true → is_kept q.marks.kept (item_at (end_lists p.uses.lists) 0 i).owner ≡ false

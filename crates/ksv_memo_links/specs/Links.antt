@@ -132,7 +132,7 @@ IsMove (Insert at n) = Unit {0}
 IsMove (Delete at n) = Unit {0}
 IsMove Append = Unit {0}
 
--- how many of this many pages are behind an insert or a delete, with the page of its place; an append is behind all
+-- how many of this many pages are after an insert or a delete, with the page of its place; an append is after all
 abbrev pub pages_behind : Change → ℕ → ℕ
 pages_behind (Overwrite at n) pages = 0
 pages_behind (Insert at n) pages = pages - first_page at
@@ -146,18 +146,18 @@ behind_of (Insert at n) pages = count_by (nat_le (first_page at)) pages
 behind_of (Delete at n) pages = count_by (nat_le (first_page at)) pages
 behind_of Append pages = 0
 
--- the pairs of a use of bytes and a page behind the change that it meets
+-- the pairs of a use of bytes and a page after the change that it meets
 abbrev pub behind_by : Change → List Use → ℕ
 behind_by change us = behind_of change (pages_in us)
 
--- how many of these ends are the size, or behind an insert or a delete
+-- how many of these ends are the size, or after an insert or a delete
 abbrev pub ended_of : Change → List ℕ → ℕ
 ended_of (Overwrite at n) ends = 0
 ended_of (Insert at n) ends = count_by (λ l. nat_eq l 0 || nat_lt (first_page at) l) ends
 ended_of (Delete at n) ends = count_by (λ l. nat_eq l 0 || nat_lt (first_page at) l) ends
 ended_of Append ends = count_by (λ l. nat_eq l 0) ends
 
--- 1 if one of these uses is of the size, or reaches a page behind an insert or a delete; else 0
+-- 1 if one of these uses is of the size, or reaches a page after an insert or a delete; else 0
 abbrev pub ended_by : Change → List Use → ℕ
 ended_by change us = ended_of change (ends_in us)
 

@@ -58,7 +58,7 @@
 //! - `Padding`: more empty rows at the end
 //! - `Spreading`: the users of marked slots, one slot after another
 //! - `Tallies`: the items of pages are no more than the pages that uses meet, and those of ends no more than the ends
-//! - `Touches`: a use that is touched meets a page that the overwrite meets, or one behind the edit, or ends there
+//! - `Touches`: a use that is touched meets a page that the overwrite meets, or one after the edit, or ends there
 //! - `Turns`: lists that take turns: those of ends, and those of pages
 //! - `Writing`: a write to one row
 #![tactic(auto)]

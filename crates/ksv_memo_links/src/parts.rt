@@ -169,7 +169,7 @@ impl Parts {
         self.hit_pages(change, first, end);
     }
 
-    /// Marks the slots that an insert or a delete touches: by the uses of the size, and by the pages behind it.
+    /// Marks the slots that an insert or a delete touches: by the uses of the size, and by the pages after it.
     fn hit_behind(&mut self, change: Change, at: usize, pages: usize)
         requires shaped { IsShaped self.old }
         ensures { HitsBehind self.old self.new change at pages }

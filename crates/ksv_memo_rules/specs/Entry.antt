@@ -10,7 +10,7 @@ pub record Entry (N A : Type 0) : Type 0 where
   pub uses : List Use
 
 -- an engine: what it keeps, in no stated order, and the calls of rules that were counted since the question began, the
--- looks of the last `forget`, a place behind which no kept node uses a byte or a place, and all looks so far, which stop at
+-- looks of the last `forget`, a place after which no kept node uses a byte or a place, and all looks so far, which stop at
 -- 2^64 - 1
 pub record Memo (N A : Type 0) : Type 0 where
   pub kept : List (Entry N A)

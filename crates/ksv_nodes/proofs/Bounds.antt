@@ -22,7 +22,7 @@ nodes_more zero n (Ask (Of q) k) h b = absurd b
 nodes_more (suc m) zero (Ask (Of q) k) h b = absurd (omega arith)
 nodes_more (suc m) (suc n) (Ask (Of q) k) h b = λ g. nodes_more m n (k g) (omega arith) (b g)
 
--- one rule behind another asks the nodes of both
+-- one rule after another asks the nodes of both
 pub nodes_bind : {A B : Type 0} (m n : ℕ) (p : Rule A) (f : A → Rule B) → NodesAtMost m p → ((a : A) → NodesAtMost n (f a)) → NodesAtMost (m + n) (bind p f)
 unfolding bind
 nodes_bind m n (Answer a) f b g = nodes_more n (m + n) (f a) (omega arith) (g a)
@@ -89,7 +89,7 @@ seen_ended : {A X : Type 0} (n : ℕ) (k : X → Rule A) → ((x : X) (s : State
 seen_ended n k rest (Some x) s h = rest x s h
 seen_ended n k rest None s h = tt
 
--- with as many replies as it asks nodes, a rule comes to its end, whatever they say
+-- with as many replies as it asks nodes, a rule ends, whatever they say
 pub enough : {A : Type 0} (n : ℕ) (p : Rule A) (s : State) → NodesAtMost n p → n ≤ length s.replies → IsEnded (run turns p s)
 enough n (Answer a) s b h = tt
 enough n (Fail e) s b h = tt

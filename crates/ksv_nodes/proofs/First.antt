@@ -6,17 +6,17 @@ use Rattle.std.proofs.lemmas.Bool.{cases_lt}
 use Rattle.std.specs.Prelude.{slice_range}
 use Rattle.ksv_nodes.specs.Reading.{first_at}
 
--- a place in what stands behind n bytes
+-- a place in what comes after n bytes
 abbrev pub moved_on : ℕ → Option ℕ → Option ℕ
 moved_on n None = None
 moved_on n (Some k) = Some (n + k)
 
--- a place in the first part, or else in what stands behind its n bytes
+-- a place in the first part, or else in what comes after its n bytes
 abbrev pub or_behind : ℕ → Option ℕ → Option ℕ → Option ℕ
 or_behind n (Some i) o = Some i
 or_behind n None o = moved_on n o
 
--- behind one byte more
+-- after one byte more
 pub moved_on_suc : (n : ℕ) (o : Option ℕ) → moved_on n (option_map suc o) ≡ moved_on (n + 1) o
 moved_on_suc n None = refl
 moved_on_suc n (Some k) = let e : n + suc k ≡ n + 1 + k = omega arith in ap Some e
@@ -49,7 +49,7 @@ pub first_at_below : (b : ℕ) (xs : List ℕ) (i : ℕ) → first_at b xs ≡ S
 first_at_below b [] i e = absurd (cc)
 first_at_below b (x ∷ xs) i e = below (x == b) (first_at b xs) (length xs) i (λ k e'. first_at_below b xs k e') e
 
--- a range whose end lies behind the bytes is that up to their end
+-- a range whose end lies after the bytes is that up to their end
 pub range_cut : (bytes : List ℕ) (from to : ℕ) → slice_range bytes from (min to (length bytes)) ≡ slice_range bytes from to
 range_cut bytes from to = let e : min to (length bytes) - from ≡ min (to - from) (length (drop from bytes)) =
     omega (arith, length-drop from bytes) in rw e (take_min (to - from) (drop from bytes))
@@ -57,7 +57,7 @@ range_cut bytes from to = let e : min to (length bytes) - from ≡ min (to - fro
 take_nil : (n : ℕ) → ◌≡◌ {A = List ℕ} (take n []) []
 take_nil n = take_all n [] (omega arith)
 
--- a range that ends in front of its beginning, or begins behind the bytes, has none
+-- a range that ends in front of its beginning, or begins after the bytes, has none
 pub range_none : (bytes : List ℕ) (from to : ℕ) → min to (length bytes) ≤ from → slice_range bytes from to ≡ []
 range_none bytes from to h = elim (cases_lt from to) [
   | inl before ↦ (let e : drop from bytes ≡ [] = drop_all from bytes (omega arith) in rw e (take_nil (to - from)))

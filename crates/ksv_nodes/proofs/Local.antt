@@ -1,4 +1,4 @@
--- A run on bytes that agree on all that it used comes to the same, with the same uses.
+-- A run on bytes that agree on all that it used yields the same, with the same uses.
 use Rattle.std.proofs.Common.{◌≡◌, List, [], ◌∷◌, ◌++◌, Option, Some, None, Result, Ok, Err, ℕ, refl, ap, subst, ◌∙◌}
 use Rattle.ksv_basics.specs.Plan.{Answer, Fail, Ask, next, run, behind}
 use Rattle.ksv_bytes.specs.declared.uses.Use.{Use}
@@ -47,7 +47,7 @@ module _ (others : List ℕ) where
       ap (λ l. next (looked l (state_on others s)) (λ x u. run turns (k x) u)) (look_same s.bytes others r used)
       ∙ seen_local k same t (look r s.bytes).seen h
 
--- with the same replies, and bytes that agree on what was used, a rule comes to the same and uses the same
+-- with the same replies, and bytes that agree on what was used, a rule yields the same and uses the same
 pub local : {A : Type 0} (others : List ℕ) (p : Rule A) → IsLocal others p
 local others (Answer a) s h = refl
 local others (Fail (Here k)) s h = refl

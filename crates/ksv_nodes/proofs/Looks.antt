@@ -29,7 +29,7 @@ and_right : (x y : Bool) → x && y ≡ true → y ≡ true
 and_right true y e = e
 and_right false y e = absurd (cc)
 
--- the first byte of a value stands in the range that ends behind it, and in each longer one
+-- the first byte of a value is in the range that ends after it, and in each longer one
 found_alone : (x i : ℕ) (front : Option ℕ) (n : ℕ) (back : Option ℕ) → n ≡ i + 1 → or_behind n front back ≡ Some i → front ≡ Some i
 found_alone x i (Some j) n back len e = e
 found_alone x i None n None len e = absurd (cc)
@@ -211,7 +211,7 @@ module _ (b b' : List ℕ) where
   unfolding find_at
   find_same to s x h = found_same to s x (first_at x (slice_range b s (end_in b to))) refl h
 
-  -- a reading comes to the same on both
+  -- a reading yields the same on both
   pub look_same : (r : Reading) → Agree (look r b).uses → look r b' ≡ look r b
   look_same (Reach w t) h = reach_same w.to t h
   look_same (Finish w) h = finish_same w.to h

@@ -21,7 +21,7 @@ done_next (Need n s) f = refl
 done_next (Failed e s) f = refl
 done_next (Done g s) f = refl
 
--- a result that runs one rule runs another that comes to the same
+-- a result that runs one rule runs another that yields the same
 runs_same : {A X : Type 0} (rule other : Rule A) (view : X → A) (old begun new : State) → run turns other begun ≡ run turns rule old → (r : Result X Halt)
     → Runs rule view old new r → Runs other view begun new r
 runs_same rule other view old begun new same (Ok x) h = same ∙ h

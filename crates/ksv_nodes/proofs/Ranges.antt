@@ -95,7 +95,7 @@ module _ (b : List ℕ) where
   look_fits (Peek f t) = peek_fits f t
   look_fits (Find w s x) = find_fits w.to s x
 
--- where the uses fit before a run, they fit behind it
+-- where the uses fit before a run, they fit after it
 abbrev pub StaysWithin : {A : Type 0} → Rule A → Type 0
 StaysWithin p = (s : State) → Fit s.bytes s.uses → Fit s.bytes (behind (run turns p s)).uses
 

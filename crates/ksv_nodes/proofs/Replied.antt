@@ -46,7 +46,7 @@ module _ (n : Node) (here : Trail) (bytes : List ℕ) (us : List Use) (rs : List
   pub needed_next : (k : ℕ) → slice_get rs k ≡ None → next (replied n (drop k rs) (from k)) (λ r t. Done r t) ≡ Need n (from k)
   needed_next k none = needed k (drop k rs) (from k) (left_none rs k none)
 
-  -- the reply that is there is given, and those behind it are left
+  -- the reply that is there is given, and those after it are left
   pub given_next : (k : ℕ) (reply : Result Given Fault) → slice_get rs k ≡ Some reply
       → next (replied n (drop k rs) (from k)) (λ r t. Done r t) ≡ come reply (from (k + 1))
   given_next k reply some = given k (drop k rs) (from k) reply (left_some rs k reply some)

@@ -21,7 +21,7 @@ module _ (met : Node → Result Given Fault) (here : Trail) (bytes : List ℕ) w
   abbrev pub at : List (Result Given Fault) → List Use → State
   at replies us = record { here = here; bytes = bytes; replies = replies; uses = us }
 
-  -- With all the replies it ends with the answer, and has used just its uses. The replies behind them are left.
+  -- With all the replies it ends with the answer, and has used just its uses. The replies after them are left.
   abbrev pub Ends : {A : Type 0} → Rule A → Type 0
   Ends p = (more : List (Result Given Fault)) (us : List Use)
       → run turns p (at (map met (asks_of met here bytes p) ++ more) us) ≡ ended (plain_answer met here bytes p) (at more (us ++ uses_of met here bytes p))
@@ -61,7 +61,7 @@ module _ (met : Node → Result Given Fault) (here : Trail) (bytes : List ℕ) w
     pub ran : run turns p (at (map met (take i (asks_of met here bytes p))) us) ≡ Need node (at [] (us ++ used))
     pub begins : uses_of met here bytes p ≡ used ++ more
 
-  -- behind a reply
+  -- after a reply
   module _ {A : Type 0} (n : Node) (k : Given → Rule A) (g : Given) (e : met n ≡ Ok g) where
     given_asks : asks_of met here bytes (Ask (Of n) k) ≡ n ∷ asks_of met here bytes (k g)
     given_asks = ap (λ x. n ∷ behind_given x (λ g'. asks_of met here bytes (k g'))) e
@@ -82,7 +82,7 @@ module _ (met : Node → Result Given Fault) (here : Trail) (bytes : List ℕ) w
       begins = given_uses ∙ r.begins;
     }
 
-  -- behind a reading
+  -- after a reading
   module _ {A : Type 0} (r : Reading) (k : Seen r → Rule A) (x : Seen r) (e : (look r bytes).seen ≡ Some x) where
     seen_asks : asks_of met here bytes (Ask (See r) k) ≡ asks_of met here bytes (k x)
     seen_asks = ap (λ o. behind_seen o (λ y. asks_of met here bytes (k y))) e

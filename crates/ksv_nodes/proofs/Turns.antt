@@ -46,7 +46,7 @@ next_grows s (Need n t) f g h = g
 next_grows s (Failed e t) f g h = g
 next_grows s (Done a t) f g h = grows_on g (h a t)
 
--- a run keeps the path and the bytes, and adds uses behind those that there were
+-- a run keeps the path and the bytes, and adds uses after those that there were
 pub run_grows : {A : Type 0} (p : Rule A) (s : State) → Grows s (behind (run turns p s))
 run_grows (Answer a) s = grows_not s
 run_grows (Fail e) s = grows_not s

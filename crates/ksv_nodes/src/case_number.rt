@@ -33,7 +33,7 @@ impl CaseNumber {
         CaseNumber { number: u32::MAX }
     }
 
-    /// The case at this place, if one was chosen. No contract bounds lists of cases, so the greatest number of 32 bits, which stands
+    /// The case at this place, if one was chosen. No contract bounds lists of cases, so the greatest number of 32 bits, which is
     /// for none and as a place takes a list of hundreds of gigabytes, is refused as memory is.
     #[inline(always)]
     pub fn new(place: Option<u32>) -> Result<CaseNumber, AllocError>

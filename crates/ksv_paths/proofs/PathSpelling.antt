@@ -112,7 +112,7 @@ step_is d piece step h = by_name (name_of d piece) refl h
     by_name (Some n) is e = let same : Name n ≡ step = some_is (Name n) step e in rw (← same) (ap (λ t. 47 ∷ t) (name_is d piece n is))
     by_name None is e = by_index (index_of piece) refl e
 
--- pieces, each behind a slash
+-- pieces, each after a slash
 abbrev joined : List (List ℕ) → List ℕ
 joined pieces = flat_map (λ piece. 47 ∷ piece) pieces
 

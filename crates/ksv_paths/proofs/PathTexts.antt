@@ -22,7 +22,7 @@ abbrev pub size_left : Option (List ℕ) → ℕ
 size_left (Some text) = suc (length text)
 size_left None = 0
 
--- steps behind those that were read
+-- steps after those that were read
 abbrev pub behind_steps : List Step → Option (List Step) → Option (List Step)
 behind_steps front (Some steps) = Some (front ++ steps)
 behind_steps front None = None
@@ -75,7 +75,7 @@ steps_end front = ap Some (append-nil front)
 pub path_is : (steps : List Step) (p : Trail) → p.upward ≡ reverse steps → path_of_steps (Some steps) ≡ Some p
 path_is steps p e = ap trail_of (sym e) ∙ trail_of-true p
 
--- what a text behind a slash names
+-- what a text after a slash names
 pub behind_is : (d : Description) (text : List ℕ) (steps : List Step) (p : Trail) → (length text == 0) ≡ false
     → steps_of d (slice_split is_slash text) ≡ Some steps → p.upward ≡ reverse steps → Some p ≡ path_behind d text
 behind_is d text steps p some named e = sym (rw (some, named) (path_is steps p e))
@@ -85,7 +85,7 @@ pub behind_some : (d : Description) (text : List ℕ) (steps : List Step) → (l
 behind_some d text steps some named h = let p : Trail =
     record { upward = reverse steps; valid = h } in ap is_some (sym (behind_is d text steps p some named refl))
 
--- the first piece and what is left behind it
+-- the first piece and what is left after it
 pub pieces_seen : (text piece : List ℕ) (rest : Option (Bor (List ℕ)))
     → MatchOption rest (slice_split is_slash text ≡ piece ∷ []) (λ r. slice_split is_slash text ≡ piece ∷ slice_split is_slash r.now)
     → slice_split is_slash text ≡ piece ∷ pieces_left (option_copied rest)

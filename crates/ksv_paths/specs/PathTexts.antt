@@ -1,4 +1,4 @@
--- Paths as texts. The text of a path is `/` for the root, else each step from the first to the last behind a `/`: a member's
+-- Paths as texts. The text of a path is `/` for the root, else each step from the first to the last after a `/`: a member's
 -- name that is somewhere in the description, or an index of an element in decimal. The Kaitai Struct User Guide has no
 -- such texts; they are this project's own. An id begins with a letter, so no name is an index.
 use Rattle.std.specs.Prelude.{◌≡◌, ℕ, ◌^◌, ◌==◌, ◌&&◌, ◌||◌, not, nat_lt, Bool, List, [], ◌∷◌, length, reverse, slice_index, Option, Some, None, option_map, option_and_then, decimal, if◌then◌else◌}
@@ -81,7 +81,7 @@ abbrev pub path_of_steps : Option (List Step) → Option Trail
 path_of_steps (Some steps) = trail_of (reverse steps)
 path_of_steps None = None
 
--- behind the first slash
+-- after the first slash
 abbrev pub path_behind : Description → List ℕ → Option Trail
 path_behind d text = if length text == 0 then Some root else path_of_steps (steps_of d (slice_split is_slash text))
 

@@ -163,7 +163,7 @@ module _ (rows : List Row) (path : ℕ) (kind : NodeKind) (n : ℕ) (inside : pa
           inl (ap (λ m. mark_in (row_at written m) k) e.1 ∙ ap (λ (x : Row). mark_in x k) now_row ∙ f (row_at rows path) n
           ∙ ap (λ m. mark_in (row_at rows m) k) (sym e.1))
 
--- behind the last place there is none
+-- after the last place there is none
 pub open_behind : (paths : List (List Step)) (rows : List Row) (spots : List Spot) → IsFiled paths rows spots → IsOpen rows spots (length spots)
 open_behind paths rows spots filed = record {
   rowed = λ i lt ne. filed.rowed i lt;

@@ -9,7 +9,7 @@ use Rattle.ksv_places.specs.Table.{IsPut, IsPutAt, first_of_both}
 use Rattle.ksv_places.specs.Tree.{chain, look, is_name, IsTree, Hooks}
 use Rattle.ksv_places.proofs.Growing.{nat_other, nat_self, Leads, grown_tree, same_chain, new_chain, past_new}
 
--- a sum of two numbers of which the first is some, or none
+-- a sum of two numbers whose first is some, or none
 some_first : (a b n : ℕ) → a ≡ n → 0 < n → first_of_both a b ≡ n
 some_first zero b n e p = absurd (omega arith)
 some_first (suc a) b n e p = e

@@ -33,7 +33,7 @@ module _ {N A : Type 0} (w : Standing N A) where
   in_longer : (ms ns : List N) (x : N) → is_among w.number ms x ≡ true → is_among w.number (ms ++ ns) x ≡ true
   in_longer ms ns x h = is_among-append w.number ms ns x ∙ or_left (is_among w.number ms x) (is_among w.number ns x) h
 
-  -- what lies between two lists does so with more behind the second
+  -- what lies between two lists does so with more after the second
   pub between_more : (old new xs ys : List N) → AreBetween w old new (old ++ xs) → AreBetween w old new (old ++ (xs ++ ys))
   between_more old new xs ys h = record {
     once = h.once;

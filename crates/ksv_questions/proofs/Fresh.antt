@@ -25,7 +25,7 @@ among_again number kept ms m x h =
     (λ e. ap (λ n. list_any (nat_eq n) (map number kept)) (eqb_true (number x) (number m) e) ∙ h)
     ∙ sym (is_among-append number kept ms x)
 
--- lists of the same members have the same members with more behind them
+-- lists of the same members have the same members with more after them
 pub among_more : {N : Type 0} (number : N → ℕ) (ks ls ms : List N) → ((x : N) → is_among number ks x ≡ is_among number ls x) → (x : N)
     → is_among number (ks ++ ms) x ≡ is_among number (ls ++ ms) x
 among_more number ks ls ms same x =

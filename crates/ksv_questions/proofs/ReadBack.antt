@@ -55,7 +55,7 @@ value_is signed order size n h =
     below : 2 ^ (8 * size) ≡ 256 ^ size → n < 256 ^ size
     below e = omega (arith, e, h)
 
--- two's complement among so many values
+-- two's complement among this many values
 abbrev unsigned_in : ℕ → ℤ → ℕ
 unsigned_in v (pos n) = n
 unsigned_in v (negsuc n) = v - suc n

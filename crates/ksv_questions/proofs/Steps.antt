@@ -1,4 +1,4 @@
--- What running one question after another comes to.
+-- What running one question after another yields.
 use Rattle.std.proofs.Common.{◌≡◌, ℕ, List, [], ◌++◌, Result, Ok, Err, append_assoc, refl, sym, ◌∙◌, ap, subst}
 use Rattle.ksv_basics.specs.Plan.{Fail, bind}
 use Rattle.ksv_basics.specs.Asking.{and_then, asks_behind}
@@ -84,14 +84,14 @@ module _ (d : Description) (b : List ℕ) where
   settled_fault f view (untolds.Fault e) is = ap (λ x. Fail (Faulty x)) (sym is)
   settled_fault f view (untolds.Refused r) is = absurd is
 
-  -- behind one that asks nothing and fails
+  -- after one that asks nothing and fails
   pub settled_failed : {X Y A B : Type 0} (p : Asking A) (f : A → Asking B) (view : X → A) (then : Y → B) (e : Untold) → Settles p view (Err e)
       → Settles (bind p f) then (Err e)
   settled_failed p f view then untolds.NoMemory is = tt
   settled_failed p f view then (untolds.Fault e) is = bind_fails p f (Faulty e) is
   settled_failed p f view then (untolds.Refused e) is = bind_fails p f (Refused e) is
 
-  -- the same behind another
+  -- the same after another
   pub runs_ended : {X Y A B : Type 0} (p : Asking A) (f : A → Asking B) (view : X → A) (then : Y → B) (old mid : Memo Node Ruled) (x : X) (r : Result Y Untold)
       → Runs d b p view old mid (Ok x) → Settles (f (view x)) then r → Runs d b (bind p f) then old mid r
   runs_ended p f view then old mid x r h is = runs_on p f view then old mid mid x r h (runs_settled (f (view x)) then mid r h.1.right is)

@@ -17,7 +17,7 @@ abbrev pub told_of : Told → Result (List ℕ) Refusal
 told_of (tolds.Text text) = Ok (string_bytes text)
 told_of (tolds.Refused refusal) = Err refusal
 
--- what a `put` comes to: the bytes to write, or what is told of why none are written
+-- what a `put` yields: the bytes to write, or what is told of why none are written
 abbrev pub PutTells : Description → Result Overwrite Failure → Result CodeOverwrite Told → Type 0
 PutTells d (Ok o) (Ok x) = o ≡ overwrite_of x
 PutTells d (Err e) (Err told) = told_of told ≡ failure_told d e

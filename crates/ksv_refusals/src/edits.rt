@@ -96,7 +96,7 @@ pub(crate) fn inserts(alloc: Global) -> Result<Outcome, AllocError> {
     edits(alloc, Place::Anywhere)
 }
 
-/// Bytes put behind the last one.
+/// Bytes put after the last one.
 pub(crate) fn appends(alloc: Global) -> Result<Outcome, AllocError> {
     edits(alloc, Place::Behind)
 }

@@ -39,7 +39,7 @@ pub(crate) struct Line<'a> {
     takes_memory: bool,
 }
 
-/// The lines of a text, each behind a mark: `?` if it may be refused memory, a space if it takes none. Those that begin with `#`
+/// The lines of a text, each after a mark: `?` if it may be refused memory, a space if it takes none. Those that begin with `#`
 /// are left out. With a line `stats` before the last one, if that is asked for.
 pub(crate) fn lines_of(
     alloc: Global,

@@ -9,7 +9,7 @@ use std::fmt::Write;
 /// The most bytes of a message.
 const ROOM: usize = 256;
 
-/// Adds the lines by which a session gets bytes behind its last one, and loses them again.
+/// Adds the lines by which a session gets bytes after its last one, and loses them again.
 fn add_edits(
     alloc: Global,
     size: usize,
@@ -32,8 +32,8 @@ fn add_edited(size: usize, more: &[u8], replies: &mut String) -> Result<(), Allo
     write!(replies, "ok {whole}\nok {size}\n")
 }
 
-/// Adds the replies to lines over a file that ends at a place, each behind that place; and whether a session over the same bytes, which gets
-/// the ones behind the place and loses them again, replies otherwise.
+/// Adds the replies to lines over a file that ends at a place, each after that place; and whether a session over the same bytes, which gets
+/// the ones after the place and loses them again, replies otherwise.
 fn add_cut(
     alloc: Global,
     given: Given<'_>,

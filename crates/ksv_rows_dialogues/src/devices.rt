@@ -14,7 +14,7 @@ use std::fmt::Write;
 /// The most bytes that are written.
 const ROOM: usize = 65_536;
 
-/// A call that no session comes to.
+/// A call that no session makes.
 const NEVER: usize = usize::MAX;
 
 /// What fails, and after how many calls.

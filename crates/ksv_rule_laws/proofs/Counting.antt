@@ -82,7 +82,7 @@ module _ (met : Node → Result Given NodeFault) where
         last_ends = λ e. absurd (omega arith);
       }
 
-  -- the list has so many elements from this one on, or none at all
+  -- the list has this many elements from this one on, or none at all
   abbrev pub Counts : Trail → ℕ → ℕ → Place → Type 0
   Counts l i c place = ((i ≡ 0) × IsEmptyList met l c place) ⊎ AreElements met l i c place
 

@@ -121,7 +121,7 @@ named_attribute z i before (m ∷ ms) s distinct named e =
       | inr later ↦ further later h
     ]
 
--- what stands behind a member is that member, or stood there before
+-- what comes after a member is that member, or was there before
 behind_is : (before : Option ℕ) (m : MemberOfType) (z : ℕ) → behind before m ≡ Some z → (before ≡ Some z) ⊎ ((m.name ≡ z) × (is_attribute m.kind ≡ true))
 behind_is before m z e = by_test (is_attribute m.kind) refl e
   where

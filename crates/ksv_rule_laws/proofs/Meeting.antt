@@ -21,7 +21,7 @@ use Rattle.ksv_nodes.specs.declared.given.Given.{Given}
 use Rattle.ksv_rule_meaning.specs.Wanted.{wanted, expression}
 use Rattle.ksv_rule_laws.specs.Expressions.{ExpressionsAreMet}
 
--- going on behind an answer by two functions that agree
+-- going on after an answer by two functions that agree
 same_then : {A B : Type 0} (r : Result A NodeFault) (f g : A → Result B NodeFault) → ((a : A) → f a ≡ g a) → and_then r f ≡ and_then r g
 same_then (Ok a) f g same = same a
 same_then (Err e) f g same = refl
@@ -41,7 +41,7 @@ module _ (met : Node → Result Given NodeFault) (here : Trail) (bytes : List �
   met_behind_seen (Some x) k f same = same x
   met_behind_seen None k f same = refl
 
-  -- the answer of one rule behind another
+  -- the answer of one rule after another
   pub answer_bind : {A B : Type 0} (p : Rule A) (f : A → Rule B)
       → answer_of met here bytes (bind p f) ≡ and_then (answer_of met here bytes p) (λ a. answer_of met here bytes (f a))
   unfolding bind
@@ -60,7 +60,7 @@ module _ (met : Node → Result Given NodeFault) (here : Trail) (bytes : List �
       ∙ same_then (answer_of met here bytes (wanted s w)) (λ h. answer_of met here bytes (translate (wanted s) Here (k h)))
       (λ h. plan_answer (raised_at here) (λ v. answer_of met here bytes (wanted s v)) (k h)) (λ h. met_plan s (k h))
 
-  -- what one rule behind another asks
+  -- what one rule after another asks
   asked_given : {A B : Type 0} (n : Node) (k : Given → Rule A) (f : A → Rule B)
       → ((g : Given) → asks_of met here bytes (bind (k g) f) ≡ asks_of met here bytes (k g) ++ asks_behind (answer_of met here bytes (k g))
       (λ a. asks_of met here bytes (f a)))
@@ -86,7 +86,7 @@ module _ (met : Node → Result Given NodeFault) (here : Trail) (bytes : List �
   asks_bind (Ask (Of n) k) f = asked_given n k f (λ g. asks_bind (k g) f) (met n)
   asks_bind (Ask (See r) k) f = asked_seen k f (λ x. asks_bind (k x) f) (look r bytes).seen
 
-  -- what one rule behind another uses
+  -- what one rule after another uses
   used_given : {A B : Type 0} (k : Given → Rule A) (f : A → Rule B)
       → ((g : Given) → uses_of met here bytes (bind (k g) f) ≡ uses_of met here bytes (k g) ++ asks_behind (answer_of met here bytes (k g))
       (λ a. uses_of met here bytes (f a)))

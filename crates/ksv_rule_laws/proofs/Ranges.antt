@@ -26,7 +26,7 @@ use Rattle.ksv_rule_laws.specs.Laws.{IsNoStream, IsStreamIn, IsObjectIn, IsHeadI
 use Rattle.ksv_rule_laws.proofs.Answering.{ok_is, goes_on, asked_head}
 use Rattle.ksv_rule_laws.proofs.Expressions.{GivesIn, IsSoValue, IsSoHeard, IsSoElement, IsSoSetting, value_ranges}
 
--- bytes lie in a file of so many bytes
+-- bytes lie in a file of this many bytes
 abbrev AreBytesIn : ℕ → ℕ → ℕ → Type 0
 AreBytesIn size from to = (from ≤ size) × (to ≤ size)
 

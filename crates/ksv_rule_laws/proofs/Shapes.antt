@@ -78,7 +78,7 @@ module _ (bytes : List ℕ) (origin : Origin) (w : Stream) (s : Place) (f : Fiel
   IsHeadAt (heads.Object o) = IsObjectAt o
   IsHeadAt (heads.List g) = IsListAt g
 
--- from the part of q on to which this step leads, a list has so many elements and ends here
+-- from the part of q on to which this step leads, a list has this many elements and ends here
 pub record RestsAt (met : Node → Result Given NodeFault) (q : Trail) (step : Step) (count : ℕ) (place : Place) : Type 0 where
   pub path : Trail
   pub is : child q step ≡ Some path

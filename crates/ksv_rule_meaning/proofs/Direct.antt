@@ -57,17 +57,17 @@ module _ (d : Description) (bytes : List ℕ) (n : Node) (ask : Node → Outcome
   abbrev at : List (Result Given Fault) → List Use → State
   at replies us = record { here = n.path; bytes = bytes; replies = replies; uses = us }
 
-  -- what is told is what is left of the rule, behind uses
+  -- what is told is what is left of the rule, after uses
   pub record Meets (t : Told Node (Result Given Fault)) (us : List Use) (p : Rule Given) : Type 0 where
     pub outcome : flattened t.outcome ≡ answer_of met n.path bytes p
     pub asked : t.asked ≡ asks_of met n.path bytes p
     pub uses : AreSameUses t.uses (us ++ uses_of met n.path bytes p)
 
-  -- behind these replies the rule goes on as p
+  -- after these replies the rule goes on as p
   abbrev pub GoesOn : List (Result Given Fault) → List Use → Rule Given → Type 0
   GoesOn replies us p = (more : List (Result Given Fault)) → run turns (rule_of d n) (at (replies ++ more) []) ≡ run turns p (at more us)
 
-  -- what is told from some replies on, by what the rule comes to with them
+  -- what is told from some replies on, by what the rule yields with them
   abbrev step_told : ℕ → List (Result Given Fault) → Ran Node Fault State Given → Told Node (Result Given Fault)
   step_told j replies ran = with_step ask (behind ran).uses (λ a. told w ask n j (replies ++ a ∷ [])) (step_of ran)
 
@@ -110,7 +110,7 @@ module _ (d : Description) (bytes : List ℕ) (n : Node) (ask : Node → Outcome
   fault_told j replies us m k f goes = told_at j (replies ++ Err f ∷ []) us (Fail (There f.kind f.path))
       (λ more. ap (λ rs. run turns (rule_of d n) (at rs [])) (append_assoc replies (Err f ∷ []) more) ∙ goes (Err f ∷ more))
 
-  -- behind a reply
+  -- after a reply
   reply_meets : (j : ℕ) (replies : List (Result Given Fault)) (us : List Use) (m : Node) (k : Given → Rule Given) → most_asks d ≤ suc j + length replies
       → GoesOn replies us (Ask (Of m) k)
       → ((g : Given) (i : ℕ) (rs : List (Result Given Fault)) → most_asks d ≤ i + length rs → GoesOn rs us (k g) → Meets (told w ask n (suc i) rs) us (k g))
@@ -139,7 +139,7 @@ module _ (d : Description) (bytes : List ℕ) (n : Node) (ask : Node → Outcome
     uses = given_same m k (Circle c) e us _ (same_uses (us ++ []) (us ++ []) refl);
   }
 
-  -- behind a reading
+  -- after a reading
   module _ (r : Reading) (k : Seen r → Rule Given) where
     seen_run : (replies : List (Result Given Fault)) (us : List Use) (o : Option (Seen r)) → (look r bytes).seen ≡ o
         → run turns (Ask (See r) k) (at replies us) ≡ next (seen_in o (at replies (us ++ (look r bytes).uses))) (λ x s. run turns (k x) s)

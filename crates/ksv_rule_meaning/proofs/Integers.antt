@@ -7,7 +7,7 @@ use Rattle.std.proofs.lemmas.Nat.{pow-add, one_shl}
 use Rattle.std.proofs.Math.Nat.{pow-le-pow_right, mul-le-mul_left, mul_assoc, mul_comm, mul-one}
 use Rattle.ksv_rule_meaning.specs.Integers.{sum_of_bytes}
 
--- one more byte behind those that were read from the front
+-- one more byte after those that were read from the front
 pub front_more : (bytes : List ℕ) (i value byte : ℕ) → i < length bytes → value ≡ sum_of_bytes (reverse (take i bytes)) → byte ≡ get_or bytes i 0
     → value * 256 + byte ≡ sum_of_bytes (reverse (take (i + 1) bytes))
 front_more bytes i value byte lt so_far is =
@@ -32,7 +32,7 @@ back_more bytes i value byte lt so_far is =
     ap (λ k. sum_of_bytes (drop k bytes)) at in
     omega (arith, sum, so_far, is, same)
 
--- there is room for one more byte behind seven or fewer
+-- there is room for one more byte after seven or fewer
 pub room_for_byte : (value i : ℕ) → value < 256 ^ i → i < 8 → value * 256 + 256 ≤ 2 ^ 64
 room_for_byte value i small few =
     let most : 256 ^ i ≤ 256 ^ 7 = pow-le-pow_right {n = 256} (lit< tt) {i = i} {j = 7} (omega arith) in
@@ -41,7 +41,7 @@ room_for_byte value i small few =
 pub small_more : (value i byte : ℕ) → value < 256 ^ i → byte < 256 → value * 256 + byte < 256 ^ (i + 1)
 small_more value i byte small low = omega (arith, pow_more 256 i)
 
--- so many bytes have so many values
+-- this many bytes have this many values
 pub byte_power : (n : ℕ) → 2 ^ (8 * n) ≡ 256 ^ n
 byte_power zero = refl
 byte_power (suc n) =
@@ -56,7 +56,7 @@ byte_unit n h = one_shl (8 * n) 128 (omega arith) ∙ byte_power n
 pub power_small : (n : ℕ) → n ≤ 8 → 256 ^ n ≤ 2 ^ 64
 power_small n h = pow-le-pow_right {n = 256} (lit< tt) {i = n} {j = 8} h
 
--- a number of m bytes stands in n bytes where those are as many or more
+-- a number of m bytes is in n bytes where those are as many or more
 pub power_grows : (x m n : ℕ) → x < 256 ^ m → m ≤ n → x < 256 ^ n
 power_grows x m n small le =
     let more : 256 ^ m ≤ 256 ^ n = pow-le-pow_right {n = 256} (lit< tt) {i = m} {j = n} le in
@@ -66,7 +66,7 @@ power_grows x m n small le =
 pub fits_above : (x m n : ℕ) → x < 256 ^ m → n + m ≤ 8 → x < 256 ^ (8 - n)
 fits_above x m n small le = power_grows x m (8 - n) small (omega arith)
 
--- eight bytes hold a number of so many bytes, and another above it
+-- eight bytes hold a number of this many bytes, and another above it
 pub sum_fits : (low count high : ℕ) → count ≤ 8 → low < 256 ^ count → high < 256 ^ (8 - count) → low + 256 ^ count * high < 2 ^ 64
 sum_fits low count high few small above =
     let eight : count + (8 - count) ≡ 8 = omega arith in

@@ -1,4 +1,4 @@
--- An expression that is a name alone comes to what its object's member is asked for.
+-- An expression that is a name alone yields what its object's member is asked for.
 use Rattle.std.proofs.Common.{◌≡◌, ℕ, Option, Some, None, refl, ap, ◌∙◌}
 use mathlib.Core.Path.{fun_ext}
 use Rattle.ksv_basics.specs.Plan.{Answer, Ask, bind, translate}

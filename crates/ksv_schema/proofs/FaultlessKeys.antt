@@ -1,4 +1,4 @@
--- Without faults what stands at each key is what it must be, and the rules of keys together hold.
+-- Without faults what is at each key is what it must be, and the rules of keys together hold.
 use Rattle.std.proofs.Common.{◌≡◌, ℕ, Bool, true, false, cond, List, [], ◌∷◌, ◌++◌, sym, ap, ◌∙◌, refl, Option, Some, None}
 use Rattle.std.specs.Prelude.{codes, not, is_some, option_and_then, unwrap_or}
 use Rattle.std.specs.Option.{option_map_or}

@@ -106,7 +106,7 @@ place_kept test i k (x ∷ xs) ys h = go (test x) h (place_kept test (i + 1) k x
     go true h later = h
     go false h later = later h
 
--- names are added behind the others
+-- names are added after the others
 added_behind : (before added : List (List ℕ)) → (more : List (List ℕ)) × (distinct_behind before added ≡ before ++ more)
 added_behind before [] = ([], sym (append-nil before))
 added_behind before (n ∷ ns) = go (list_any (bytes_eq n) before) (added_behind (cond (list_any (bytes_eq n) before) before (before ++ n ∷ [])) ns)

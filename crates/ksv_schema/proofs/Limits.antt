@@ -12,7 +12,7 @@ use Rattle.std.proofs.lemmas.Option.{slice_get_past, slice_get-get_or}
 use Rattle.ksv_schema.specs.Description.{lower, line_past}
 use Rattle.ksv_schema.specs.Plain.{AreRising}
 
--- ---- how many lines are not behind one
+-- ---- how many lines are not after one
 
 abbrev up_to : ℕ → List ℕ → ℕ
 up_to line lines = length (filter (λ other. nat_le other line) lines)
@@ -33,7 +33,7 @@ at_most_one line y ys = by_test (nat_le y line) refl
     by_test true h = omega (arith, counted line y ys h)
     by_test false h = omega (arith, passed_over line y ys h)
 
--- of rising lines at least the first i + 1 are not behind that of number i
+-- of rising lines at least the first i + 1 are not after that of number i
 many : (ys : List ℕ) (i d : ℕ) → IsNonDecreasing ys → i < length ys → i < up_to (slice_index_or ys i d) ys
 many [] i d h lt = absurd (omega (arith, lt))
 many (y ∷ ys) zero d h lt =

@@ -127,7 +127,7 @@ module _ (r : Row) where
 abbrev pub AreTyped : List Row → Type 0
 AreTyped rs = Each (λ r. is_utf8 r.id ≡ true) rs
 
--- the ids of types behind the root
+-- the ids of types after the root
 later_texts : (n : ℕ) (rs : List Row) → all_types_faults (n + 1) rs ≡ [] → AreTyped rs
 unfolding type_faults
 later_texts n [] k = tt

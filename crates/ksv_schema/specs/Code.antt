@@ -122,7 +122,7 @@ abbrev pub kept_if : {A B E : Type 0} → A → Result B E → Result (Option A)
 kept_if x (Ok done) = Ok (Some x)
 kept_if x (Err e) = Err e
 
--- the items of a list, and one more behind them, if it was read
+-- the items of a list, and one more after them, if it was read
 abbrev pub items_of : {A : Type 0} → Option (Vec A Global) → Option (List A)
 items_of o = option_map (λ v. v.items) o
 

@@ -61,7 +61,7 @@ in_run d old new line line' tells before written result is same a = subst (λ d.
   wrote = a.wrote;
 })
 
--- The end of the input, with what is left behind an LF in a piece.
+-- The end of the input, with what is left after an LF in a piece.
 pub split_input : (taken piece left : List ℕ) (i : ℕ) → i < length piece → get_or piece i 0 ≡ 10
     → taken ++ (piece ++ left) ≡ (taken ++ take i piece) ++ 10 ∷ (drop (i + 1) piece ++ left)
 split_input taken piece left i lt is =

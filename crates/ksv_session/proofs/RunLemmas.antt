@@ -1,4 +1,4 @@
--- One step of a run, from what stands before it, and what a whole run comes to.
+-- One step of a run, from what is before it, and what a whole run yields.
 use Rattle.std.proofs.Common.{◌≡◌, ◌∙◌, ◌&&◌, ◌+◌, min, ℕ, suc, Bool, true, false, None, List, [], ◌∷◌, ◌++◌, length, map, fold, take, ap, ap₂, sym, refl}
 use Rattle.std.proofs.Common.{arith, append_assoc, if◌then◌else◌, inl, inr, subst}
 use Rattle.std.specs.Prelude.{IsTrue}
@@ -56,7 +56,7 @@ session_push d begin events e goes_on = fold_push (after_event d) (begun begin) 
 lines_push : (events : List Event) (e : Event) → lines_in (events ++ e ∷ []) ≡ lines_in events ++ e.line ∷ []
 lines_push events e = map-append (λ (x : Event). x.line) events (e ∷ [])
 
--- Lines behind those that were answered, of which none was refused memory.
+-- Lines after those that were answered, of which none was refused memory.
 
 abbrev pub event_of : List ℕ → Event
 event_of line = record { line = line; refused = false; tally = record { kept = 0; turns = None } }
@@ -68,7 +68,7 @@ unrefused_lines : (lines : List (List ℕ)) → lines_in (unrefused lines) ≡ l
 unrefused_lines [] = refl
 unrefused_lines (line ∷ lines) = ap (λ ls. line ∷ ls) (unrefused_lines lines)
 
--- behind some events: the output begins as it was, and what was fair stays so
+-- after some events: the output begins as it was, and what was fair stays so
 record Goes (d : Description) (s : Standing) (lines : List (List ℕ)) : Type 0 where
   more : List ℕ
   output : (fold (after_event d) s (unrefused lines)).output ≡ s.output ++ more
@@ -192,7 +192,7 @@ kept_next d begin taken now line before written tells s event now' line_is fair 
       holds = λ ends. one.2 (ap (λ (a : Replied). a.ends) n.same ∙ ends);
     }
 
--- The same where the line ends the session, whatever stands behind it.
+-- The same where the line ends the session, whatever comes after it.
 pub kept_end : (d : Description) (begin taken : List ℕ) (now : Explored) (line : List ℕ) (before written : Taken) (tells : Bool)
     (s : Stands d begin taken now line tells before written)
     (event : Event) (now' : Explored) (tail : List Event) → event.line ≡ line → is_fair d now.bytes event ≡ true → KeepsOne d now event now'
@@ -208,18 +208,18 @@ kept_end d begin taken now line before written tells s event now' tail line_is f
           (keeps_append d (begun begin) nothing_kept s.events (e ∷ tail) s.kept s.kept refl s.stats s.goes_on end),
     )
 
--- The output behind that line.
+-- The output after that line.
 written_next : (d : Description) (begin before written written' : List ℕ) (events : List Event) (e : Event) (a : Replied) → Next d begin events e a
     → written ≡ before ++ (session d begin events).output → written' ≡ written ++ a.text → written' ≡ before ++ (session d begin (events ++ e ∷ [])).output
 written_next d begin before written written' events e a n is more =
     more ∙ ap (λ w. w ++ a.text) is ∙ append_assoc before (session d begin events).output a.text ∙ ap (λ o. before ++ o) (sym n.output)
 
--- how much is passed on behind that line
+-- how much is passed on after that line
 flushed_next : (before : Taken) (output bytes : List ℕ) (f n k : ℕ) → n ≡ suc k → f ≡ length bytes → bytes ≡ before.bytes ++ output
     → f ≡ flushed_by before output n
 flushed_next before output bytes f n k is all same = all ∙ ap length same ∙ length-append before.bytes output ∙ sym (ap (flushed_by before output) is)
 
--- An LF behind a line that is answered.
+-- An LF after a line that is answered.
 pub answered_line : (d : Description) (begin taken : List ℕ) (now : Explored) (line : List ℕ) (before written : Taken) (now' : Explored) (written' : Taken)
     (tells : Bool) (s : Stands d begin taken now line tells before written)
     (event : Event) → event.line ≡ line → is_fair d now.bytes event ≡ true → (answer d now.bytes event).ends ≡ false
@@ -248,14 +248,14 @@ answered_line d begin taken now line before written now' written' tells s event 
       stats = k.stats;
     }
 
--- The lines of an input that goes on behind an LF.
+-- The lines of an input that goes on after an LF.
 pub lines_behind : (d : Description) (begin taken : List ℕ) (now : Explored) (line : List ℕ) (before written : Taken) (more : List ℕ) (tells : Bool)
     (s : Stands d begin taken now line tells before written)
     → lines_of (taken ++ 10 ∷ more) ≡ (lines_in s.events ++ s.rest ∷ []) ++ lines_of more
 lines_behind d begin taken now line before written more tells s =
     split_at is_line_end taken 10 more refl ∙ ap (λ ls. ls ++ lines_of more) (sym s.lines)
 
--- A line that ends the session, whatever stands behind it.
+-- A line that ends the session, whatever comes after it.
 pub quit_line : (d : Description) (begin taken : List ℕ) (now : Explored) (line : List ℕ) (before written : Taken) (now' : Explored) (written' : Taken)
     (input : List ℕ) (tail : List (List ℕ)) (tells : Bool)
     (s : Stands d begin taken now line tells before written) → lines_of input ≡ (lines_in s.events ++ s.rest ∷ []) ++ tail
@@ -312,7 +312,7 @@ take_past : (out text : List ℕ) (n : ℕ) → take (length out + n) (out ++ te
 take_past out text n = take-add (length out) n (out ++ text)
     ∙ ap₂ (λ a b. a ++ b) (take_at out text (length out) refl) (ap (take n) (drop_at out text (length out) refl))
 
--- a beginning of a text, behind a whole one and before more
+-- a beginning of a text, after a whole one and before more
 front_text : (out text more : List ℕ) (count : ℕ) → out ++ take count text ≡ take (length out + min count (length text)) ((out ++ text) ++ more)
 front_text out text more count =
     let n = min count (length text) in

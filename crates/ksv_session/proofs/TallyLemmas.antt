@@ -36,7 +36,7 @@ left_once d b Quit m s h = h.kept.once
 holds_own : (s : Explored) → IsEachOnce s.kept → Holds s (memory_of s)
 holds_own s once = record { kept = same_nodes s.kept once; turns = refl }
 
--- behind a line: what is kept then
+-- after a line: what is kept then
 behind_line : (d : Description) (b : List ℕ) (m : Memory) (e : Event) (new : Explored) (ends refused : Bool) → Remembers d b (command_of d e.line) refused m new
     → (next : Memory) × Behind d b m e ends refused (λ after n. next ≡ n) × (ends ≡ false → Holds new next)
 behind_line d b m e new true refused r = (m, tt, λ no. absurd (true≢false no))
@@ -58,7 +58,7 @@ pub keeps_end : (d : Description) (b : List ℕ) (m : Memory) (e : Event) (tail 
 unfolding Keeps
 keeps_end d b m e tail told ends = (told, subst (λ x. Behind d b m e x e.refused (λ after next. Keeps d after next tail m)) (sym ends) tt)
 
--- lines behind others, where the session goes on
+-- lines after others, where the session goes on
 pub keeps_append : (d : Description) (s : Standing) (m : Memory) (events more : List Event) (mid last : Memory) → s.ended ≡ false → Keeps d s.bytes m events mid
     → (fold (after_event d) s events).ended ≡ false → Keeps d (fold (after_event d) s events).bytes mid more last → Keeps d s.bytes m (events ++ more) last
 unfolding Keeps

@@ -44,7 +44,7 @@ pub record IsReply (text : List ℕ) (form : Form) (reply : Reply) : Type 0 wher
   pub answers : is_refusal reply ≡ false
   pub goes_on : is_last reply ≡ false
 
--- what a `put` comes to: the bytes to write, or the reply
+-- what a `put` yields: the bytes to write, or the reply
 abbrev pub PutSays : Description → Result Overwrite Failure → Result CodeOverwrite Reply → Type 0
 PutSays d (Ok o) (Ok x) = o ≡ overwrite_of x
 PutSays d (Err e) (Err reply) = IsReply (failure_text d e ++ codes "\n") (told_form (failure_told d e)) reply

@@ -21,7 +21,7 @@ Behind d b m e true refused goes = Unit {0}
 Behind d b m e false false goes = goes (answer d b e).bytes (memory_after d b (command_of d e.line) m)
 Behind d b m e false true goes = (s : Explored) × LeftBy d b (command_of d e.line) m s × goes (answer d b e).bytes (memory_of s)
 
--- The tally of each event is that of what is kept when its line comes; `last` is what is kept behind all of them.
+-- The tally of each event is that of what is kept when its line comes; `last` is what is kept after all of them.
 unfoldable pub Keeps : Description → List ℕ → Memory → List Event → Memory → Type 0
 Keeps d b m [] last = last ≡ m
 Keeps d b m (e ∷ events) last = (e.tally ≡ tally_in m) × Behind d b m e (answer d b e).ends e.refused (λ after next. Keeps d after next events last)

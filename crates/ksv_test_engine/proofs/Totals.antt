@@ -12,7 +12,7 @@ number_at so_far (Ok m ∷ replies) zero n e = let same : m ≡ n = cc in ap (λ
 number_at so_far (Err f ∷ replies) zero n e = absurd (cc)
 number_at so_far (reply ∷ replies) (suc place) n e = number_at so_far replies place n e
 
--- a number is added, and what is behind it
+-- a number is added, and what is after it
 pub total_number : (so_far : ℕ) (replies : List Reply) (place n : ℕ) → slice_get replies place ≡ Some (Ok n)
     → total so_far (drop place replies) ≡ total (min (so_far + n) (2 ^ 32 - 1)) (drop (place + 1) replies)
 total_number so_far replies place n e = let next : suc place ≡ place + 1 =
@@ -26,7 +26,7 @@ total_fault so_far (Ok m ∷ replies) zero f e = absurd (cc)
 total_fault so_far (Err g ∷ replies) zero f e = let same : g ≡ f = cc in ap Err same
 total_fault so_far (reply ∷ replies) (suc place) f e = total_fault so_far replies place f e
 
--- behind the last reply it is known
+-- after the last reply it is known
 pub total_past : (so_far : ℕ) (replies : List Reply) (place : ℕ) → slice_get replies place ≡ None → total so_far (drop place replies) ≡ Ok so_far
 total_past so_far [] zero e = refl
 total_past so_far [] (suc place) e = refl

@@ -10,10 +10,10 @@
 //! that of the worklist 2, of its users' pass and of the taking.
 //!
 //! - An append takes the row of the size: 12, the end of one list, and 2: 15 looks.
-//! - An insert or a delete behind the first byte of the last page takes it and the row of the file's end: 24, the ends of two lists of ends,
+//! - An insert or a delete after the first byte of the last page takes it and the row of the file's end: 24, the ends of two lists of ends,
 //!   a row that stays, the end of its page, and 2: 31 looks.
 //! - One at the first byte of the page in the middle takes the second half of the rows that bytes name, too. The most looks are 8 times
-//!   what is behind: one, the pages from there on with one past the last byte, the uses of bytes there, the two other rows, the rows
+//!   what is after: one, the pages from there on with one past the last byte, the uses of bytes there, the two other rows, the rows
 //!   that go, their asks, and the pages of their uses.
 ghost use Rattle.ksv_memo_rules.specs.Meaning.{on};
 ghost use Rattle.ksv_memo_rules.specs.Right.{IsRight};

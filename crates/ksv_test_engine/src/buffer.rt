@@ -3,7 +3,7 @@
 //! Where the values are from: by hand. The bytes after an edit, and the parts of a window, were written down by cutting the text in
 //! the test at the edit's place, with the gap where the last insert or delete ended. A refusal is the first that holds of: a range
 //! that isn't in the file, nothing to do, a file over the limit. Of the touched uses: an overwrite touches a range of bytes that it
-//! meets; a shift one that ends behind its place, a reach over its place and the size; an append the size alone.
+//! meets; a shift one that ends after its place, a reach over its place and the size; an append the size alone.
 
 use ksv_bytes::{Buffer, Change, EditRefusal, FILE_LIMIT, Use, Window, touches};
 use std::alloc::{AllocError, Global};
@@ -43,7 +43,7 @@ fn edits_or_refuses(rt: HostRuntime) -> Result<(), Fail> {
     Ok(())
 }
 
-/// Whether a window of a buffer is these bytes in front of the gap, and those behind it.
+/// Whether a window of a buffer is these bytes before the gap, and those after it.
 fn is_cut(buffer: &Buffer, window: Window, front: &[u8], back: &[u8]) -> bool {
     if window.from > window.to || window.to > buffer.len() {
         return false;
@@ -112,7 +112,7 @@ fn deletes_anywhere(rt: HostRuntime) -> Result<(), Fail> {
     Ok(())
 }
 
-/// Whether an insert and a delete at a place leave the bytes as they were, in front of the place and behind it.
+/// Whether an insert and a delete at a place leave the bytes as they were, in front of the place and after it.
 fn is_cut_at(alloc: Global, bytes: &[u8], place: usize) -> Result<bool, Fail> {
     if place > bytes.len() {
         return Ok(false);

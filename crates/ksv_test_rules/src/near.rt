@@ -136,7 +136,7 @@ fn is_near_in(
     Ok(is_asked_near(alloc, rules, bytes, node, kept, overwrites))
 }
 
-/// A byte behind an object of four bytes.
+/// A byte after an object of four bytes.
 const BEHIND: &str = "meta:
   id: t
 seq:

@@ -3,7 +3,7 @@ use Rattle.std.proofs.Common.{◌≡◌, ℕ, ◌*◌, ◌%◌, ◌^◌, ◌≤�
 use Rattle.std.proofs.lemmas.Nat.{one_shl}
 use Rattle.std.proofs.Math.Nat.{pow-le-pow_right}
 
--- one of so many bytes, as a shift
+-- one of this many bytes, as a shift
 pub values_shifted : (n : ℕ) → n ≤ 8 → 1 * 2 ^ (8 * n) % 340282366920938463463374607431768211456 ≡ 2 ^ (8 * n)
 values_shifted n h = one_shl (8 * n) 128 (omega arith)
 

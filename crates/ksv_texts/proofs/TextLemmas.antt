@@ -8,7 +8,7 @@ use Rattle.ksv_desc.specs.Description.{Description}
 use Rattle.ksv_paths.specs.PathTexts.{or_slash, steps_text}
 use Rattle.ksv_texts.specs.Texts.{bytes_text}
 
--- the digits of two texts one behind the other
+-- the digits of two texts one after the other
 pub encoded_append : (table xs ys : List ℕ) → encode_with table xs ++ encode_with table ys ≡ encode_with table (xs ++ ys)
 unfolding encode_with
 encoded_append table [] ys = refl

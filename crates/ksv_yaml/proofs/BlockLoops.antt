@@ -1,4 +1,4 @@
--- Where the reader of blocks stands.
+-- Where the reader of blocks is.
 use Rattle.std.proofs.Common.{◌≡◌, ℕ, zero, suc, ◌+◌, ◌-◌, ◌*◌, ◌≤◌, ◌<◌, Bool, true, false, List, [], ◌∷◌, ◌++◌, length, Option, None, Result, Ok, Err, IfOk}
 use Rattle.std.proofs.Common.{◌≢◌, refl, sym, ap, subst, ◌∙◌, arith}
 use Rattle.std.specs.Prelude.{◌==◌, ◌&&◌, nat_lt}
@@ -131,7 +131,7 @@ pub value_on_line : {d : ℕ} {l : Line} {behind : List ℕ} {ls : List Line} (o
 value_on_line {d} {l} {behind = []} {ls} o h r = absurd (h refl)
 value_on_line {d} {l} {behind = c ∷ cs} {ls} o h r = record { is = λ f g. let i = one_less f (omega arith) in ap (λ (f : ℕ). value f d l (c ∷ cs) ls) i.1 ∙ r }
 
--- what is below, behind the quiet lines
+-- what is below, after the quiet lines
 value_down : (d : ℕ) (l : Line) (behind : List ℕ) (ls below : List Line) → behind ≡ [] → below ≡ loud ls → (f : ℕ) → 1 < f
     → (g : ℕ) × (f ≡ suc (suc g)) × (value f d l behind ls ≡ value_below (suc g) d l below)
 value_down d l behind ls below e z f h =

@@ -22,7 +22,7 @@ pub weight-append : (xs ys : List Line) → weight (xs ++ ys) ≡ weight xs + we
 weight-append [] ys = omega arith
 weight-append (x ∷ xs) ys = omega (arith, weight-append xs ys)
 
--- the next line says something, and stands before this column, or there and is no item
+-- the next line says something, and is before this column, or there and is no item
 abbrev pub NoItem : ℕ → List Line → Type 0
 NoItem m [] = Unit {0}
 NoItem m (l ∷ ls) = (is_quiet l ≡ false) × ((l.indent < m) ⊎ ((l.indent ≡ m) × (is_dash (start_of l.content) ≡ false)))
@@ -255,7 +255,7 @@ ok_then {d} {m} {l} {ls} k {t} {is} xs ys el split ek0 v o =
           ∙ o.reads rest j.0 h (omega (arith, i.1, j.1, g, w)));
     }
 
--- ---- behind a key or a dash
+-- ---- after a key or a dash
 
 value_stop : (f d : ℕ) (l : Line) (ls : List Line) → 0 < f → NoItem l.indent ls → value_below f d l ls ≡ got (Text l.number false []) ls
 value_stop zero d l ls p h = absurd (omega arith)

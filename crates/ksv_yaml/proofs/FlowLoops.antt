@@ -1,4 +1,4 @@
--- Where the reader of flow nodes stands.
+-- Where the reader of flow nodes is.
 use Rattle.std.proofs.Common.{◌≡◌, ℕ, suc, ◌+◌, ◌-◌, ◌*◌, ◌≤◌, ◌<◌, true, false, List, [], ◌∷◌, ◌++◌, length, Option, Some, None, ◌≢◌, refl, sym, ap, ◌∙◌}
 use Rattle.std.proofs.Common.{arith}
 use Rattle.ksv_yaml_tree.specs.Tree.{Tree, Seq, Map, Items, no_items, item, Entries, no_entries, entry, Pair}
@@ -48,7 +48,7 @@ node_entries_limit {d} {ts} k rest e d0 =
           ∙ deeper_none d _ d0;
     }
 
--- ---- what stands at the front
+-- ---- what is at the front
 
 abbrev first_item : ℕ → ℕ → List Token → Option (Got Token Items)
 first_item f d ts = flow f d ts >>= λ t. flow_more f d t.rest >>= λ is. got (item t.value is.value) is.rest

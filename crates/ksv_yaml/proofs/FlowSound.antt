@@ -15,7 +15,7 @@ pub record Closed (close : Token) (P : List Token → Type 0) (zs : List Token) 
   pub is : zs ≡ inner ++ close ∷ []
   pub holds : P inner
 
--- a comma stands before them
+-- a comma is before them
 pub record Behind (close : Token) (P : List Token → Type 0) (zs : List Token) : Type 0 where
   pub inner : List Token
   pub is : zs ≡ Comma ∷ (inner ++ close ∷ [])
@@ -33,7 +33,7 @@ More close none P ts x = Over close none ts x ⊎ Took Token ts x.rest (Behind c
 closed_none : (close : Token) (P : List Token → Type 0) (ts : List Token) → P [] → Took Token (close ∷ ts) ts (Closed close P)
 closed_none close P ts p = record { front = close ∷ []; cut = refl; is = record { inner = []; is = refl; holds = p } }
 
--- a first value, and what more there is; a front stands before it
+-- a first value, and what more there is; a front is before it
 joined : {A : Type 0} (close : Token) (pre : List Token) (none : A) (P : List Token → A → Type 0) (Q : List Token → Type 0) (R : List Token → A → Type 0)
     {ts mid : List Token} (x : Got Token A) →
     ((xs : List Token) → Q xs → R (pre ++ xs) none) → ((xs ys : List Token) → Q xs → P ys x.value → R (pre ++ (xs ++ Comma ∷ ys)) x.value) →

@@ -1,4 +1,4 @@
--- What a scalar or flow node spells is read, whatever follows that stands before its column.
+-- What a scalar or flow node spells is read, whatever follows that is before its column.
 use Rattle.std.proofs.Common.{◌≡◌, ℕ, ◌+◌, ◌*◌, ◌<◌, Bool, true, false, List, [], ◌∷◌, ◌++◌, length, Option, Some, refl, sym, ap, ◌∙◌, append_assoc, arith}
 use Rattle.std.specs.Prelude.{nat_le}
 use Rattle.std.proofs.lemmas.List.{append-nil}
@@ -16,7 +16,7 @@ use Rattle.ksv_yaml.proofs.Steps.{Loud, loud_behind}
 use Rattle.ksv_yaml_scan.proofs.Choices.{at_true, at_false}
 use Rattle.ksv_yaml.proofs.FlowComplete.{flow_ok}
 
--- the next line says something, and stands before this column
+-- the next line says something, and is before this column
 abbrev pub Before : ℕ → List Line → Type 0
 Before n [] = Unit {0}
 Before n (l ∷ ls) = (is_quiet l ≡ false) × (l.indent < n)

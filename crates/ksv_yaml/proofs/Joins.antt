@@ -6,12 +6,12 @@ use Rattle.ksv_yaml.specs.Reading.{deeper}
 use Rattle.ksv_yaml.specs.Code.{keys_of}
 use Rattle.ksv_yaml_scan.specs.Got.{Got, got, ◌>>=◌}
 
--- one list of entries behind another
+-- one list of entries after another
 abbrev pub join : Entries → Entries → Entries
 join no_entries fs = fs
 join (entry n k t es) fs = entry n k t (join es fs)
 
--- one list of items behind another
+-- one list of items after another
 abbrev pub join_items : Items → Items → Items
 join_items no_items js = js
 join_items (item t is) js = item t (join_items is js)
@@ -36,7 +36,7 @@ pub keys_push : (ps : List Pair) (p : Pair) → keys_of (ps ++ p ∷ []) ≡ key
 keys_push [] p = refl
 keys_push (q ∷ ps) p = ap (λ (ks : List (List ℕ)). q.key ∷ ks) (keys_push ps p)
 
--- what was read behind these
+-- what was read after these
 abbrev pub with_items : {L : Type 0} → List Tree → Option (Got L Items) → Option (Got L Items)
 with_items so_far o = o >>= λ is. got (join_items (items_of so_far) is.value) is.rest
 

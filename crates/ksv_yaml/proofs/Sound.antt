@@ -70,7 +70,7 @@ shown_short (c ∷ cs) = short_step _ _ c cs (shown_short cs)
     short_step false true c cs h = omega arith
     short_step false false c cs h = omega arith
 
--- a dash takes a column, and its line is longer than what stands behind it
+-- a dash takes a column, and its line is longer than what comes after it
 pub record IsDash (cs : List ℕ) (x : Dashed) : Type 0 where
   pub wide : 0 < x.columns
   pub short : length x.behind < length cs

@@ -19,7 +19,7 @@ use Rattle.ksv_yaml_scan.specs.Views.{lines_view}
 allowed_none : (text : List ℕ) (stray : Option ℕ) → stray_line text ≡ stray → stray ≡ None → is_allowed text ≡ true
 allowed_none text stray e z = ap is_none (e ∙ z)
 
--- the tree of the lines, where no control character stands
+-- the tree of the lines, where there is no control character
 pub text_read : (text : List ℕ) (ls : List Line) (stray : Option ℕ) (t : Tree) → IsCut text ls stray → stray ≡ None → tree_of ls ≡ Some t → Spells text t
 text_read text ls stray t k z h = text_sound text t k.small k.utf8 (at_true (is_allowed text) _ _ (allowed_none text stray k.stray z) ∙ ap tree_of k.lines ∙ h)
 
@@ -27,7 +27,7 @@ stray_none : (o : Option ℕ) → is_none o ≡ true → o ≡ None
 stray_none None h = refl
 stray_none (Some n) h = absurd cc
 
--- the lines have no tree, or a control character stands on one
+-- the lines have no tree, or a control character is on one
 pub text_unread : (text : List ℕ) (ls : List Line) (stray : Option ℕ) → IsCut text ls stray → (stray ≡ None → tree_of ls ≡ None) → (t : Tree) → Spells text t
     → ⊥
 text_unread text ls stray k h t s = let z : stray ≡ None =
@@ -58,7 +58,7 @@ refuses_by text NotClosed line o u = u refl
 refuses_by text ValueForKey line o u = u refl
 refuses_by text TooDeep line o u = u refl
 
--- a refusal and a tree exclude each other, but for want of memory
+-- a refusal and a tree exclude each other, but where memory runs out
 pub refuses_memory : (text : List ℕ) (t : Tree) (k : YamlKind) (line : ℕ) → Spells text t → Refuses text k line → k ≡ NoMemory
 refuses_memory text t NoMemory line s r = refl
 refuses_memory text t TooLong line s r = let h = s.small in absurd (omega arith)

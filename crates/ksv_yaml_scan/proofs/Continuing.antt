@@ -6,7 +6,7 @@ use Rattle.ksv_yaml_scan.specs.Got.{Got, got, ◌>>=◌}
 use Rattle.ksv_yaml_scan.specs.Lines.{Line, is_quiet, loud}
 use Rattle.ksv_yaml_scan.specs.Plain.{more_of, line_on, goes_on, plain_text}
 
--- a text, and lines behind it
+-- a text, and lines after it
 abbrev pub then_text : List ℕ → Option (Got Line (List ℕ)) → Option (Got Line (List ℕ))
 then_text text o = o >>= λ r. got (text ++ r.value) r.rest
 
@@ -30,7 +30,7 @@ pub text_more : (text more : List ℕ) (n : ℕ) (c : Bool) (l : Line) (ls : Lis
     → more_of l.content ≡ Some (more, c) → plain_text text n false (l ∷ ls) ≡ plain_text (text ++ 32 ∷ more) n c ls
 text_more text more n c l ls q d m = deep_on text n l ls (Some (more, c)) q d m ∙ then_more text more (goes_on n c ls)
 
--- where the text ends: at a quiet line, behind a comment, and at a line that isn't deep enough
+-- where the text ends: at a quiet line, after a comment, and at a line that isn't deep enough
 module _ (text : List ℕ) (n : ℕ) (l : Line) (ls : List Line) where
   pub text_quiet : (c : Bool) → is_quiet l ≡ true → plain_text text n c (l ∷ ls) ≡ got text (loud (l ∷ ls))
   text_quiet c q =

@@ -72,14 +72,14 @@ return_last (x ∷ y ∷ xs) c = ap (λ (ys : List ℕ). x ∷ ys) (return_last 
     step true = refl
     step false = refl
 
--- what stands behind a byte is clean, if nothing stands there that makes a control character with it
+-- what comes after a byte is clean, if nothing is there that makes a control character with it
 abbrev pub clean_behind : ℕ → List ℕ → Bool
 clean_behind b [] = true
 clean_behind b (c ∷ cs) = not (is_wide_control b c) && is_clean (c ∷ cs)
 
 -- ---- spaces
 
--- what stands behind the spaces is what is left without as many bytes
+-- what comes after the spaces is what is left without as many bytes
 pub behind_drop : (xs : List ℕ) → behind_spaces xs ≡ drop (spaces xs) xs
 behind_drop [] = refl
 behind_drop (c ∷ cs) = step (c == 32) (behind_drop cs)

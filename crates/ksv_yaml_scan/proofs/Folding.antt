@@ -18,7 +18,7 @@ replicate_more (suc k) xs = ap (λ (ys : List ℕ). 10 ∷ ys) (replicate_more k
 
 -- ---- literal
 
--- behind a row and k empty ones
+-- after a row and k empty ones
 abbrev literal_on : ℕ → List Row → List ℕ
 literal_on k [] = []
 literal_on k (s ∷ ss) = replicate (suc k) 10 ++ literal (s ∷ ss)
@@ -74,7 +74,7 @@ folded_rows w k (r ∷ rs) = folded_step w k r rs (is_nil r.text) refl (folded_r
 
 -- ---- the first row that isn't empty
 
--- rows joined, behind k empty ones
+-- rows joined, after k empty ones
 abbrev joined : Bool → ℕ → List Row → List ℕ
 joined fold k [] = []
 joined fold k (s ∷ ss) = replicate k 10 ++ cond fold (folded (s ∷ ss)) (literal (s ∷ ss))
@@ -90,7 +90,7 @@ joined_skip true k r (s ∷ ss) h = ap (λ (b : Bool). replicate k 10 ++ cond b 
     ∙ replicate_more k (folded (s ∷ ss))
 joined_skip false k r (s ∷ ss) h = ap (λ (t : List ℕ). replicate k 10 ++ (t ++ 10 ∷ literal (s ∷ ss))) (nil_is r.text h) ∙ replicate_more k (literal (s ∷ ss))
 
--- a row that isn't empty, and what is behind it
+-- a row that isn't empty, and what is after it
 joined_first : (fold : Bool) (r : Row) (rs : List Row) → is_nil r.text ≡ false
     → cond fold (folded (r ∷ filled rs)) (literal (r ∷ filled rs)) ≡ r.text ++ rows_on fold (Some (starts_white r.text)) 0 rs
 joined_first true r rs h = ap (λ (b : Bool). cond b (10 ∷ folded (filled rs)) (r.text ++ folded_on (starts_white r.text) 0 (filled rs))) h

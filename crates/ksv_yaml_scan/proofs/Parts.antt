@@ -33,7 +33,7 @@ ends_more n (Bracket rest) h = omega arith
 ends_more n Comment h = tt
 ends_more n End h = tt
 
--- what is behind the byte at which a run ends is no longer than this
+-- what is after the byte at which a run ends is no longer than this
 abbrev StopsWithin : ℕ → Option Ending → Type 0
 StopsWithin n None = Unit {0}
 StopsWithin n (Some e) = EndsWithin n e
@@ -116,7 +116,7 @@ inside_within : (step : Place → ℕ → List ℕ → Step) → ((m : Place) (c
 inside_within step s [] m = end_within m
 inside_within step s (c ∷ cs) m = act_within (length cs) (step m c cs) (λ n. inside step n cs) (s m c cs) (λ n. inside_within step s cs n)
 
--- what stands behind a quote is shorter than its line from its first byte
+-- what comes after a quote is shorter than its line from its first byte
 pub quote_short : (c : ℕ) (cs : List ℕ) → QuoteWithin (length cs) (quote_of (c ∷ cs))
 quote_short c cs = by_test (QuoteWithin (length cs)) (c == 39) _ _ (λ e. inside_within single single_short cs Between)
     (λ e. by_test (QuoteWithin (length cs)) (c == 34) _ _ (λ e. inside_within double double_short cs Between) (λ e. tt))
@@ -191,7 +191,7 @@ tokens_enough (suc f) (suc g) number w (c ∷ cs) h k =
 
 -- ---- from one part to the next
 
--- what is behind is shorter than this
+-- what is after is shorter than this
 abbrev CutBelow : ℕ → Cut → Type 0
 CutBelow n (White rest) = length rest < n
 CutBelow n (Part t rest) = length rest < n

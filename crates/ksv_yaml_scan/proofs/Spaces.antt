@@ -18,7 +18,7 @@ pub shown_skip : (cs : List ℕ) → shown cs ≡ uncommented (skip cs)
 shown_skip [] = refl
 shown_skip (c ∷ cs) = shown_step (is_white c) c cs (shown_skip cs)
 
--- a comment stands behind the white space
+-- a comment comes after the white space
 pub shown_comment : (cs ds rest : List ℕ) (c : ℕ) → ds ≡ skip cs → ds ≡ c ∷ rest → c ≡ 35 → shown cs ≡ []
 shown_comment cs ds rest c e f g = shown_skip cs ∙ ap uncommented (sym e ∙ f) ∙ at_true (c == 35) [] (c ∷ rest) (same_byte c 35 g)
 
@@ -39,7 +39,7 @@ columns_step false c cs h = hash (c == 35)
     hash true = omega arith
     hash false = omega arith
 
--- white space, and what stands behind it
+-- white space, and what comes after it
 pub columns_shown : (cs : List ℕ) → columns cs + length (shown cs) ≤ length cs
 columns_shown [] = omega arith
 columns_shown (c ∷ cs) = columns_step (is_white c) c cs (columns_shown cs)

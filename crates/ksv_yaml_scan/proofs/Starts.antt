@@ -45,7 +45,7 @@ start_key cs key rest h = start_key_by (is_nil (shown cs)) (dash_of cs) (key_of 
 pub start_inline : (cs : List ℕ) (x : InlineKind) → start_of cs ≡ Inline x → kind_of cs ≡ Some x
 start_inline cs x h = start_inline_by (is_nil (shown cs)) (dash_of cs) (key_of cs) (kind_of cs) x h
 
--- ---- what stands at the front
+-- ---- what is at the front
 
 at_byte : (k c : ℕ) (P : ℕ → Type 0) → (c == k) ≡ true → P k → P c
 at_byte k c P h p = subst P (sym (eqb-true c k h)) p
@@ -136,7 +136,7 @@ run_no_key text (Bracket rest) x h = refl
 run_no_key text Comment x h = refl
 run_no_key text End x h = refl
 
--- what nothing but a comment stands behind is no key
+-- what only a comment follows is no key
 clear_skip : (b e : Bool) (c : ℕ) (cs key : List ℕ) → (c == 35) ≡ e → (is_nil (shown cs) ≡ true → key_at_colon key (skip cs) ≡ None)
     → is_nil (cond b (shown cs) (cond e [] (c ∷ cs))) ≡ true → key_at_colon key (cond b (skip cs) (c ∷ cs)) ≡ None
 clear_skip true e c cs key ec f h = f h

@@ -22,7 +22,7 @@ pub enum Found {
 }
 
 impl<'a> Turn<'a> {
-    /// The number of the byte that lies a size behind another one. The stream and the file must go on to it.
+    /// The number of the byte that is a size after another one. The stream and the file must go on to it.
     #[tactic(auto, unfolding(crate::specs::Reading::reach_within, crate::specs::Reading::reach_file))]
     #[inline(always)]
     pub fn reach(&mut self, stream: Stream, from: u32, size: u64) -> Result<u32, Halt>

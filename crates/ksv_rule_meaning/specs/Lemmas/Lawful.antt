@@ -16,7 +16,7 @@ use Rattle.ksv_rule_meaning.specs.Meaning.{rule_of}
 use Rattle.ksv_rule_meaning.specs.Described.{described, resumed, step_of}
 use Rattle.ksv_rule_meaning.specs.Lemmas.Bounds.{settles}
 
--- on other bytes a run comes to the same step, with the same uses
+-- on other bytes a run yields the same step, with the same uses
 step_on : (others : List ℕ) (r : Ran Node Fault State Given) → step_of (ran_on others r) ≡ step_of r
 step_on others (Need n s) = refl
 step_on others (Failed f s) = refl

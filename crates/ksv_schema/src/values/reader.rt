@@ -12,7 +12,7 @@ use ksv_yaml_tree::Entry;
 use ksv_yaml_tree::keys::says;
 use std::alloc::{AllocError, Global};
 
-/// What is read so far: the names after dots, behind those of members, and the least fault.
+/// What is read so far: the names after dots, after those of members, and the least fault.
 #[derive(Drop)]
 pub(crate) struct Reader {
     /// Where what is read is kept.

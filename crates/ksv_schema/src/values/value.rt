@@ -150,7 +150,7 @@ pub(crate) fn own_enum(reader: &mut Reader, home: &Home, entries: &[Entry]) -> R
 
 // ---- contents
 
-/// Bytes, if there are any so far, and these behind them.
+/// Bytes, if there are any so far, and these after them.
 fn extended(made: Option<Vec<u8>>, bytes: &[u8]) -> Read<Vec<u8>>
     ensures { IfOk result (λ o. items_of o ≡ joined (items_of made) (Some bytes.now)) }
 {
@@ -163,7 +163,7 @@ fn extended(made: Option<Vec<u8>>, bytes: &[u8]) -> Read<Vec<u8>>
     }
 }
 
-/// Bytes, if there are any so far, and those of an item of a list behind them.
+/// Bytes, if there are any so far, and those of an item of a list after them.
 #[tactic(auto, using(crate::proofs::Noted::steps), unfolding(crate::specs::Values::item))]
 fn with_item(least: &mut Least, made: Option<Vec<u8>>, node: &Yaml) -> Read<Vec<u8>>
     ensures value { IfOk result (λ o. items_of o ≡ joined (items_of made) (item (view_node node.now)).value) }

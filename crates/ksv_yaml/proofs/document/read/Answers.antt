@@ -1,4 +1,4 @@
--- What the text spells is what its lines spell, where no control character stands.
+-- What the text spells is what its lines spell, where there is no control character.
 use Rattle.std.proofs.Common.{◌≤◌, List, length, max, sym, subst, ◌∙◌}
 use Rattle.ksv_yaml_tree.specs.View.{view}
 use Rattle.ksv_yaml.specs.Code.{wants_memory}

@@ -1,4 +1,4 @@
--- The node is the one that begins behind the key.
+-- The node is the one that begins after the key.
 use Rattle.std.proofs.Common.{◌+◌, ap, ◌∙◌}
 use Rattle.ksv_yaml.specs.Grammar.{from_here}
 use Rattle.ksv_yaml.proofs.BlockLoops.{here_read, inline_lighter}

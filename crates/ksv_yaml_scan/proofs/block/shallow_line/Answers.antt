@@ -21,7 +21,7 @@ not_level ls i m l h e b d =
     ∙ ap (λ (a : Bool). (a || nat_le m l.indent) && is_level m (lines_view (drop (i + 1) ls))) (not_blank l.content.now b)
     ∙ ap (λ (a : Bool). a && is_level m (lines_view (drop (i + 1) ls))) (is_shallow l.indent m d)
 
--- the line stands before the indentation
+-- the line is before the indentation
 pub returns-then-line-indent : goal.returns-then-line-indent
 returns-then-line-indent c =
     let l = c.line-item.result in

@@ -5,7 +5,7 @@ use Rattle.ksv_yaml_scan.specs.Text.{cut_lines}
 use Rattle.ksv_yaml_scan.proofs.Cutting.{raw, cut_first, cut_only}
 use Rattle.ksv_yaml_scan.proofs.cut.first_line.Goals as goal
 
--- behind the line feed
+-- after the line feed
 pub returns-in-Some-clause-cut : goal.returns-in-Some-clause-cut
 returns-in-Some-clause-cut c =
     let text = c.args.text.now in
@@ -13,7 +13,7 @@ returns-in-Some-clause-cut c =
     cut_first text c.in-Some.at c.in-Some.ensures.0.high c.in-Some.ensures.0.before c.in-Some.ensures.1
     ∙ ap (λ (ys : List ℕ). first ∷ cut_lines ys) (sym (take_all (length text - (c.in-Some.at + 1)) (drop (c.in-Some.at + 1) text) (grind (arith, length-drop))))
 
--- behind the end
+-- after the end
 pub returns-in-None-clause-cut : goal.returns-in-None-clause-cut
 returns-in-None-clause-cut c =
     let text = c.args.text.now in

@@ -12,7 +12,7 @@ goes_on : (flow w b : Bool) (xs here : List ℕ) (i : ℕ) → i < length xs →
 goes_on flow w b xs here i h e s f = ap (λ (b : Bool). after (take (i + 1) xs) (run flow b (drop (i + 1) xs))) f
     ∙ sym (run_more flow w xs i h (ap (stop flow w) (sym e) ∙ sym s))
 
--- the text ends behind the byte
+-- the text ends after the byte
 ends_here : (b : Bool) (xs : List ℕ) (i end : ℕ) → i < length xs → b ≡ is_white (get_or xs i 0) → b ≡ false → end ≡ i + 1
     → joined (take (i + 1) xs) [] ≡ take end xs
 ends_here b xs i end h w f e = end_other xs i h (sym w ∙ f) ∙ ap (λ (k : ℕ). take k xs) (sym e)

@@ -2,7 +2,7 @@ use Rattle.std.proofs.Common.{sym, ◌∙◌, arith}
 use Rattle.ksv_yaml_scan.proofs.Spaces.{columns_shown, columns_stop}
 use Rattle.ksv_yaml_scan.proofs.start.columns.Goals as goal
 
--- what is shown stands behind the white space
+-- what is shown comes after the white space
 pub returns-then-not-is_white-clause-within : goal.returns-then-not-is_white-clause-within
 returns-then-not-is_white-clause-within c =
     let stop = columns_stop c.args.content.now c.loop-i.i c.loop-i-test.true (sym c.is_white.ensures ∙ c.if-not-is_white.true) in

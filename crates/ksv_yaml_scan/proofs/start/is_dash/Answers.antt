@@ -7,7 +7,7 @@ use Rattle.ksv_yaml_scan.proofs.Choices.{same_byte, other_byte}
 use Rattle.ksv_yaml_scan.proofs.Starts.{dash_at}
 use Rattle.ksv_yaml_scan.proofs.start.is_dash.Goals as goal
 
--- a dash, and what stands behind it
+-- a dash, and what comes after it
 behind_dash : (cs rest : List ℕ) (c : ℕ) (b : Bool) → cs ≡ c ∷ rest → c ≡ 45 → b ≡ white_or_end rest → b ≡ is_dash (start_of cs)
 behind_dash cs rest c b e h w =
     sym (ap (λ (cs : List ℕ). is_dash (start_of cs)) e ∙ dash_at c rest b (ap (λ (d : Bool). d && white_or_end rest) (same_byte c 45 h) ∙ sym w))

@@ -4,7 +4,7 @@ use Rattle.ksv_yaml_scan.specs.Quoted.{Quote}
 use Rattle.ksv_yaml_scan.proofs.Starts.{quote_refused}
 use Rattle.ksv_yaml_scan.proofs.start.read_quoted.Goals as goal
 
--- behind the quote stands neither a colon nor nothing
+-- after the quote is neither a colon nor nothing
 pub returns-clause-err : goal.returns-clause-err
 returns-clause-err c =
     let text = c.in_ok-text.field-0.text.items in

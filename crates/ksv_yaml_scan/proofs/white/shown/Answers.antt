@@ -3,7 +3,7 @@ use Rattle.std.proofs.lemmas.Grind.{common_steps}
 use Rattle.ksv_yaml_scan.proofs.Spaces.{shown_comment, shown_other, shown_nothing}
 use Rattle.ksv_yaml_scan.proofs.white.shown.Goals as goal
 
--- what stands behind everything is nothing
+-- what comes after everything is nothing
 pub returns-then-byte-eq35-clause-value : goal.returns-then-byte-eq35-clause-value
 returns-then-byte-eq35-clause-value c =
     let h = shown_comment c.args.content.now c.skip-rest.result.now c.in-Some.behind.now c.in-Some.byte c.skip-rest.ensures.value c.in-Some.ensures
