@@ -1,6 +1,6 @@
 -- What each exit of the parser's functions says of reading.
 use Rattle.std.specs.Prelude.{◌==◌}
-use Rattle.std.proofs.Common.{◌≡◌, ◌≢◌, ℕ, zero, suc, ◌<◌, Bool, true, false, List, [], ◌∷◌, ◌++◌, map, Option, Some, None, refl, sym, ap, ◌∙◌, arith}
+use Rattle.std.proofs.Common.{◌≡◌, ◌≢◌, ℕ, zero, suc, ◌<◌, Bool, false, List, [], ◌∷◌, ◌++◌, map, Option, Some, None, refl, sym, ap, ◌∙◌, arith}
 use Rattle.std.proofs.Common.{if◌then◌else◌}
 use Rattle.ksv_expr_syntax.specs.declared.token.Symbol.{Symbol}
 use Rattle.ksv_expr_syntax.specs.declared.token.Symbol.TheVariants as tok
@@ -14,11 +14,11 @@ use Rattle.ksv_expr_syntax.specs.declared.operator.Infix.TheVariants as infixes
 use Rattle.ksv_expr_tree.specs.Tree.{Constant, Tree, unary, binary, choice, call, index, Arguments, no_arguments, argument}
 use Rattle.ksv_expr_syntax.specs.Lexemes.{Lexeme, constant, word, symbol}
 use Rattle.ksv_expr_syntax.specs.Grammar.{Level, Whole, Joined, Negation, Comparison, Prefix, Postfix, Primary, tighter, join_tree, is_left_out}
-use Rattle.ksv_expr_syntax.specs.Reading.{Next, next, Found, FoundList, found, found_list, ◌>>=◌, choose, spend, after, operator_at, comparison_at, prefix_at}
+use Rattle.ksv_expr_syntax.specs.Reading.{Next, next, Found, found, found_list, ◌>>=◌, choose, spend, after, operator_at, comparison_at, prefix_at}
 use Rattle.ksv_expr_syntax.specs.Reading.{path_at, path_tree, room, read, read_list, place_on, select_on}
 use Rattle.ksv_expr_syntax.specs.declared.parser.Opening.{Opening}
 use Rattle.ksv_expr_syntax.specs.declared.parser.Opening.TheVariants as openings
-use Rattle.ksv_expr_syntax.specs.Code.{Gives, GivesArms, GivesList, IsWithin, inside, opened, with_tree, with_list, closing, right_at, place_at, list_at}
+use Rattle.ksv_expr_syntax.specs.Code.{Gives, GivesArms, IsWithin, inside, opened, with_tree, with_list, closing, right_at, place_at, list_at}
 use Rattle.ksv_expr_syntax.specs.Code.{arms_at, cast_at, member_on, member_at, literal_at, word_at, suffix_step, IsNoCall, OpensWith}
 use Rattle.ksv_expr_syntax.specs.Lexemes.{lexemes}
 use Rattle.ksv_expr_tree.specs.Tree.{view, arguments_of}
@@ -27,10 +27,8 @@ use Rattle.ksv_expr_syntax.specs.declared.token.Placed.{Placed}
 use Rattle.ksv_expr_syntax.specs.declared.cursor.Rest.{Rest}
 use Rattle.ksv_expr_syntax.specs.declared.fault.ExprFault.{ExprFault}
 use Rattle.std.proofs.lemmas.List.{map-append}
-use Rattle.std.proofs.Common.{◌≤◌, ◌+◌, Result, Ok, Err, IfOk, MatchResult, Vec, subst, length}
-use Rattle.std.specs.declared.alloc.Global.{Global}
-use Rattle.ksv_expr_syntax.specs.declared.fault.ExprFaultKind.TheVariants as kinds
-use Rattle.ksv_expr_syntax.proofs.Same.{spend_same, room_tighter}
+use Rattle.std.proofs.Common.{◌≤◌, ◌+◌, Result, Ok, Err}
+use Rattle.ksv_expr_syntax.proofs.Same.{spend_same}
 use Rattle.ksv_expr_syntax.proofs.Flow.{pick_on, join_on, compare_on, suffix_on, more_on, read_whole, pick_on_is, arm_on_is, read_joined, join_on_is}
 use Rattle.ksv_expr_syntax.proofs.Flow.{read_negation, negate_on_is, read_comparison, compare_on_is, read_prefix, prefix_on_is, read_postfix, suffix_on_is}
 use Rattle.ksv_expr_syntax.proofs.Flow.{group_on, place_on_is, select_word, select_symbol, select_constant, select_end, primary_end, primary_constant}
@@ -39,9 +37,6 @@ use Rattle.ksv_expr_syntax.proofs.Flow.{primary_word, primary_symbol, group_on_i
 -- how many calls lead to a level at one token, for the measures
 abbrev pub rank : Level → ℕ
 rank l = room l []
-
-pub rank_tighter : (k : Precedence) (l : Level) → l ≡ tighter k → rank l + 1 ≡ rank (Joined k)
-rank_tighter k l h = ap (λ l. rank l + 1) h ∙ room_tighter k []
 
 -- arguments put in front of those that are read
 abbrev pub append_arguments : Arguments → Arguments → Arguments
@@ -65,16 +60,8 @@ bind_none r f h = ap (λ o. o >>= f) h
 pub bind_is : {A B : Type 0} (r s : Option A) (f : A → Option B) → r ≡ s → (r >>= f) ≡ (s >>= f)
 bind_is r s f h = ap (λ o. o >>= f) h
 
-pub spend_zero : {A : Type 0} (p : ℕ) (f : ℕ → Option A) → p ≡ 0 → spend p f ≡ None
-spend_zero zero f h = refl
-spend_zero (suc p) f h = absurd (omega arith)
-
 pub spend_one : {A : Type 0} (p q : ℕ) (f : ℕ → Option A) → p ≡ suc q → spend p f ≡ f q
 spend_one p q f h = ap (λ p. spend p f) h
-
-pub spend_inner : {A : Type 0} (d p : ℕ) (f : ℕ → ℕ → Option A) → p ≡ 0 → spend d (λ d. spend p (f d)) ≡ None
-spend_inner zero p f h = refl
-spend_inner (suc d) p f h = spend_zero p (f d) h
 
 -- one level and one part fewer, in either order
 pub inside_is : {A : Type 0} (d p : ℕ) (f : ℕ → ℕ → Option A) (o : Option (ℕ × ℕ)) → inside d p ≡ o
@@ -252,9 +239,6 @@ suffix_go openings.Place r e d us q vs s h n k = h ∙ suffix_on_is e d us q ∙
 
 -- ---- arguments
 
-append_none : (es : Arguments) → append_arguments no_arguments es ≡ es
-append_none es = refl
-
 append_one : (ds : Arguments) (e : Tree) (es : Arguments)
     → append_arguments (append_arguments ds (argument e no_arguments)) es ≡ append_arguments ds (argument e es)
 append_one no_arguments e es = refl
@@ -323,26 +307,6 @@ pub primary_name : (d : ℕ) (ts : List Lexeme) (p : ℕ) (w : List ℕ) (us : L
 primary_name d ts p w us z = ap (λ ts. read Primary d ts p) z ∙ primary_word d w us p
     ∙ ap (λ ts. if is_left_out w then None else (path_at ts >>= λ x. spend p (λ p. found (path_tree x.what) x.behind p))) (sym z)
 
-all_none : {A B : Type 0} (r : Option A) (f : A → Option B) → ((a : A) → f a ≡ None) → (r >>= f) ≡ None
-all_none None f h = refl
-all_none (Some a) f h = h a
-
-word_allowed : (w : List ℕ) (b : Bool) (ts : List Lexeme) (p : ℕ) → is_left_out w ≡ b
-    → word_at w ts p ≡ (if b then None else (path_at ts >>= λ x. spend p (λ p. found (path_tree x.what) x.behind p)))
-word_allowed w b ts p h = ap (λ b. if b then None else (path_at ts >>= λ x. spend p (λ p. found (path_tree x.what) x.behind p))) h
-
-pub word_left_out : (w : List ℕ) (ts : List Lexeme) (p : ℕ) → is_left_out w ≡ true → word_at w ts p ≡ None
-word_left_out w ts p h = word_allowed w true ts p h
-
-pub word_too_many : (w : List ℕ) (ts : List Lexeme) (p : ℕ) → is_left_out w ≡ false → p ≡ 0 → word_at w ts p ≡ None
-word_too_many w ts p h n = word_allowed w false ts p h ∙ all_none (path_at ts) _ (λ x. spend_zero p _ n)
-
-pub word_is : (w : List ℕ) (ts : List Lexeme) (p q : ℕ) (o : Option (Next (List (List ℕ)))) → is_left_out w ≡ false → p ≡ suc q → path_at ts ≡ o
-    → word_at w ts p ≡ (o >>= λ x. found (path_tree x.what) x.behind q)
-word_is w ts p q o h x n = word_allowed w false ts p h ∙ bind_is (path_at ts) o _ n
-    ∙ elim o as (λ o. (o >>= λ x. spend p (λ p. found (path_tree x.what) x.behind p)) ≡ (o >>= λ x. found (path_tree x.what) x.behind q))
-    [ None ↦ refl | Some a ↦ spend_one p q _ x ]
-
 group_in : (d : ℕ) (us : List Lexeme) (p : ℕ) → spend d (λ d. closing tok.CloseParenthesis (read Whole d us p))
     ≡ (spend d (λ d. next d us) >>= λ x. closing tok.CloseParenthesis (read Whole x.what x.behind p))
 group_in zero us p = refl
@@ -366,27 +330,10 @@ moved o xs ys h e = h ∙ ap (λ ts. Some (lexemes ts)) (sym e)
 pub moved_next : {A : Type 0} (o : Option (Next A)) (a : A) (xs ys : List Placed) → o ≡ next a (lexemes xs) → ys ≡ xs → o ≡ next a (lexemes ys)
 moved_next o a xs ys h e = h ∙ ap (λ ts. next a (lexemes ts)) (sym e)
 
-pub moved_cons : (ts : List Lexeme) (v : Lexeme) (xs ys : List Placed) → ts ≡ v ∷ lexemes xs → ys ≡ xs → ts ≡ v ∷ lexemes ys
-moved_cons ts v xs ys h e = h ∙ ap (λ ts. v ∷ lexemes ts) (sym e)
-
 -- what a callee's result says of its caller's
 pub gives_is : (o u : Option Found) (r : Result (Expr × Rest) ExprFault) → u ≡ o → Gives o r → Gives u r
 gives_is o u (Ok x) h g = h ∙ g
 gives_is o u (Err e) h g = λ n. h ∙ g n
-
--- an expression beside what is left
-pub gives_made : {E : Type 0} (o : Option Found) (t : Tree) (made : Result Expr E) (at : Rest) (r : Result (Expr × Rest) ExprFault)
-    → IfOk made (λ e. view e ≡ t) → MatchResult r (λ x. (made ≡ Ok x.0) × (x.1 ≡ at)) (λ f. f.kind ≡ kinds.NoMemory)
-    → o ≡ found t (lexemes at.tokens.now) at.parts → Gives o r
-gives_made o t made at (Ok x) i m h =
-    let v : view x.0 ≡ t = subst (λ m. IfOk m (λ e. view e ≡ t)) m.0 i in
-    h ∙ ap (λ (a : Rest). found t (lexemes a.tokens.now) a.parts) (sym m.1) ∙ ap (λ e. found e (lexemes x.1.tokens.now) x.1.parts) (sym v)
-gives_made o t made at (Err f) i m h = λ n. absurd (n m)
-
-pub within_made : {E : Type 0} (n : ℕ) (made : Result Expr E) (at : Rest) (r : Result (Expr × Rest) ExprFault)
-    → MatchResult r (λ x. (made ≡ Ok x.0) × (x.1 ≡ at)) (λ f. f.kind ≡ kinds.NoMemory) → length at.tokens.now < n → IsWithin n r
-within_made n made at (Ok x) m h = subst (λ (a : Rest). length a.tokens.now < n) (sym m.1) h
-within_made n made at (Err f) m h = tt
 
 pub within_more : (m n : ℕ) (r : Result (Expr × Rest) ExprFault) → m ≤ n → IsWithin m r → IsWithin n r
 within_more m n (Ok x) h w = omega arith
@@ -395,10 +342,6 @@ within_more m n (Err f) h w = tt
 pub gives_arms : (f g : Tree → Option Found) (r : Result (Expr × Expr × Rest) ExprFault) → ((e : Tree) → f e ≡ g e) → GivesArms g r → GivesArms f r
 gives_arms f g (Ok x) h k = λ e. h e ∙ k e
 gives_arms f g (Err y) h k = λ n e. h e ∙ k n e
-
-pub gives_list : (o u : Option FoundList) (r : Result (Vec Expr Global × Rest) ExprFault) → u ≡ o → GivesList o r → GivesList u r
-gives_list o u (Ok x) h k = h ∙ k
-gives_list o u (Err y) h k = λ n. h ∙ k n
 
 arguments_append : (xs : List Tree) (e : Tree) → arguments_of (xs ++ e ∷ []) ≡ append_arguments (arguments_of xs) (argument e no_arguments)
 arguments_append [] e = refl

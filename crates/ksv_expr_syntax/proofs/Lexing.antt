@@ -5,7 +5,6 @@ use Rattle.std.specs.Prelude.{◌==◌, take_while, slice_index, IsUtf8, encode_
 use Rattle.std.specs.Str.{is_utf8}
 use Rattle.std.proofs.lemmas.Str.{IsUtf8-from_is_utf8, is_utf8-from_IsUtf8, IsUtf8-from_ascii}
 use Rattle.std.proofs.lemmas.Str.Ascii.{IsAscii-from_all}
-use Rattle.std.proofs.lemmas.List.{append-nil}
 use Rattle.std.proofs.lemmas.List.Sums.{take_while-cons}
 use Rattle.std.proofs.lemmas.Bool.{ne_eqb}
 use Rattle.std.proofs.Common.{cond, inl, inr}
@@ -64,25 +63,10 @@ text_none bs rest h =
 
 -- ---- texts with escapes
 
-put_none : (bs : List ℕ) → put bs None ≡ None
-put_none bs = refl
-
 put_put : (xs bs cs : List ℕ) (o : Option Quoted) → cs ≡ xs ++ bs → put xs (put bs o) ≡ put cs o
 put_put xs bs cs None h = refl
 put_put xs bs cs (Some q) h = ap (λ ds. Some (record { bytes = ds; rest = q.rest }))
     (sym (append_assoc xs bs q.bytes) ∙ ap (λ (ds : List ℕ). ds ++ q.bytes) (sym h))
-
-pub quoted_start : (bs : List ℕ) → quoted bs ≡ put [] (quoted bs)
-quoted_start bs = elim (quoted bs) as (λ o. o ≡ put [] o) [ None ↦ refl | Some q ↦ refl ]
-
-pub quoted_end : (o : Option Quoted) (done us : List ℕ) → o ≡ put done (quoted us) → us ≡ [] → o ≡ None
-quoted_end o done us h z = h ∙ ap (λ us. put done (quoted us)) z
-
-pub quoted_close : (o : Option Quoted) (done us : List ℕ) (c : ℕ) (vs : List ℕ) → o ≡ put done (quoted us) → us ≡ c ∷ vs → c ≡ 34
-    → o ≡ Some (record { bytes = done; rest = vs })
-quoted_close o done us c vs h z e = h ∙ ap (λ us. put done (quoted us)) z
-    ∙ ap (λ c. put done (if c == 34 then Some (record { bytes = []; rest = vs }) else if c == 92 then escaped vs else put (c ∷ []) (quoted vs))) e
-    ∙ ap (λ bs. Some (record { bytes = bs; rest = vs })) (append-nil done)
 
 not_equal : (a b : ℕ) → a ≢ b → (a == b) ≡ false
 not_equal a b h = ne_eqb a b h
@@ -102,9 +86,6 @@ pub quoted_escape : (o : Option Quoted) (done us : List ℕ) (c : ℕ) (vs bs ws
     → escaped vs ≡ put bs (quoted ws) → all ≡ done ++ bs → o ≡ put all (quoted ws)
 quoted_escape o done us c vs bs ws all h z e k a = quoted_backslash o done us c vs h z e ∙ ap (put done) k ∙ put_put done bs all (quoted ws) a
 
-pub quoted_bad : (o : Option Quoted) (done us : List ℕ) (c : ℕ) (vs : List ℕ) → o ≡ put done (quoted us) → us ≡ c ∷ vs → c ≡ 92 → escaped vs ≡ None → o ≡ None
-quoted_bad o done us c vs h z e k = quoted_backslash o done us c vs h z e ∙ ap (put done) k
-
 pub unicode_is : (bs : List ℕ) → 4 ≤ length bs → unicode bs
     ≡ (unicode_of (slice_index bs 0) (slice_index bs 1) (slice_index bs 2) (slice_index bs 3) >>= λ u. put (encode_utf8 u) (quoted (drop 4 bs)))
 unicode_is [] h = absurd (omega arith)
@@ -112,13 +93,6 @@ unicode_is (a ∷ []) h = absurd (omega arith)
 unicode_is (a ∷ b ∷ []) h = absurd (omega arith)
 unicode_is (a ∷ b ∷ c ∷ []) h = absurd (omega arith)
 unicode_is (a ∷ b ∷ c ∷ d ∷ cs) h = refl
-
-pub unicode_short : (bs : List ℕ) → length bs < 4 → unicode bs ≡ None
-unicode_short [] h = refl
-unicode_short (a ∷ []) h = refl
-unicode_short (a ∷ b ∷ []) h = refl
-unicode_short (a ∷ b ∷ c ∷ []) h = refl
-unicode_short (a ∷ b ∷ c ∷ d ∷ cs) h = absurd (omega arith)
 
 -- ---- numbers
 

@@ -1,5 +1,5 @@
 -- Where the parser's loops stand.
-use Rattle.std.proofs.Common.{◌≡◌, ◌≢◌, ℕ, true, false, List, [], ◌∷◌, ◌++◌, Option, Some, None, refl, sym, ap, ◌∙◌, append_assoc, if◌then◌else◌}
+use Rattle.std.proofs.Common.{◌≡◌, ℕ, true, false, List, [], ◌∷◌, ◌++◌, Option, Some, None, refl, sym, ap, ◌∙◌, append_assoc, if◌then◌else◌}
 use Rattle.ksv_expr_syntax.specs.contracts.token.SymbolPartialEq.TheImpl.{ghosts as symbol_tests}
 use Rattle.ksv_expr_syntax.specs.declared.token.Symbol.TheVariants as tok
 use Rattle.ksv_expr_syntax.specs.Lexemes.{Lexeme, constant, word, symbol}
@@ -20,27 +20,6 @@ path_on_is w (symbol s ∷ ts) =
 -- these names were read, and reading goes on from these tokens
 pub record PathNow (ts : List Lexeme) (done : List (List ℕ)) (us : List Lexeme) : Type 0 where
   pub is : path_at ts ≡ (path_at us >>= λ x. next (done ++ x.what) x.behind)
-
-pub path_start : (ts : List Lexeme) → PathNow ts [] ts
-path_start ts = record { is = elim (path_at ts) as (λ o. o ≡ (o >>= λ x. next ([] ++ x.what) x.behind)) [ None ↦ refl | Some x ↦ refl ] }
-
-no_name : (us : List Lexeme) → ((w : List ℕ) (rest : List Lexeme) → us ≢ word w ∷ rest) → path_at us ≡ None
-no_name [] h = refl
-no_name (constant c ∷ us) h = refl
-no_name (word w ∷ us) h = absurd (h w us refl)
-no_name (symbol s ∷ us) h = refl
-
-pub path_stuck : {ts : List Lexeme} {done : List (List ℕ)} {us : List Lexeme} → PathNow ts done us → ((w : List ℕ) (rest : List Lexeme) → us ≢ word w ∷ rest)
-    → path_at ts ≡ None
-path_stuck {done = done} {us = us} n h = n.is ∙ ap (λ (o : Option (Next (List (List ℕ)))). o >>= λ x. next (done ++ x.what) x.behind) (no_name us h)
-
-pub path_ends : {ts : List Lexeme} {done all : List (List ℕ)} {us : List Lexeme} (w : List ℕ) (vs : List Lexeme) → PathNow ts done us → us ≡ word w ∷ vs
-    → after tok.ColonColon vs ≡ None → all ≡ done ++ w ∷ [] → path_at ts ≡ next all vs
-path_ends {done = done} {us = us} w vs n e h a =
-    n.is ∙ ap (λ us. path_at us >>= λ x. next (done ++ x.what) x.behind) e
-    ∙ ap (λ (o : Option (Next (List (List ℕ)))). o >>= λ x. next (done ++ x.what) x.behind)
-    (path_on_is w vs ∙ ap (λ o. choose o (next (w ∷ []) vs) (λ us. path_at us >>= λ x. next (w ∷ x.what) x.behind)) h)
-    ∙ ap (λ ws. next ws vs) (sym a)
 
 pub path_goes_on : {ts : List Lexeme} {done all : List (List ℕ)} {us : List Lexeme} (w : List ℕ) (vs zs : List Lexeme) → PathNow ts done us → us ≡ word w ∷ vs
     → after tok.ColonColon vs ≡ Some zs → all ≡ done ++ w ∷ [] → PathNow ts all zs

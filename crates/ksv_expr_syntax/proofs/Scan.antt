@@ -23,9 +23,6 @@ pub record ScanNow (text : List ℕ) (done : List Lexeme) (dot : Bool) (rest : L
   pub forth : (ts : List Lexeme) → Tokens dot rest ts → Tokens false text (done ++ ts)
   pub back : (ts : List Lexeme) → Tokens false text ts → (us : List Lexeme) × (ts ≡ done ++ us) × Tokens dot rest us
 
-pub scan_start : (text : List ℕ) → ScanNow text [] false text
-scan_start text = record { forth = λ ts s. s; back = λ ts s. (ts, refl, s) }
-
 pub scan_ends : {text : List ℕ} {done : List Lexeme} {dot : Bool} {rest : List ℕ} → ScanNow text done dot rest → skip rest ≡ [] → Tokens false text done
 scan_ends {text} {done} s h = subst (λ ts. Tokens false text ts) (append-nil done) (s.forth [] (finished h))
 

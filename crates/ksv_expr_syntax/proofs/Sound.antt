@@ -137,10 +137,6 @@ named_or_member : (d : ℕ) (w : List ℕ) (ws : List (List ℕ)) → is_left_ou
 named_or_member d w [] h = name_alone w h
 named_or_member d w (v ∷ ws) h = enum_member w (all_but_last (v ∷ ws)) (last_name (v ∷ ws)) h (ap (λ us. path_tokens (w ∷ us)) (sym (split_names v ws)))
 
--- the name that a list of names begins with
-same_first : {A : Type 0} (v w : A) (vs ws : List A) → v ∷ vs ≡ w ∷ ws → v ≡ w
-same_first v w vs ws h = cc
-
 -- a path's first name is the first token
 path_first : (w : List ℕ) (ts : List Lexeme) (v : List ℕ) (vs : List (List ℕ)) (us : List Lexeme) → word w ∷ ts ≡ path_tokens (v ∷ vs) ++ us → w ≡ v
 path_first w ts v [] us h = cc

@@ -55,9 +55,6 @@ no_expression text ts t h e x = h e (subst (λ ts. IsExpr ts e) (one_cutting fal
 pub no_tokens : (text : List ℕ) → ((ts : List Lexeme) → Tokens false text ts → ⊥) → (e : Tree) → SpellsText text e → ⊥
 no_tokens text h e x = h x.tokens x.cut
 
-pub is_expression : (text : List ℕ) (ts : List Lexeme) (e : Tree) → Tokens false text ts → IsExpr ts e → SpellsText text e
-is_expression text ts e t x = record { tokens = ts; cut = t; spelled = x }
-
 -- a test of emptiness, of tokens with their places
 pub no_more : (us : List Placed) (b : Bool) → b ≡ true → b ≡ (length us == 0) → lexemes us ≡ []
 no_more [] b h k = refl
@@ -77,9 +74,6 @@ read_path w (v ∷ ws) rest h = ap (λ (o : Option (Next (List (List ℕ)))). o 
 -- a type's tree
 abbrev pub type_tree : List (List ℕ) → Arguments → TypeTree
 type_tree ws es = record { name = record { path = ws; number = None }; arguments = es }
-
-abbrev some_list : FoundList → Option FoundList
-some_list x = Some x
 
 list_is : (es fs : Arguments) (us vs : List Lexeme) (p q : ℕ) → found_list es us p ≡ found_list fs vs q → (es ≡ fs) × (us ≡ vs)
 list_is es fs us vs p q h =
@@ -173,9 +167,6 @@ no_type text ts s h t x = h t (subst (λ ts. SpellsType ts t) (one_cutting false
 
 pub no_type_tokens : (text : List ℕ) → ((ts : List Lexeme) → Tokens false text ts → ⊥) → (t : TypeTree) → SpellsTypeText text t → ⊥
 no_type_tokens text h t x = h x.tokens x.cut
-
-pub is_type : (text : List ℕ) (ts : List Lexeme) (t : TypeTree) → Tokens false text ts → SpellsType ts t → SpellsTypeText text t
-is_type text ts t s x = record { tokens = ts; cut = s; spelled = x }
 
 -- ---- a text that is refused, whatever is wrong after its tokens
 

@@ -14,9 +14,6 @@ use Rattle.ksv_schema.specs.Reading.{Reading, gives, wrong, also, must, mapping,
 use Rattle.ksv_schema.specs.Rules.{keys_faults}
 use Rattle.ksv_schema.specs.Description.{whole, id_text, id, entry_id, constant, enum, all_enums}
 
-no_words : {A : Type 0} (r s : Reading A) → r.words ≡ [] → s.words ≡ [] → r.words ++ s.words ≡ []
-no_words r s h k = ap (λ (ws : List (List ℕ)). ws ++ s.words) h ∙ k
-
 pub whole_words : (line : ℕ) (n : Numeral) → (whole line n).words ≡ []
 whole_words line (Whole n) = refl
 whole_words line LeadingZero = refl

@@ -4,7 +4,6 @@ use Rattle.std.proofs.Common.{Option, Some, None}
 use Rattle.std.specs.Prelude.{◌||◌}
 use Rattle.std.specs.List.{list_any}
 use Rattle.std.specs.Option.{option_map_or}
-use Rattle.std.proofs.lemmas.List.Folds.{list_any-append}
 use Rattle.ksv_schema.specs.Plain.{Gives, Adds}
 
 or_cond : (is old new : Bool) → new ≡ cond is true old → new ≡ (old || is)
@@ -25,12 +24,6 @@ module _ {K A : Type 0} (old new : K → Bool) (eq : A → K → Bool) where
 
 pub none_given : {K A : Type 0} (old : K → Bool) (eq : A → K → Bool) (o : Option A) → None ≡ o → Adds old old (λ k. option_map_or (λ y. eq y k) o false)
 none_given old eq o e = record { given = λ k. or_false (old k) ∙ ap (λ (o : Option _). old k || option_map_or (λ y. eq y k) o false) e }
-
--- with one entry more
-pub one_more : {K E : Type 0} (has new : K → Bool) (test : K → E → Bool) (before : List E) → ((k : K) → has k ≡ list_any (test k) before) → (x : E)
-    → Adds has new (λ k. test k x) → (k : K) → new k ≡ list_any (test k) (before ++ x ∷ [])
-one_more has new test before of x a k = a.given k ∙ ap (λ (b : Bool). b || test k x) (of k)
-    ∙ ap (λ (b : Bool). list_any (test k) before || b) (or_false (test k x)) ∙ sym (list_any-append (test k) before (x ∷ []))
 
 pub again_is : {K E : Type 0} (has : K → Bool) (test : K → E → Bool) (before : List E) → ((k : K) → has k ≡ list_any (test k) before) → (o : Option K)
     → option_map_or has o false ≡ option_map_or (λ k. list_any (test k) before) o false

@@ -1,9 +1,7 @@
 -- The table of the places of rows.
-use Rattle.std.proofs.Common.{◌≡◌, ℕ, suc, ◌<◌, Bool, ◌&&◌, List, [], map, length, get_or, drop, Option, Some, None, sym, ap, ◌∙◌, arith}
-use Rattle.std.specs.Prelude.{◌==◌, IfSome}
-use Rattle.std.specs.Borrow.{Bor}
+use Rattle.std.proofs.Common.{◌≡◌, ℕ, ◌<◌, Bool, ◌&&◌, List, [], map, length, drop, Option, Some, None, sym, ap, ◌∙◌, arith}
+use Rattle.std.specs.Prelude.{IfSome}
 use Rattle.std.specs.List.{position_from}
-use Rattle.std.specs.Map.{lookup}
 use Rattle.std.specs.Str.{bytes_eq}
 use Rattle.std.proofs.lemmas.List.{length-map}
 use Rattle.ksv_desc.proofs.Firsts as firsts
@@ -11,7 +9,7 @@ use Rattle.ksv_schema_names.proofs.Found.{row_within}
 use Rattle.ksv_schema_names.specs.declared.row.Row.{Row as RowOfCode}
 use Rattle.ksv_schema_names.specs.Rows.{Row, is_within, row_in}
 use Rattle.ksv_schema_names.specs.View.{row_of}
-use Rattle.ksv_schema_names.specs.Placed.{Places, place_at, Puts, ArePlaced}
+use Rattle.ksv_schema_names.specs.Placed.{Places, place_at, ArePlaced}
 
 -- whether a row is in a type and has a name
 abbrev is_named : ℕ × List ℕ → Row → Bool
@@ -24,14 +22,6 @@ module _ {S : Type 0} (rows : List RowOfCode) where
   -- a table has the places of the rows from k on
   abbrev pub ArePlacedFrom : ℕ → Places S → Type 0
   ArePlacedFrom k places = firsts.AreFirstFrom seen_named rows k (λ key. place_at places key.0 key.1)
-
-  pub none_yet : (k : ℕ) (places : Places S) → k ≡ length rows → places.entries ≡ [] → ArePlacedFrom k places
-  none_yet k places all empty = firsts.none_yet seen_named rows k _ all
-      (λ key. ap (λ (es : List ((ℕ × Bor (List ℕ)) × ℕ)). lookup (λ k. key.0 == k.0 && bytes_eq key.1 k.1.now) es) empty)
-
-  pub one_before : (k j : ℕ) (row : RowOfCode) (places more : Places S) → k ≡ suc j → j < length rows → row ≡ get_or rows j row
-      → Puts places more j (row_of row) → ArePlacedFrom k places → ArePlacedFrom j more
-  one_before k j row places more next within is put from = firsts.one_before seen_named rows k j row _ _ next within is (λ key. put.found key.0 key.1) from
 
   -- of all rows
   pub all_placed : (k : ℕ) (places : Places S) → k ≡ 0 → ArePlacedFrom k places → ArePlaced rows places

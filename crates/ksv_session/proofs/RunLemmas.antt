@@ -13,7 +13,7 @@ use Rattle.ksv_session.specs.Replies.{Replied, Event, answer, answer_to, is_fair
 use Rattle.ksv_session.specs.Code.{Stands}
 use Rattle.ksv_session.specs.Explored.{Explored}
 use Rattle.ksv_session.specs.Kept.{Holds, Memory, Remembers, nothing_kept}
-use Rattle.ksv_session.specs.Runs.{Breaks, Serves, Stops, Taken, flushed_by}
+use Rattle.ksv_session.specs.Runs.{Breaks, Serves, Taken, flushed_by}
 use Rattle.ksv_session.specs.Session.{Standing, after_event, answered, begun, lines_in, session}
 use Rattle.ksv_session.specs.Tallies.{Keeps, Tells, tally_in}
 use Rattle.ksv_lines.proofs.CutLemmas.{split_at, split_more}
@@ -375,24 +375,6 @@ begun_stands d now before tells holds = record {
   kept = nothing_kept;
   holds = holds;
   stats = refl;
-}
-
--- A read that fails.
-pub stopped : (d : Description) (begin input taken left : List ℕ) (now : Explored) (line : List ℕ) (before written : Taken) (tells : Bool)
-    → input ≡ taken ++ left
-    → Stands d begin taken now line tells before written → Stops d begin input left now.bytes tells before written
-stopped d begin input taken left now line before written tells split s = record {
-  taken = taken;
-  split = split;
-  events = s.events;
-  rest = s.rest;
-  lines = s.lines;
-  fair = s.fair;
-  bytes = s.bytes;
-  output = s.output;
-  flushed = s.flushed;
-  goes_on = s.goes_on;
-  stats = (s.kept, s.stats);
 }
 
 -- The same, by equal values.

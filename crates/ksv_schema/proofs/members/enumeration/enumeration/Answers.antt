@@ -1,4 +1,4 @@
-use Rattle.std.proofs.Common.{◌≡◌, ◌++◌, [], ◌∷◌, subst, sym, Some, map, string_bytes, rules, arith}
+use Rattle.std.proofs.Common.{◌≡◌, [], subst, sym, Some, map, string_bytes, rules, arith}
 use Rattle.std.proofs.lemmas.Grind.{common_steps}
 use Rattle.ksv_desc.specs.Description.{Enum}
 use Rattle.ksv_desc.specs.Pieces.{plain_entry, plain_enum}
