@@ -4,12 +4,10 @@ from __future__ import annotations
 from typing import List, NamedTuple, Optional, Tuple
 
 from front.hints import tokens
-from front.hints.tokens import Token
+from front.hints.tokens import COMPARISONS, LEVELS, Token
 
 # How deep and how long an expression is; the program refuses more of either.
 DEEPEST, MOST_PARTS = 32, 256
-LEVELS = (("|",), ("^",), ("&",), ("<<", ">>"), ("+", "-"), ("*", "/", "%"))
-COMPARISONS = ("<", "<=", ">", ">=", "==", "!=")
 END = Token("end", "", -1)
 
 

@@ -10,6 +10,7 @@ from front.hints.kinds import Hint, say
 from front.hints.near import near, plain
 from front.hints.places import Place, Places
 from front.hints.scope import members_of
+from front.hints.tokens import COMPARISONS
 from front.hints.values import OTHERS, SEVERAL, of_zero, snake
 
 TOLD = re.compile(r"expression: (X\d+) .* at (\d{1,9})\Z")
@@ -17,7 +18,6 @@ TOLD = re.compile(r"expression: (X\d+) .* at (\d{1,9})\Z")
 SIGNS = {**dict.fromkeys("“”„«»″", '"'), **dict.fromkeys("‘’′´", "'"), **dict.fromkeys("–—−", "-"), "×": "*", "·": "*", "÷": "/", "≤": "<=", "≥": ">=",
     "≠": "!=", "∧": "and", "∨": "or", "¬": "not"}
 CLOSING = {"(": ")", "[": "]"}
-COMPARISONS = ("<", "<=", ">", ">=", "==", "!=")
 # Words that other languages have for operators.
 OPERATORS = {"is": "==", "eq": "==", "ne": "!=", "lt": "<", "gt": ">", "le": "<=", "ge": ">=", "div": "/", "mod": "%", "xor": "^", "shl": "<<", "shr": ">>",
              "bitand": "&", "bitor": "|", "equals": "==",

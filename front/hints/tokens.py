@@ -4,9 +4,14 @@ from __future__ import annotations
 import re
 from typing import List, NamedTuple, Sequence
 
+# The operators between two operands, those of a level together, from the loosest to the tightest; and comparisons, which are looser than all of these.
+LEVELS = (("|",), ("^",), ("&",), ("<<", ">>"), ("+", "-"), ("*", "/", "%"))
+COMPARISONS = ("<", "<=", ">", ">=", "==", "!=")
+# All signs, longer ones first.
+SIGNS = sorted({*sum(LEVELS, ()), *COMPARISONS, *"~?:.()[],", "::"}, key=lambda sign: (-len(sign), sign))
 TOKEN = re.compile(
     r"(?P<number>0x[0-9a-fA-F](?:_?[0-9a-fA-F])*|0b[01](?:_?[01])*|[0-9](?:_?[0-9])*)|(?P<name>[a-z_][a-z0-9_]*)|(?P<text>'[^']*'|\"[^\"\\]*(?:\\.[^\"\\]*)*\")"
-    r"|(?P<sign><<|>>|<=|>=|==|!=|::|[-+*/%&|^~<>?:.()\[\],])|(?P<other>\S)",
+    rf"|(?P<sign>{'|'.join(map(re.escape, SIGNS))})|(?P<other>\S)",
     re.S,
 )
 FRACTION = re.compile(r"\.[0-9]|[eE][+-]?[0-9]")

@@ -11,7 +11,7 @@ use crate::answers::Answers;
 use crate::halt::Halt;
 use crate::method::method_of_name;
 use crate::wants::{bytes_for, given, raise};
-use crate::{asking, operators};
+use crate::{arithmetic, asking, operators};
 use ksv_expr_meaning::{Method, Want};
 use ksv_expr_tree::{BinaryOperator, Name, SpecialName};
 use ksv_expr_value::{Ctx, FaultKind, Integer, Path, Stream, Text, Value};
@@ -114,7 +114,7 @@ fn integer_and<By, A: Answers<By>>(
     ensures { Runs (A.handler ctx.now) (integer_and operator left right.now) (λ v. v) answers.old answers.new result }
 {
     match right {
-        Value::Int(right) => given(answers, ctx, operators::integers(operator, left, *right)),
+        Value::Int(right) => given(answers, ctx, arithmetic::integers(operator, left, *right)),
         _ => raise(answers, ctx, FaultKind::BadType),
     }
 }

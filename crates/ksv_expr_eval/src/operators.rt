@@ -3,8 +3,7 @@ ghost use Rattle.std.specs.Prelude.{◌≡◌, ◌≢◌, ◌==◌, IfOk, pos, i
 ghost use Rattle.std.specs.Ordering.{nat_cmp, int_cmp, int_eq};
 ghost use Rattle.std.specs.Cmp.Lexicographic.{slice_cmp};
 ghost use Rattle.std.specs.Str.{bytes_eq};
-ghost use Rattle.ksv_expr_meaning.specs.Operators.{exactly, quotient_of, remainder_of, shifted_left_by, shifted_right_by, matched, ordered, integers_of, same_truth, texts_of, members_of, unary_of, integer_with, truth_with, integer_method, truth_method, text_method, bytes_method, member_method, text_call_one, text_call_two, as_value, substring_of, joined_text};
-ghost use Rattle.ksv_expr_meaning.specs.Integers.{places};
+ghost use Rattle.ksv_expr_meaning.specs.Operators.{matched, ordered, same_truth, texts_of, members_of, unary_of, integer_with, truth_with, integer_method, truth_method, text_method, bytes_method, member_method, text_call_one, text_call_two, as_value, substring_of, joined_text};
 
 use crate::{arithmetic, texts};
 use ksv_expr_meaning::Method;
@@ -12,51 +11,6 @@ use ksv_expr_tree::{BinaryOperator, UnaryOperator};
 use ksv_expr_value::{FaultKind, Integer, Text, Value};
 use std::alloc::{AllocError, Global};
 use std::cmp::Ordering;
-
-fn exactly(number: Option<Integer>) -> Result<Value, FaultKind>
-    ensures { result ≡ exactly number }
-{
-    match number {
-        None => Err(FaultKind::Overflow),
-        Some(number) => Ok(Value::Int(number)),
-    }
-}
-
-fn quotient(dividend: Integer, divisor: Integer) -> Result<Value, FaultKind>
-    ensures { result ≡ quotient_of dividend divisor }
-{
-    if arithmetic::is_zero(divisor) {
-        return Err(FaultKind::ZeroDivisor);
-    }
-    exactly(arithmetic::divide(dividend, divisor))
-}
-
-fn remainder(dividend: Integer, divisor: Integer) -> Result<Value, FaultKind>
-    ensures { result ≡ remainder_of dividend divisor }
-{
-    if arithmetic::is_zero(divisor) {
-        return Err(FaultKind::ZeroDivisor);
-    }
-    exactly(arithmetic::remainder(dividend, divisor))
-}
-
-fn shift_left(number: Integer, count: Integer) -> Result<Value, FaultKind>
-    ensures { result ≡ shifted_left_by number (places count) }
-{
-    match arithmetic::places(count) {
-        None => Err(FaultKind::Overflow),
-        Some(places) => exactly(arithmetic::shift_left(number, places)),
-    }
-}
-
-fn shift_right(number: Integer, count: Integer) -> Result<Value, FaultKind>
-    ensures { result ≡ shifted_right_by number (places count) }
-{
-    match arithmetic::places(count) {
-        None => Err(FaultKind::Overflow),
-        Some(places) => exactly(arithmetic::shift_right(number, places)),
-    }
-}
 
 /// The result of an operator of equality, given whether the two values are the same.
 pub(crate) fn matched(operator: BinaryOperator, same: bool) -> Result<Value, FaultKind>
@@ -69,7 +23,8 @@ pub(crate) fn matched(operator: BinaryOperator, same: bool) -> Result<Value, Fau
     }
 }
 
-fn ordered(operator: BinaryOperator, ordering: Ordering) -> Result<Value, FaultKind>
+/// The result of an operator of order, given the order of the two values.
+pub(crate) fn ordered(operator: BinaryOperator, ordering: Ordering) -> Result<Value, FaultKind>
     ensures { result ≡ ordered operator ordering }
 {
     match operator {
@@ -78,37 +33,6 @@ fn ordered(operator: BinaryOperator, ordering: Ordering) -> Result<Value, FaultK
         BinaryOperator::Greater => Ok(Value::Bool(ordering.is_gt())),
         BinaryOperator::GreaterOrEqual => Ok(Value::Bool(!ordering.is_lt())),
         _ => Err(FaultKind::BadType),
-    }
-}
-
-/// An operator between two integers.
-pub(crate) fn integers(
-    operator: BinaryOperator,
-    left: Integer,
-    right: Integer,
-) -> Result<Value, FaultKind>
-    ensures { result ≡ integers_of operator left right }
-{
-    match operator {
-        BinaryOperator::Add => exactly(arithmetic::add(left, right)),
-        BinaryOperator::Subtract => exactly(arithmetic::subtract(left, right)),
-        BinaryOperator::Multiply => exactly(arithmetic::multiply(left, right)),
-        BinaryOperator::Divide => quotient(left, right),
-        BinaryOperator::Remainder => remainder(left, right),
-        BinaryOperator::ShiftLeft => shift_left(left, right),
-        BinaryOperator::ShiftRight => shift_right(left, right),
-        BinaryOperator::BitAnd => exactly(arithmetic::bit_and(left, right)),
-        BinaryOperator::BitXor => exactly(arithmetic::bit_xor(left, right)),
-        BinaryOperator::BitOr => exactly(arithmetic::bit_or(left, right)),
-        BinaryOperator::Equal => matched(BinaryOperator::Equal, arithmetic::equals(left, right)),
-        BinaryOperator::NotEqual => matched(
-            BinaryOperator::NotEqual,
-            arithmetic::equals(left, right),
-        ),
-        BinaryOperator::Less
-        | BinaryOperator::LessOrEqual
-        | BinaryOperator::Greater
-        | BinaryOperator::GreaterOrEqual => ordered(operator, arithmetic::compare(left, right)),
     }
 }
 
@@ -166,9 +90,9 @@ fn integer_with(operator: UnaryOperator, number: Integer) -> Result<Value, Fault
     ensures { result ≡ integer_with operator number }
 {
     match operator {
-        UnaryOperator::Negate => exactly(arithmetic::negate(number)),
+        UnaryOperator::Negate => arithmetic::exactly(arithmetic::negate(number)),
         UnaryOperator::Plus => Ok(Value::Int(number)),
-        UnaryOperator::Complement => exactly(arithmetic::complement(number)),
+        UnaryOperator::Complement => arithmetic::exactly(arithmetic::complement(number)),
         UnaryOperator::Not => Err(FaultKind::BadType),
     }
 }

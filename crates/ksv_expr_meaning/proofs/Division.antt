@@ -1,11 +1,48 @@
--- A floored quotient and remainder by a divisor below 0, as the machine takes them of both numbers with their signs turned.
-use Rattle.std.proofs.Common.{◌≡◌, ℕ, suc, ◌-◌, ◌^◌, ◌<◌, ◌≤◌, ◌%◌, ℤ, pos, negsuc, neg_ℤ, ◌-ℤ◌, true, arith, refl, ap, sym, ◌∙◌}
+-- Floored division: its law; and the quotient and remainder by a divisor below 0, as the machine takes them of both numbers with
+-- their signs turned.
+use Rattle.std.proofs.Common.{◌≡◌, ℕ, zero, suc, ◌+◌, ◌-◌, ◌^◌, ◌<◌, ◌≤◌, ◌%◌, ℤ, pos, negsuc, neg_ℤ, ◌+ℤ◌, ◌-ℤ◌, ◌*ℤ◌, true, arith, refl, ap, sym, ◌∙◌}
 use Rattle.std.proofs.lemmas.Bool.{ltb-true}
 use Rattle.std.proofs.lemmas.Int.{ints}
-use Rattle.std.specs.Prelude.{int_lt}
+use Rattle.std.proofs.Math.Nat.{div-add-mod}
+use Rattle.std.specs.Prelude.{◌≤ℤ◌, ◌<ℤ◌, int_lt}
 use Rattle.std.specs.Int.{cast_unsigned, cast_signed, int_div_euclid, int_rem_euclid, w128}
-use Rattle.ksv_expr_meaning.specs.Integers.{quotient_by, remainder_by, floored_quotient, floored_remainder}
+use Rattle.ksv_expr_meaning.specs.Integers.{quotient_by, remainder_by, floored_quotient, floored_remainder, DivisionIsFloored}
 use Rattle.ksv_expr_value.specs.Range.{in_range}
+
+-- ---- the law
+
+-- by a divisor above 0
+upward : (a : ℤ) (n : ℕ) → (a ≡ quotient_by a (suc n) *ℤ pos (suc n) +ℤ remainder_by a (suc n))
+    × ((pos 0 ≤ℤ remainder_by a (suc n)) × (remainder_by a (suc n) <ℤ pos (suc n)))
+upward (pos a) n =
+    let whole = div-add-mod a (suc n) in
+    (omega (arith, ints), (omega (arith, ints), omega (arith, ints)))
+upward (negsuc a) n =
+    let whole = div-add-mod a (suc n) in
+    (omega (arith, ints), (omega (arith, ints), omega (arith, ints)))
+
+turned_product : (q : ℤ) (n : ℕ) → q *ℤ negsuc n ≡ neg_ℤ (q *ℤ pos (suc n))
+turned_product (pos a) n = refl
+turned_product (negsuc a) n = omega (arith, ints)
+
+turned_sum : (a x r : ℤ) → neg_ℤ a ≡ x +ℤ r → a ≡ neg_ℤ x +ℤ neg_ℤ r
+turned_sum a x r e = omega (arith, ints)
+
+pub division_is_floored : DivisionIsFloored
+division_is_floored a (pos zero) h = absurd (h refl)
+division_is_floored a (pos (suc n)) h = let u = upward a n in record { whole = u.0; within = u.1 }
+division_is_floored a (negsuc n) h =
+    let u = upward (neg_ℤ a) n in
+    record {
+      whole = turned_sum a (quotient_by (neg_ℤ a) (suc n) *ℤ pos (suc n)) (remainder_by (neg_ℤ a) (suc n)) u.0
+          ∙ ap (λ x. x +ℤ neg_ℤ (remainder_by (neg_ℤ a) (suc n))) (sym (turned_product (quotient_by (neg_ℤ a) (suc n)) n));
+      within = between (remainder_by (neg_ℤ a) (suc n)) u.1.0 u.1.1;
+    }
+  where
+    between : (r : ℤ) → pos 0 ≤ℤ r → r <ℤ pos (suc n) → (negsuc n <ℤ neg_ℤ r) × (neg_ℤ r ≤ℤ pos 0)
+    between r low high = (omega (arith, ints), omega (arith, ints))
+
+-- ---- as the machine divides
 
 -- a number, as 128 bits hold it
 abbrev pub seen : ℤ → ℤ

@@ -3,4 +3,3 @@ pub mod Bits
 pub mod Division
 pub mod Wants
 pub mod Truths
-pub mod Whole

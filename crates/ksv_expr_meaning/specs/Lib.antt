@@ -8,4 +8,3 @@ pub mod Asked
 pub mod Replying
 pub mod Meaning
 pub mod Evaluation
-pub mod Arithmetic

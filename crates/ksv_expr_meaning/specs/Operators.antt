@@ -1,6 +1,6 @@
 -- The results of operators and methods that ask no question. The operators' kinds, and that a value of another kind
 -- is a fault, are this project's own; what each does is that of the Kaitai Struct User Guide.
-use Rattle.std.specs.Prelude.{ℕ, ◌-◌, ◌==◌, Bool, true, false, not, ℤ, pos, neg_ℤ, ◌+ℤ◌, ◌-ℤ◌, ◌*ℤ◌, List, Option, Some, None, Result, Ok, Err, if◌then◌else◌}
+use Rattle.std.specs.Prelude.{ℕ, ◌-◌, ◌==◌, Bool, true, false, not, ℤ, pos, neg_ℤ, List, Option, Some, None, Result, Ok, Err, if◌then◌else◌}
 use Rattle.std.specs.Ordering.{nat_cmp, int_cmp, int_eq, is_lt, is_gt}
 use Rattle.std.specs.Cmp.Lexicographic.{slice_cmp}
 use Rattle.std.specs.Fmt.{signed_decimal}
@@ -16,7 +16,7 @@ use Rattle.ksv_expr_meaning.specs.declared.method.Method.{Method}
 use Rattle.ksv_expr_meaning.specs.declared.method.Method.TheVariants as methods
 use Rattle.ksv_expr_value.specs.declared.value.Value.{Value}
 use Rattle.ksv_expr_value.specs.declared.value.Value.TheVariants as values
-use Rattle.ksv_expr_meaning.specs.Integers.{floored_quotient, floored_remainder, shifted_left, shifted_right, places, complement, bits_and, bits_or, bits_xor}
+use Rattle.ksv_expr_meaning.specs.Integers.{complement, calculated}
 use Rattle.ksv_expr_value.specs.Range.{ranged}
 use Rattle.ksv_expr_meaning.specs.Texts.{joined, char_count, reversed, substring, text_number}
 
@@ -28,22 +28,6 @@ Answered = Result Value FaultKind
 abbrev pub exactly : Option ℤ → Answered
 exactly None = Err kinds.Overflow
 exactly (Some z) = Ok (values.Int z)
-
--- the floored quotient and remainder; a divisor of 0 is a fault
-abbrev pub quotient_of : ℤ → ℤ → Answered
-quotient_of a b = if int_eq b (pos 0) then Err kinds.ZeroDivisor else exactly (ranged (floored_quotient a b))
-
-abbrev pub remainder_of : ℤ → ℤ → Answered
-remainder_of a b = if int_eq b (pos 0) then Err kinds.ZeroDivisor else exactly (ranged (floored_remainder a b))
-
--- a shift by a count of places, which is an overflow outside 0 to 63
-abbrev pub shifted_left_by : ℤ → Option ℕ → Answered
-shifted_left_by a None = Err kinds.Overflow
-shifted_left_by a (Some n) = exactly (ranged (shifted_left a n))
-
-abbrev pub shifted_right_by : ℤ → Option ℕ → Answered
-shifted_right_by a None = Err kinds.Overflow
-shifted_right_by a (Some n) = exactly (ranged (shifted_right a n))
 
 -- the result of an operator of equality, given whether two values are the same
 abbrev pub matched : BinaryOperator → Bool → Answered
@@ -59,21 +43,19 @@ ordered binary.Greater o = Ok (values.Bool (is_gt o))
 ordered binary.GreaterOrEqual o = Ok (values.Bool (not (is_lt o)))
 ordered _ o = Err kinds.BadType
 
+-- what was calculated of two integers, and what their comparison gives
+abbrev pub ranged_value : Result ℤ FaultKind → Answered
+ranged_value (Ok z) = exactly (ranged z)
+ranged_value (Err k) = Err k
+
+abbrev pub compared : BinaryOperator → ℤ → ℤ → Answered
+compared binary.Equal a b = matched binary.Equal (int_eq a b)
+compared binary.NotEqual a b = matched binary.NotEqual (int_eq a b)
+compared op a b = ordered op (int_cmp a b)
+
 -- two integers
 abbrev pub integers_of : BinaryOperator → ℤ → ℤ → Answered
-integers_of binary.Add a b = exactly (ranged (a +ℤ b))
-integers_of binary.Subtract a b = exactly (ranged (a -ℤ b))
-integers_of binary.Multiply a b = exactly (ranged (a *ℤ b))
-integers_of binary.Divide a b = quotient_of a b
-integers_of binary.Remainder a b = remainder_of a b
-integers_of binary.ShiftLeft a b = shifted_left_by a (places b)
-integers_of binary.ShiftRight a b = shifted_right_by a (places b)
-integers_of binary.BitAnd a b = exactly (ranged (bits_and a b))
-integers_of binary.BitXor a b = exactly (ranged (bits_xor a b))
-integers_of binary.BitOr a b = exactly (ranged (bits_or a b))
-integers_of binary.Equal a b = matched binary.Equal (int_eq a b)
-integers_of binary.NotEqual a b = matched binary.NotEqual (int_eq a b)
-integers_of op a b = ordered op (int_cmp a b)
+integers_of op a b = elim (calculated op a b) [ Some r ↦ ranged_value r | None ↦ compared op a b ]
 
 -- two truth values are the same
 abbrev pub same_truth : Bool → Bool → Bool

@@ -1,6 +1,6 @@
 //! Laws of evaluation, each a contract of a function that does nothing.
 
-ghost use Rattle.ksv_expr_meaning.specs.Arithmetic.{DivisionIsFloored, BitsAreTold};
+ghost use Rattle.ksv_expr_meaning.specs.Integers.{DivisionIsFloored, BitsAreTold};
 ghost use Rattle.ksv_expr_meaning.specs.Evaluation.{TruthIsMet, IsBounded, MeaningIsDirect};
 
 /// If the replies are the answers of a map, an evaluation asks for what its expression wants there, one want after

@@ -14,11 +14,10 @@
 //!
 //! Definitions (`specs/`):
 //!
-//! - `Arithmetic`: operators of integers in mathematical terms: division by its equation, bits one by one
 //! - `Asked`: what expressions ask, and the plans of single questions
 //! - `Evaluation`: the value over a map from wants to answers, and the evaluation on replies
 //! - `Heard`: what replies mean
-//! - `Integers`: the operators of integers
+//! - `Integers`: the operators of integers, and in mathematical terms: division by its equation, bits one by one
 //! - `Meaning`: what an expression means: what it asks, and what it does with the answers
 //! - `Methods`: the names of methods
 //! - `Operators`: operators and methods that ask nothing
@@ -27,11 +26,10 @@
 //!
 //! Lemmas (`proofs/`):
 //!
-//! - `Bits`: the bits of two's complement in 128 bits
-//! - `Division`: floored quotients and remainders by a divisor below 0
+//! - `Bits`: the bits of two's complement, of any width and in 128 bits
+//! - `Division`: floored division, and by a divisor below 0
 //! - `Truths`: the laws of evaluation
 //! - `Wants`: how many wants an expression has
-//! - `Whole`: floored division, and bits
 #![tactic(auto)]
 
 mod laws;

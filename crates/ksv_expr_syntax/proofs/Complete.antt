@@ -7,67 +7,25 @@ use Rattle.ksv_expr_syntax.specs.declared.token.Symbol.TheVariants as tok
 use Rattle.ksv_expr_tree.specs.declared.tree.UnaryOperator.{UnaryOperator}
 use Rattle.ksv_expr_tree.specs.declared.tree.UnaryOperator.TheVariants as unaries
 use Rattle.ksv_expr_tree.specs.declared.tree.BinaryOperator.{BinaryOperator}
-use Rattle.ksv_expr_syntax.specs.declared.operator.Precedence.{Precedence}
-use Rattle.ksv_expr_syntax.specs.declared.operator.Precedence.TheVariants as tier
-use Rattle.ksv_expr_syntax.specs.declared.operator.Infix.{Infix}
+use Rattle.ksv_expr_syntax.specs.declared.token.Precedence.{Precedence}
+use Rattle.ksv_expr_syntax.specs.declared.token.Precedence.TheVariants as tier
+use Rattle.ksv_expr_syntax.specs.declared.token.Infix.{Infix}
 use Rattle.ksv_expr_tree.specs.Tree.{Constant, Tree, literal, member, unary, binary, choice, call, index, cast, Arguments, no_arguments, argument}
+use Rattle.ksv_expr_syntax.specs.Symbols.{operator, comparison, prefix}
 use Rattle.ksv_expr_syntax.specs.Lexemes.{Lexeme, constant, word, symbol}
-use Rattle.ksv_expr_syntax.specs.Grammar.{parts, all_parts, Level, Whole, Joined, Negation, Comparison, Prefix, Postfix, Primary, tighter, operator, comparison}
-use Rattle.ksv_expr_syntax.specs.Grammar.{prefix, join_tree, name_tree, select_tree, is_left_out, path_tokens, Spells, pick, no_pick, join, no_join, negation}
+use Rattle.ksv_expr_syntax.specs.Grammar.{parts, all_parts, Level, Whole, Joined, Negation, Comparison, Prefix, Postfix, Primary, tighter}
+use Rattle.ksv_expr_syntax.specs.Grammar.{join_tree, name_tree, select_tree, is_left_out, path_tokens, Spells, pick, no_pick, join, no_join, negation}
 use Rattle.ksv_expr_syntax.specs.Grammar.{no_negation, compare, no_compare, prefixed, no_prefix, selected, called, converted, indexed, no_postfix}
 use Rattle.ksv_expr_syntax.specs.Grammar.{literal_alone, name_alone, enum_member, group, SpellsArguments, empty, listed, SpellsList, last_one, one_more}
 use Rattle.ksv_expr_syntax.specs.Reading.{Next, Found, FoundList, found, found_list, next, ◌>>=◌, choose, spend, after, operator_at, comparison_at, prefix_at}
 use Rattle.ksv_expr_syntax.specs.Reading.{path_at, path_on, path_tree, all_but_last, last_name, read, read_list}
 use Rattle.ksv_expr_syntax.proofs.Steps.{after_some, same_symbol}
+use Rattle.ksv_expr_syntax.proofs.Symbols.{rank, strength, opening, operator_strength, comparison_strength, prefix_opening}
 use Rattle.ksv_expr_syntax.proofs.Sound.{parts_join, parts_name, parts_select}
 use Rattle.ksv_expr_syntax.proofs.Flow.{pick_on, join_on, compare_on, prefix_on, suffix_on, more_on, read_whole, pick_on_is, arm_on_is, read_joined, join_on_is}
 use Rattle.ksv_expr_syntax.proofs.Flow.{read_negation, negate_on_is, read_comparison, compare_on_is, read_prefix, prefix_on_is, read_postfix, suffix_on_is}
 use Rattle.ksv_expr_syntax.proofs.Flow.{place_on_is, select_word, select_symbol, primary_constant, primary_word, primary_symbol, group_on_is, read_list_is}
 use Rattle.ksv_expr_syntax.proofs.Flow.{more_on_is}
-
--- how tightly a level binds
-abbrev pub rank : Level → ℕ
-rank Whole = 1
-rank (Joined tier.Or) = 2
-rank (Joined tier.And) = 3
-rank Negation = 4
-rank Comparison = 5
-rank (Joined tier.BitOr) = 6
-rank (Joined tier.BitXor) = 7
-rank (Joined tier.BitAnd) = 8
-rank (Joined tier.Shift) = 9
-rank (Joined tier.Sum) = 10
-rank (Joined tier.Term) = 11
-rank Prefix = 12
-rank Postfix = 13
-rank Primary = 14
-
--- the loosest level that a token goes on with
-abbrev pub strength : Lexeme → ℕ
-strength (symbol tok.Question) = 1
-strength (symbol tok.Or) = 2
-strength (symbol tok.And) = 3
-strength (symbol tok.Less) = 5
-strength (symbol tok.LessOrEqual) = 5
-strength (symbol tok.Greater) = 5
-strength (symbol tok.GreaterOrEqual) = 5
-strength (symbol tok.Equal) = 5
-strength (symbol tok.NotEqual) = 5
-strength (symbol tok.Bar) = 6
-strength (symbol tok.Caret) = 7
-strength (symbol tok.Ampersand) = 8
-strength (symbol tok.ShiftLeft) = 9
-strength (symbol tok.ShiftRight) = 9
-strength (symbol tok.Plus) = 10
-strength (symbol tok.Minus) = 10
-strength (symbol tok.Star) = 11
-strength (symbol tok.Slash) = 11
-strength (symbol tok.Percent) = 11
-strength (symbol tok.Dot) = 13
-strength (symbol tok.OpenBracket) = 13
-strength (symbol tok.OpenParenthesis) = 14
-strength (symbol tok.ColonColon) = 14
-strength _ = 0
 
 -- the tokens begin with none that goes on with a level this tight
 abbrev pub Stops : ℕ → List Lexeme → Type 0
@@ -77,17 +35,6 @@ Stops r (v ∷ ts) = strength v < r
 stops_more : (r s : ℕ) (ts : List Lexeme) → r ≤ s → Stops r ts → Stops s ts
 stops_more r s [] h k = tt
 stops_more r s (v ∷ ts) h k = omega arith
-
--- the tightest level that begins with a token; 0 where none does
-abbrev pub opening : Lexeme → ℕ
-opening (constant c) = 14
-opening (word w) = 14
-opening (symbol tok.OpenParenthesis) = 14
-opening (symbol tok.Minus) = 12
-opening (symbol tok.Tilde) = 12
-opening (symbol tok.Plus) = 12
-opening (symbol tok.Not) = 4
-opening _ = 0
 
 -- the tokens begin with one that begins this level
 abbrev pub Begins : ℕ → List Lexeme → Type 0
@@ -124,36 +71,6 @@ not_begun s r (v ∷ ts) us h b =
       | Some vs ↦ λ e. let i : v ≡ symbol s = ap (λ (ts : List Lexeme). elim ts [ [] ↦ v | w ∷ ws ↦ w ]) (after_some s (v ∷ (ts ++ us)) vs e) in
           absurd (omega (arith, h, b, ap opening i))
     ] refl
-
-operator_strength : (k : Precedence) (v : Lexeme) (op : Infix) → operator k v ≡ Some op → strength v ≡ rank (Joined k)
-operator_strength tier.Or (symbol tok.Or) op h = refl
-operator_strength tier.And (symbol tok.And) op h = refl
-operator_strength tier.BitOr (symbol tok.Bar) op h = refl
-operator_strength tier.BitXor (symbol tok.Caret) op h = refl
-operator_strength tier.BitAnd (symbol tok.Ampersand) op h = refl
-operator_strength tier.Shift (symbol tok.ShiftLeft) op h = refl
-operator_strength tier.Shift (symbol tok.ShiftRight) op h = refl
-operator_strength tier.Sum (symbol tok.Plus) op h = refl
-operator_strength tier.Sum (symbol tok.Minus) op h = refl
-operator_strength tier.Term (symbol tok.Star) op h = refl
-operator_strength tier.Term (symbol tok.Slash) op h = refl
-operator_strength tier.Term (symbol tok.Percent) op h = refl
-operator_strength k v op h = absurd cc
-
-comparison_strength : (v : Lexeme) (op : BinaryOperator) → comparison v ≡ Some op → strength v ≡ 5
-comparison_strength (symbol tok.Less) op h = refl
-comparison_strength (symbol tok.LessOrEqual) op h = refl
-comparison_strength (symbol tok.Greater) op h = refl
-comparison_strength (symbol tok.GreaterOrEqual) op h = refl
-comparison_strength (symbol tok.Equal) op h = refl
-comparison_strength (symbol tok.NotEqual) op h = refl
-comparison_strength v op h = absurd cc
-
-prefix_opening : (v : Lexeme) (op : UnaryOperator) → prefix v ≡ Some op → opening v ≡ 12
-prefix_opening (symbol tok.Minus) op h = refl
-prefix_opening (symbol tok.Tilde) op h = refl
-prefix_opening (symbol tok.Plus) op h = refl
-prefix_opening v op h = absurd cc
 
 no_operator : (k : Precedence) (ts : List Lexeme) → Stops (rank (Joined k)) ts → operator_at k ts ≡ None
 no_operator k [] h = refl

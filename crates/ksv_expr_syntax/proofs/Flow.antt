@@ -4,8 +4,8 @@ use Rattle.ksv_expr_syntax.specs.declared.token.Symbol.{Symbol}
 use Rattle.ksv_expr_syntax.specs.declared.token.Symbol.TheVariants as tok
 use Rattle.ksv_expr_tree.specs.declared.tree.UnaryOperator.{UnaryOperator}
 use Rattle.ksv_expr_tree.specs.declared.tree.UnaryOperator.TheVariants as unaries
-use Rattle.ksv_expr_syntax.specs.declared.operator.Precedence.{Precedence}
-use Rattle.ksv_expr_syntax.specs.declared.operator.Precedence.TheVariants as tier
+use Rattle.ksv_expr_syntax.specs.declared.token.Precedence.{Precedence}
+use Rattle.ksv_expr_syntax.specs.declared.token.Precedence.TheVariants as tier
 use Rattle.ksv_expr_tree.specs.Tree.{Tree, literal, unary, binary, choice, call, index, cast, no_arguments, argument}
 use Rattle.ksv_expr_syntax.specs.Lexemes.{Lexeme, constant, word, symbol}
 use Rattle.ksv_expr_syntax.specs.Grammar.{Whole, Joined, Negation, Comparison, Prefix, Postfix, Primary, tighter, join_tree, select_tree, is_left_out}

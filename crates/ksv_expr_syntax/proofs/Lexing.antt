@@ -20,6 +20,10 @@ use Rattle.ksv_expr_syntax.specs.declared.lexer.Radix.{Radix}
 use Rattle.ksv_expr_syntax.specs.declared.lexer.Radix.TheVariants as radices
 use Rattle.ksv_expr_syntax.specs.Reading.{◌>>=◌}
 
+pub both : (a b : Bool) → (a && b) ≡ true → (a ≡ true) × (b ≡ true)
+both true b h = (refl, h)
+both false b h = absurd cc
+
 pub take_run : (p : ℕ → Bool) (bs : List ℕ) → take (length (take_while p bs)) bs ≡ take_while p bs
 take_run p [] = refl
 take_run p (c ∷ cs) =

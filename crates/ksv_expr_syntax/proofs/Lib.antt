@@ -1,4 +1,5 @@
 pub mod Steps
+pub mod Symbols
 pub mod Sound
 pub mod Same
 pub mod Flow

@@ -20,17 +20,19 @@ use Rattle.ksv_expr_syntax.specs.declared.token.Symbol.TheVariants as tok
 use Rattle.ksv_expr_syntax.specs.declared.lexer.Radix.{Radix}
 use Rattle.ksv_expr_syntax.specs.declared.lexer.Radix.TheVariants as radices
 use Rattle.ksv_expr_tree.specs.Tree.{integer, string}
+use Rattle.ksv_expr_syntax.specs.Symbols.{spelling, is_word, two_bytes, one_byte}
 use Rattle.ksv_expr_syntax.specs.Lexemes.{Lexeme, constant, symbol}
 use Rattle.ksv_expr_syntax.specs.Reading.{◌>>=◌}
 use Rattle.ksv_expr_syntax.specs.Tokens.{Cut, is_name_start, is_name_byte, word_lexeme, is_digit, natural, escape_of, unicode_of, IsName, begun, IsDigits}
 use Rattle.ksv_expr_syntax.specs.Tokens.{last_digit, one_digit, digit_and_line, number_prefix, is_padded, BeginsFloat, fraction, exponent, signed_exponent}
-use Rattle.ksv_expr_syntax.specs.Tokens.{IsQuoted, nothing, plain_byte, letter_escape, digits_escape, spelling, is_word, HasShape, like_name, like_number}
+use Rattle.ksv_expr_syntax.specs.Tokens.{IsQuoted, nothing, plain_byte, letter_escape, digits_escape, HasShape, like_name, like_number}
 use Rattle.ksv_expr_syntax.specs.Tokens.{like_single, like_double, like_symbol, like_float, like_format, IsToken, name, number, single, double, sign, IsLongest}
 use Rattle.ksv_expr_syntax.specs.Tokens.{skip, less_follows}
 use Rattle.ksv_expr_syntax.specs.Cutting.{cut_at, cut_name, radix_of, prefix_size, run, run_behind, goes_on_as_float, is_left_out_number, number_of, cut_number}
-use Rattle.ksv_expr_syntax.specs.Cutting.{text_of, cut_single, Quoted, put, quoted, escaped, unicode, cut_double, two_bytes, one_byte, cut_symbol, cut}
+use Rattle.ksv_expr_syntax.specs.Cutting.{text_of, cut_single, Quoted, put, quoted, escaped, unicode, cut_double, cut_symbol, cut}
 use Rattle.ksv_expr_syntax.proofs.Steps.{bind_some}
-use Rattle.ksv_expr_syntax.proofs.Lexing.{take_run, all_cons, all_of_run}
+use Rattle.ksv_expr_syntax.proofs.Symbols.{TwoBytes, OneByte, two_found, one_found, IsFound, by_one, by_two, is_found}
+use Rattle.ksv_expr_syntax.proofs.Lexing.{both, take_run, all_cons, all_of_run}
 
 -- ---- tests
 
@@ -45,10 +47,6 @@ some_or false x y h = absurd cc
 is_false : (b : Bool) → (b ≡ true → ⊥) → b ≡ false
 is_false true h = absurd (h refl)
 is_false false h = refl
-
-both : (a b : Bool) → (a && b) ≡ true → (a ≡ true) × (b ≡ true)
-both true b h = (refl, h)
-both false b h = absurd cc
 
 either : (a b : Bool) → (a || b) ≡ true → (a ≡ true) ⊎ (b ≡ true)
 either true b h = inl refl
@@ -391,37 +389,9 @@ symbol_rest c r x h =
 pair_rest : (s : Symbol) (r : List ℕ) (x : Cut) → cut_at (symbol s) r ≡ Some x → length x.rest ≤ length r
 pair_rest s r x h = let e : record { lexeme = symbol s; rest = r } ≡ x = cc in omega (arith, ap (λ (x : Cut). length x.rest) e)
 
-symbol_longer : (s : Symbol) (r : List ℕ) (x : Cut) → is_word s ≡ false → cut (spelling s ++ r) ≡ Some x → length x.rest ≤ length r
-symbol_longer tok.Plus r x w h = symbol_rest 43 r x h
-symbol_longer tok.Minus r x w h = symbol_rest 45 r x h
-symbol_longer tok.Star r x w h = symbol_rest 42 r x h
-symbol_longer tok.Slash r x w h = symbol_rest 47 r x h
-symbol_longer tok.Percent r x w h = symbol_rest 37 r x h
-symbol_longer tok.Tilde r x w h = symbol_rest 126 r x h
-symbol_longer tok.Ampersand r x w h = symbol_rest 38 r x h
-symbol_longer tok.Bar r x w h = symbol_rest 124 r x h
-symbol_longer tok.Caret r x w h = symbol_rest 94 r x h
-symbol_longer tok.ShiftLeft r x w h = pair_rest tok.ShiftLeft r x h
-symbol_longer tok.ShiftRight r x w h = pair_rest tok.ShiftRight r x h
-symbol_longer tok.Less r x w h = symbol_rest 60 r x h
-symbol_longer tok.LessOrEqual r x w h = pair_rest tok.LessOrEqual r x h
-symbol_longer tok.Greater r x w h = symbol_rest 62 r x h
-symbol_longer tok.GreaterOrEqual r x w h = pair_rest tok.GreaterOrEqual r x h
-symbol_longer tok.Equal r x w h = pair_rest tok.Equal r x h
-symbol_longer tok.NotEqual r x w h = pair_rest tok.NotEqual r x h
-symbol_longer tok.Question r x w h = symbol_rest 63 r x h
-symbol_longer tok.Colon r x w h = symbol_rest 58 r x h
-symbol_longer tok.ColonColon r x w h = pair_rest tok.ColonColon r x h
-symbol_longer tok.OpenParenthesis r x w h = symbol_rest 40 r x h
-symbol_longer tok.CloseParenthesis r x w h = symbol_rest 41 r x h
-symbol_longer tok.OpenBracket r x w h = symbol_rest 91 r x h
-symbol_longer tok.CloseBracket r x w h = symbol_rest 93 r x h
-symbol_longer tok.Comma r x w h = symbol_rest 44 r x h
-symbol_longer tok.Dot r x w h = symbol_rest 46 r x h
-symbol_longer tok.And r x w h = absurd (let k = w in cc)
-symbol_longer tok.Or r x w h = absurd (let k = w in cc)
-symbol_longer tok.Not r x w h = absurd (let k = w in cc)
-symbol_longer tok.As r x w h = absurd (let k = w in cc)
+symbol_longer : (s : Symbol) (bs r : List ℕ) (x : Cut) → IsFound s bs → cut (bs ++ r) ≡ Some x → length x.rest ≤ length r
+symbol_longer s bs r x (by_one c b k) h = symbol_rest c r x (sym (k r) ∙ h)
+symbol_longer s bs r x (by_two c d k) h = pair_rest s r x (sym (k r) ∙ h)
 
 -- whatever begins a text with a shape, a token that is cut there takes as much
 no_longer : (ts r : List ℕ) (x : Cut) → HasShape ts → cut (ts ++ r) ≡ Some x → length x.rest ≤ length r
@@ -431,7 +401,7 @@ no_longer ts r x (like_single bs k e) h = text_longer bs r x
     (sym (single_is bs r k) ∙ ap cut (sym (ap (λ ts. ts ++ r) e ∙ append_assoc (39 ∷ bs) (39 ∷ []) r)) ∙ h)
 no_longer ts r x (like_double bs cs k e) h = text_longer cs r x
     (sym (double_is bs cs r k) ∙ ap cut (sym (ap (λ ts. ts ++ r) e ∙ append_assoc (34 ∷ bs) (34 ∷ []) r)) ∙ h)
-no_longer ts r x (like_symbol s w) h = symbol_longer s r x w h
+no_longer ts r x (like_symbol s w) h = symbol_longer s (spelling s) r x (is_found s w) h
 no_longer ts r x (like_float ds fs k b e) h = absurd (float_longer ds fs r x k b (ap cut (sym (ap (λ ts. ts ++ r) e ∙ append_assoc ds fs r)) ∙ h))
 no_longer ts r x like_format h = absurd (let k : None ≡ Some x = h in cc)
 
@@ -685,76 +655,6 @@ double_found cs x h =
     (ap (λ us. 34 ∷ us) f.split ∙ sym (append_assoc (34 ∷ f.front) (34 ∷ []) q.rest))
     (double f.front q.bytes f.spelled (IsUtf8-from_is_utf8 q.bytes t.0) refl)
 
--- two bytes that are a symbol, and one byte
-record TwoBytes (c d : ℕ) (s : Symbol) : Type 0 where
-  plain : is_word s ≡ false
-  spelled : spelling s ≡ c ∷ d ∷ []
-  there : 0 < d
-
-record OneByte (c : ℕ) (s : Symbol) : Type 0 where
-  plain : is_word s ≡ false
-  spelled : spelling s ≡ c ∷ []
-
-two_step : (c d a b : ℕ) (t : Symbol) (o : Option Symbol) (s : Symbol) → TwoBytes a b t → (if c == a && d == b then Some t else o) ≡ Some s
-    → (o ≡ Some s → TwoBytes c d s) → TwoBytes c d s
-two_step c d a b t o s w h f =
-    elim (c == a && d == b) as (λ v. (c == a && d == b) ≡ v → (if v then Some t else o) ≡ Some s → TwoBytes c d s) [
-      | true ↦ λ e h.
-          let k = both (c == a) (d == b) e in
-          let i : t ≡ s = cc in
-          let P : Symbol → Type 0 = λ s. TwoBytes c d s in
-          subst P i (record {
-            plain = w.plain;
-            spelled = w.spelled ∙ ap (λ a. a ∷ b ∷ []) (sym (eqb-true c a k.0))
-                ∙ ap (λ b. c ∷ b ∷ []) (sym (eqb-true d b k.1));
-            there = (let m = eqb-true d b k.1 in let n = w.there in omega arith);
-          })
-      | false ↦ λ e h. f h
-    ] refl h
-
-one_step : (c a : ℕ) (t : Symbol) (o : Option Symbol) (s : Symbol) → OneByte a t → (if c == a then Some t else o) ≡ Some s → (o ≡ Some s → OneByte c s)
-    → OneByte c s
-one_step c a t o s w h f =
-    elim (c == a) as (λ v. (c == a) ≡ v → (if v then Some t else o) ≡ Some s → OneByte c s) [
-      | true ↦ λ e h.
-          let i : t ≡ s = cc in
-          let P : Symbol → Type 0 = λ s. OneByte c s in
-          subst P i (record { plain = w.plain; spelled = w.spelled ∙ ap (λ a. a ∷ []) (sym (eqb-true c a e)) })
-      | false ↦ λ e h. f h
-    ] refl h
-
-two_found : (c d : ℕ) (s : Symbol) → two_bytes c d ≡ Some s → TwoBytes c d s
-two_found c d s h =
-    two_step c d 60 60 tok.ShiftLeft _ s (record { plain = refl; spelled = refl; there = omega arith }) h (λ h.
-    two_step c d 62 62 tok.ShiftRight _ s (record { plain = refl; spelled = refl; there = omega arith }) h (λ h.
-    two_step c d 60 61 tok.LessOrEqual _ s (record { plain = refl; spelled = refl; there = omega arith }) h (λ h.
-    two_step c d 62 61 tok.GreaterOrEqual _ s (record { plain = refl; spelled = refl; there = omega arith }) h (λ h.
-    two_step c d 61 61 tok.Equal _ s (record { plain = refl; spelled = refl; there = omega arith }) h (λ h.
-    two_step c d 33 61 tok.NotEqual _ s (record { plain = refl; spelled = refl; there = omega arith }) h (λ h.
-    two_step c d 58 58 tok.ColonColon _ s (record { plain = refl; spelled = refl; there = omega arith }) h (λ h. absurd cc)))))))
-
-one_found : (c : ℕ) (s : Symbol) → one_byte c ≡ Some s → OneByte c s
-one_found c s h =
-    one_step c 43 tok.Plus _ s (record { plain = refl; spelled = refl }) h (λ h.
-    one_step c 45 tok.Minus _ s (record { plain = refl; spelled = refl }) h (λ h.
-    one_step c 42 tok.Star _ s (record { plain = refl; spelled = refl }) h (λ h.
-    one_step c 47 tok.Slash _ s (record { plain = refl; spelled = refl }) h (λ h.
-    one_step c 37 tok.Percent _ s (record { plain = refl; spelled = refl }) h (λ h.
-    one_step c 126 tok.Tilde _ s (record { plain = refl; spelled = refl }) h (λ h.
-    one_step c 38 tok.Ampersand _ s (record { plain = refl; spelled = refl }) h (λ h.
-    one_step c 124 tok.Bar _ s (record { plain = refl; spelled = refl }) h (λ h.
-    one_step c 94 tok.Caret _ s (record { plain = refl; spelled = refl }) h (λ h.
-    one_step c 60 tok.Less _ s (record { plain = refl; spelled = refl }) h (λ h.
-    one_step c 62 tok.Greater _ s (record { plain = refl; spelled = refl }) h (λ h.
-    one_step c 63 tok.Question _ s (record { plain = refl; spelled = refl }) h (λ h.
-    one_step c 58 tok.Colon _ s (record { plain = refl; spelled = refl }) h (λ h.
-    one_step c 40 tok.OpenParenthesis _ s (record { plain = refl; spelled = refl }) h (λ h.
-    one_step c 41 tok.CloseParenthesis _ s (record { plain = refl; spelled = refl }) h (λ h.
-    one_step c 91 tok.OpenBracket _ s (record { plain = refl; spelled = refl }) h (λ h.
-    one_step c 93 tok.CloseBracket _ s (record { plain = refl; spelled = refl }) h (λ h.
-    one_step c 44 tok.Comma _ s (record { plain = refl; spelled = refl }) h (λ h.
-    one_step c 46 tok.Dot _ s (record { plain = refl; spelled = refl }) h (λ h. absurd cc)))))))))))))))))))
-
 pair_token : (c : ℕ) (cs : List ℕ) (s : Symbol) (x : Cut) → TwoBytes c (slice_index (c ∷ cs) 1) s → record { lexeme = symbol s; rest = drop 2 (c ∷ cs) } ≡ x
     → TokenAt (c ∷ cs) x
 pair_token c [] s x w e = absurd (omega (arith, w.there))
@@ -993,37 +893,9 @@ byte_is_cut c s rest h n =
       | None ↦ λ e. ap (λ o. o >>= λ s. cut_at (symbol s) rest) h
     ] refl
 
-symbol_is_cut : (s : Symbol) (rest : List ℕ) → is_word s ≡ false → NoLonger (spelling s) rest → cut (spelling s ++ rest) ≡ cut_at (symbol s) rest
-symbol_is_cut tok.Plus rest w n = byte_is_cut 43 tok.Plus rest refl n
-symbol_is_cut tok.Minus rest w n = byte_is_cut 45 tok.Minus rest refl n
-symbol_is_cut tok.Star rest w n = byte_is_cut 42 tok.Star rest refl n
-symbol_is_cut tok.Slash rest w n = byte_is_cut 47 tok.Slash rest refl n
-symbol_is_cut tok.Percent rest w n = byte_is_cut 37 tok.Percent rest refl n
-symbol_is_cut tok.Tilde rest w n = byte_is_cut 126 tok.Tilde rest refl n
-symbol_is_cut tok.Ampersand rest w n = byte_is_cut 38 tok.Ampersand rest refl n
-symbol_is_cut tok.Bar rest w n = byte_is_cut 124 tok.Bar rest refl n
-symbol_is_cut tok.Caret rest w n = byte_is_cut 94 tok.Caret rest refl n
-symbol_is_cut tok.ShiftLeft rest w n = refl
-symbol_is_cut tok.ShiftRight rest w n = refl
-symbol_is_cut tok.Less rest w n = byte_is_cut 60 tok.Less rest refl n
-symbol_is_cut tok.LessOrEqual rest w n = refl
-symbol_is_cut tok.Greater rest w n = byte_is_cut 62 tok.Greater rest refl n
-symbol_is_cut tok.GreaterOrEqual rest w n = refl
-symbol_is_cut tok.Equal rest w n = refl
-symbol_is_cut tok.NotEqual rest w n = refl
-symbol_is_cut tok.Question rest w n = byte_is_cut 63 tok.Question rest refl n
-symbol_is_cut tok.Colon rest w n = byte_is_cut 58 tok.Colon rest refl n
-symbol_is_cut tok.ColonColon rest w n = refl
-symbol_is_cut tok.OpenParenthesis rest w n = byte_is_cut 40 tok.OpenParenthesis rest refl n
-symbol_is_cut tok.CloseParenthesis rest w n = byte_is_cut 41 tok.CloseParenthesis rest refl n
-symbol_is_cut tok.OpenBracket rest w n = byte_is_cut 91 tok.OpenBracket rest refl n
-symbol_is_cut tok.CloseBracket rest w n = byte_is_cut 93 tok.CloseBracket rest refl n
-symbol_is_cut tok.Comma rest w n = byte_is_cut 44 tok.Comma rest refl n
-symbol_is_cut tok.Dot rest w n = byte_is_cut 46 tok.Dot rest refl n
-symbol_is_cut tok.And rest w n = absurd (let k = w in cc)
-symbol_is_cut tok.Or rest w n = absurd (let k = w in cc)
-symbol_is_cut tok.Not rest w n = absurd (let k = w in cc)
-symbol_is_cut tok.As rest w n = absurd (let k = w in cc)
+symbol_is_cut : (s : Symbol) (bs rest : List ℕ) → IsFound s bs → NoLonger bs rest → cut (bs ++ rest) ≡ cut_at (symbol s) rest
+symbol_is_cut s bs rest (by_one c b k) n = k rest ∙ byte_is_cut c s rest b n
+symbol_is_cut s bs rest (by_two c d k) n = k rest
 
 text_kept : (bs rest : List ℕ) → IsUtf8 bs → text_of bs rest ≡ cut_at (constant (string bs)) rest
 text_kept bs rest u = ap (λ b. if b then cut_at (constant (string bs)) rest else None) (is_utf8-from_IsUtf8 bs u)
@@ -1037,7 +909,7 @@ token_is_cut piece rest t (single bs k u e) n = ap cut (ap (λ ts. ts ++ rest) e
     ∙ text_kept bs rest u
 token_is_cut piece rest t (double bs cs k u e) n = ap cut (ap (λ ts. ts ++ rest) e ∙ append_assoc (34 ∷ bs) (34 ∷ []) rest) ∙ double_is bs cs rest k
     ∙ text_kept cs rest u
-token_is_cut piece rest t (sign s w) n = symbol_is_cut s rest w n
+token_is_cut piece rest t (sign s w) n = symbol_is_cut s (spelling s) rest (is_found s w) n
 
 is_cut : (text : List ℕ) (x : Cut) → IsLongest text x → cut text ≡ Some x
 is_cut text x l = ap cut l.split ∙ token_is_cut l.piece x.rest x.lexeme l.means (λ more behind s. l.longest more behind (l.split ∙ s))

@@ -5,8 +5,9 @@ use Rattle.std.specs.Prelude.{◌==◌, take_while}
 use Rattle.std.proofs.lemmas.List.{append-nil}
 use Rattle.ksv_expr_syntax.specs.declared.token.Symbol.{Symbol}
 use Rattle.ksv_expr_syntax.specs.declared.token.Symbol.TheVariants as tok
+use Rattle.ksv_expr_syntax.specs.Symbols.{spelling}
 use Rattle.ksv_expr_syntax.specs.Lexemes.{Lexeme}
-use Rattle.ksv_expr_syntax.specs.Tokens.{Cut, is_space, skip, begun, number_prefix, spelling, IsToken, name, number, single, double, sign, IsLongest, mark}
+use Rattle.ksv_expr_syntax.specs.Tokens.{Cut, is_space, skip, begun, number_prefix, IsToken, name, number, single, double, sign, IsLongest, mark}
 use Rattle.ksv_expr_syntax.specs.Tokens.{is_dot, Tokens, finished, token}
 use Rattle.ksv_expr_syntax.specs.Cutting.{cut}
 use Rattle.ksv_expr_syntax.proofs.Longest.{cut_is_longest, first_digit}

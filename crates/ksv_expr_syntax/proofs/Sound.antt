@@ -6,14 +6,15 @@ use Rattle.ksv_expr_syntax.specs.declared.token.Symbol.TheVariants as tok
 use Rattle.ksv_expr_tree.specs.declared.tree.UnaryOperator.{UnaryOperator}
 use Rattle.ksv_expr_tree.specs.declared.tree.BinaryOperator.{BinaryOperator}
 use Rattle.ksv_expr_tree.specs.declared.tree.UnaryOperator.TheVariants as unaries
-use Rattle.ksv_expr_syntax.specs.declared.operator.Precedence.{Precedence}
-use Rattle.ksv_expr_syntax.specs.declared.operator.Precedence.TheVariants as tier
-use Rattle.ksv_expr_syntax.specs.declared.operator.Infix.{Infix}
-use Rattle.ksv_expr_syntax.specs.declared.operator.Infix.TheVariants as infixes
+use Rattle.ksv_expr_syntax.specs.declared.token.Precedence.{Precedence}
+use Rattle.ksv_expr_syntax.specs.declared.token.Precedence.TheVariants as tier
+use Rattle.ksv_expr_syntax.specs.declared.token.Infix.{Infix}
+use Rattle.ksv_expr_syntax.specs.declared.token.Infix.TheVariants as infixes
 use Rattle.ksv_expr_tree.specs.Tree.{Constant, Tree, literal, named, special, unary, binary, choice, call, index, cast, no_arguments, argument}
+use Rattle.ksv_expr_syntax.specs.Symbols.{operator, comparison, prefix}
 use Rattle.ksv_expr_syntax.specs.Lexemes.{Lexeme, constant, word, symbol}
-use Rattle.ksv_expr_syntax.specs.Grammar.{parts, all_parts, Level, Whole, Joined, Negation, Comparison, Prefix, Postfix, Primary, tighter, operator, comparison}
-use Rattle.ksv_expr_syntax.specs.Grammar.{prefix, join_tree, name_tree, select_tree, special_of, is_left_out, path_tokens, Spells, pick, no_pick, join, no_join}
+use Rattle.ksv_expr_syntax.specs.Grammar.{parts, all_parts, Level, Whole, Joined, Negation, Comparison, Prefix, Postfix, Primary, tighter}
+use Rattle.ksv_expr_syntax.specs.Grammar.{join_tree, name_tree, select_tree, special_of, is_left_out, path_tokens, Spells, pick, no_pick, join, no_join}
 use Rattle.ksv_expr_syntax.specs.Grammar.{negation, no_negation, compare, no_compare, prefixed, no_prefix, selected, called, converted, indexed, no_postfix}
 use Rattle.ksv_expr_syntax.specs.Grammar.{literal_alone, name_alone, enum_member, group, SpellsArguments, empty, listed, SpellsList, last_one, one_more}
 use Rattle.ksv_expr_syntax.specs.Reading.{Next, Found, FoundList, found, found_list, ◌>>=◌, choose, spend, after, operator_at, comparison_at, prefix_at}

@@ -8,11 +8,12 @@ use Rattle.ksv_expr_syntax.specs.declared.token.Symbol.{Symbol}
 use Rattle.ksv_expr_syntax.specs.declared.token.Symbol.TheVariants as tok
 use Rattle.ksv_expr_tree.specs.declared.tree.UnaryOperator.{UnaryOperator}
 use Rattle.ksv_expr_tree.specs.declared.tree.BinaryOperator.{BinaryOperator}
-use Rattle.ksv_expr_syntax.specs.declared.operator.Precedence.{Precedence}
-use Rattle.ksv_expr_syntax.specs.declared.operator.Infix.{Infix}
+use Rattle.ksv_expr_syntax.specs.declared.token.Precedence.{Precedence}
+use Rattle.ksv_expr_syntax.specs.declared.token.Infix.{Infix}
 use Rattle.ksv_expr_tree.specs.Tree.{Tree, Arguments}
+use Rattle.ksv_expr_syntax.specs.Symbols.{operator, comparison, prefix}
 use Rattle.ksv_expr_syntax.specs.Lexemes.{Lexeme, constant, word, symbol}
-use Rattle.ksv_expr_syntax.specs.Grammar.{operator, comparison, prefix, path_tokens}
+use Rattle.ksv_expr_syntax.specs.Grammar.{path_tokens}
 use Rattle.ksv_expr_syntax.specs.Reading.{Next, Found, FoundList, found, found_list, next, ◌>>=◌, choose, spend, after, operator_at, comparison_at, prefix_at}
 use Rattle.ksv_expr_syntax.specs.Reading.{path_at, path_on, all_but_last, last_name}
 

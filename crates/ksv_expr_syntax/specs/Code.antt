@@ -14,8 +14,8 @@ use Rattle.ksv_expr_syntax.specs.Lexemes.{lexeme_of}
 use Rattle.std.proofs.Common.{Bor}
 use Rattle.ksv_expr_syntax.specs.declared.fault.ExprFaultKind.TheVariants as kinds
 use Rattle.ksv_expr_syntax.specs.declared.cursor.Rest.{Rest}
-use Rattle.ksv_expr_syntax.specs.declared.operator.Operand.{Operand}
-use Rattle.ksv_expr_syntax.specs.declared.operator.Operand.TheVariants as operands
+use Rattle.ksv_expr_syntax.specs.declared.token.Operand.{Operand}
+use Rattle.ksv_expr_syntax.specs.declared.token.Operand.TheVariants as operands
 use Rattle.ksv_expr_syntax.specs.declared.parser.Opening.{Opening}
 use Rattle.ksv_expr_syntax.specs.declared.parser.Opening.TheVariants as openings
 use Rattle.ksv_expr_syntax.specs.declared.token.Symbol.{Symbol}

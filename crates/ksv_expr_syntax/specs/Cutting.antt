@@ -4,12 +4,11 @@ use Rattle.std.specs.Prelude.{ℕ, suc, ◌^◌, Bool, false, ◌==◌, ◌&&◌
 use Rattle.std.specs.Char.{is_ascii_digit}
 use Rattle.std.specs.Str.{is_utf8}
 use Rattle.std.specs.Prelude.{encode_utf8}
-use Rattle.ksv_expr_syntax.specs.declared.token.Symbol.{Symbol}
-use Rattle.ksv_expr_syntax.specs.declared.token.Symbol.TheVariants as tok
 use Rattle.ksv_expr_syntax.specs.declared.lexer.Radix.{Radix}
 use Rattle.ksv_expr_syntax.specs.declared.lexer.Radix.TheVariants as radices
 use Rattle.ksv_expr_tree.specs.Tree.{integer, string}
 use Rattle.ksv_expr_syntax.specs.Lexemes.{Lexeme, constant, symbol}
+use Rattle.ksv_expr_syntax.specs.Symbols.{two_bytes, one_byte}
 use Rattle.ksv_expr_syntax.specs.Tokens.{Cut, is_name_start, is_name_byte, word_lexeme, is_digit, natural, escape_of, unicode_of}
 use Rattle.ksv_expr_syntax.specs.Reading.{◌>>=◌}
 
@@ -111,40 +110,6 @@ abbrev pub cut_double : List ℕ → Option Cut
 cut_double bs = quoted bs >>= λ q. text_of q.bytes q.rest
 
 -- ---- symbols
-
--- the symbol of two bytes that these are
-abbrev pub two_bytes : ℕ → ℕ → Option Symbol
-two_bytes c d = if c == 60 && d == 60 then Some tok.ShiftLeft
-    else if c == 62 && d == 62 then Some tok.ShiftRight
-    else if c == 60 && d == 61 then Some tok.LessOrEqual
-    else if c == 62 && d == 61 then Some tok.GreaterOrEqual
-    else if c == 61 && d == 61 then Some tok.Equal
-    else if c == 33 && d == 61 then Some tok.NotEqual
-    else if c == 58 && d == 58 then Some tok.ColonColon
-    else None
-
--- the symbol of one byte that this is
-abbrev pub one_byte : ℕ → Option Symbol
-one_byte c = if c == 43 then Some tok.Plus
-    else if c == 45 then Some tok.Minus
-    else if c == 42 then Some tok.Star
-    else if c == 47 then Some tok.Slash
-    else if c == 37 then Some tok.Percent
-    else if c == 126 then Some tok.Tilde
-    else if c == 38 then Some tok.Ampersand
-    else if c == 124 then Some tok.Bar
-    else if c == 94 then Some tok.Caret
-    else if c == 60 then Some tok.Less
-    else if c == 62 then Some tok.Greater
-    else if c == 63 then Some tok.Question
-    else if c == 58 then Some tok.Colon
-    else if c == 40 then Some tok.OpenParenthesis
-    else if c == 41 then Some tok.CloseParenthesis
-    else if c == 91 then Some tok.OpenBracket
-    else if c == 93 then Some tok.CloseBracket
-    else if c == 44 then Some tok.Comma
-    else if c == 46 then Some tok.Dot
-    else None
 
 -- two bytes if they are a symbol, else one
 abbrev pub cut_symbol : List ℕ → Option Cut

@@ -5,17 +5,16 @@ use Rattle.std.specs.Prelude.{◌≡◌, ℕ, suc, ◌+◌, ◌≤◌, ◌<◌, 
 use Rattle.ksv_expr_tree.specs.declared.tree.UnaryOperator.{UnaryOperator}
 use Rattle.ksv_expr_tree.specs.declared.tree.UnaryOperator.TheVariants as unaries
 use Rattle.ksv_expr_tree.specs.declared.tree.BinaryOperator.{BinaryOperator}
-use Rattle.ksv_expr_tree.specs.declared.tree.BinaryOperator.TheVariants as binaries
-use Rattle.ksv_expr_tree.specs.declared.tree.LogicalOperator.TheVariants as logicals
 use Rattle.ksv_expr_tree.specs.declared.tree.SpecialName.{SpecialName}
 use Rattle.ksv_expr_tree.specs.declared.tree.SpecialName.TheVariants as specials
 use Rattle.ksv_expr_syntax.specs.declared.token.Symbol.TheVariants as tok
-use Rattle.ksv_expr_syntax.specs.declared.operator.Precedence.{Precedence}
-use Rattle.ksv_expr_syntax.specs.declared.operator.Precedence.TheVariants as tier
-use Rattle.ksv_expr_syntax.specs.declared.operator.Infix.{Infix}
-use Rattle.ksv_expr_syntax.specs.declared.operator.Infix.TheVariants as infixes
+use Rattle.ksv_expr_syntax.specs.declared.token.Precedence.{Precedence}
+use Rattle.ksv_expr_syntax.specs.declared.token.Precedence.TheVariants as tier
+use Rattle.ksv_expr_syntax.specs.declared.token.Infix.{Infix}
+use Rattle.ksv_expr_syntax.specs.declared.token.Infix.TheVariants as infixes
 use Rattle.ksv_expr_tree.specs.Tree.{Constant, Word, Tree, literal, named, special, member, unary, binary, logical, choice, field, special_field, call, index, cast, Arguments, no_arguments, argument, TypeTree}
 use Rattle.ksv_expr_syntax.specs.Lexemes.{Lexeme, constant, word, symbol}
+use Rattle.ksv_expr_syntax.specs.Symbols.{operator, comparison, prefix}
 
 -- ---- limits
 
@@ -73,7 +72,7 @@ path_tokens [] = []
 path_tokens (w ∷ []) = word w ∷ []
 path_tokens (w ∷ v ∷ ws) = word w ∷ symbol tok.ColonColon ∷ path_tokens (v ∷ ws)
 
--- ---- levels and operators
+-- ---- levels
 
 -- the levels of the grammar, from the loosest to the tightest
 pub data Level : Type 0 where
@@ -95,39 +94,6 @@ tighter tier.BitAnd = Joined tier.Shift
 tighter tier.Shift = Joined tier.Sum
 tighter tier.Sum = Joined tier.Term
 tighter tier.Term = Prefix
-
--- the operator of the tier that a token is
-abbrev pub operator : Precedence → Lexeme → Option Infix
-operator tier.Or (symbol tok.Or) = Some (infixes.Logical logicals.Or)
-operator tier.And (symbol tok.And) = Some (infixes.Logical logicals.And)
-operator tier.BitOr (symbol tok.Bar) = Some (infixes.Binary binaries.BitOr)
-operator tier.BitXor (symbol tok.Caret) = Some (infixes.Binary binaries.BitXor)
-operator tier.BitAnd (symbol tok.Ampersand) = Some (infixes.Binary binaries.BitAnd)
-operator tier.Shift (symbol tok.ShiftLeft) = Some (infixes.Binary binaries.ShiftLeft)
-operator tier.Shift (symbol tok.ShiftRight) = Some (infixes.Binary binaries.ShiftRight)
-operator tier.Sum (symbol tok.Plus) = Some (infixes.Binary binaries.Add)
-operator tier.Sum (symbol tok.Minus) = Some (infixes.Binary binaries.Subtract)
-operator tier.Term (symbol tok.Star) = Some (infixes.Binary binaries.Multiply)
-operator tier.Term (symbol tok.Slash) = Some (infixes.Binary binaries.Divide)
-operator tier.Term (symbol tok.Percent) = Some (infixes.Binary binaries.Remainder)
-operator k t = None
-
--- the comparison that a token is
-abbrev pub comparison : Lexeme → Option BinaryOperator
-comparison (symbol tok.Less) = Some binaries.Less
-comparison (symbol tok.LessOrEqual) = Some binaries.LessOrEqual
-comparison (symbol tok.Greater) = Some binaries.Greater
-comparison (symbol tok.GreaterOrEqual) = Some binaries.GreaterOrEqual
-comparison (symbol tok.Equal) = Some binaries.Equal
-comparison (symbol tok.NotEqual) = Some binaries.NotEqual
-comparison t = None
-
--- the prefix operator that a token is, except `not`
-abbrev pub prefix : Lexeme → Option UnaryOperator
-prefix (symbol tok.Minus) = Some unaries.Negate
-prefix (symbol tok.Tilde) = Some unaries.Complement
-prefix (symbol tok.Plus) = Some unaries.Plus
-prefix t = None
 
 -- an operator between two trees
 abbrev pub join_tree : Infix → Tree → Tree → Tree

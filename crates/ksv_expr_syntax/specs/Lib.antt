@@ -1,4 +1,5 @@
 pub mod Lexemes
+pub mod Symbols
 pub mod Grammar
 pub mod Reading
 pub mod Tokens

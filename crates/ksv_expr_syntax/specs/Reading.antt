@@ -7,12 +7,13 @@ use Rattle.ksv_expr_tree.specs.declared.tree.BinaryOperator.{BinaryOperator}
 use Rattle.ksv_expr_syntax.specs.declared.token.Symbol.{Symbol}
 use Rattle.ksv_expr_syntax.specs.declared.token.Symbol.TheVariants as tok
 use Rattle.ksv_expr_syntax.specs.contracts.token.SymbolPartialEq.TheImpl.{ghosts as symbol_tests}
-use Rattle.ksv_expr_syntax.specs.declared.operator.Precedence.{Precedence}
-use Rattle.ksv_expr_syntax.specs.declared.operator.Precedence.TheVariants as tier
-use Rattle.ksv_expr_syntax.specs.declared.operator.Infix.{Infix}
+use Rattle.ksv_expr_syntax.specs.declared.token.Precedence.{Precedence}
+use Rattle.ksv_expr_syntax.specs.declared.token.Precedence.TheVariants as tier
+use Rattle.ksv_expr_syntax.specs.declared.token.Infix.{Infix}
 use Rattle.ksv_expr_tree.specs.Tree.{Tree, literal, member, unary, binary, choice, call, index, cast, Arguments, no_arguments, argument}
+use Rattle.ksv_expr_syntax.specs.Symbols.{operator, comparison, prefix}
 use Rattle.ksv_expr_syntax.specs.Lexemes.{Lexeme, constant, word, symbol}
-use Rattle.ksv_expr_syntax.specs.Grammar.{Level, Whole, Joined, Negation, Comparison, Prefix, Postfix, Primary, tighter, operator, comparison, prefix, join_tree, name_tree, select_tree, is_left_out}
+use Rattle.ksv_expr_syntax.specs.Grammar.{Level, Whole, Joined, Negation, Comparison, Prefix, Postfix, Primary, tighter, join_tree, name_tree, select_tree, is_left_out}
 
 -- what was read at the front, and the tokens after it
 pub record Next (A : Type 0) : Type 0 where

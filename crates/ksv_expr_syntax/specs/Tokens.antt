@@ -10,6 +10,7 @@ use Rattle.ksv_expr_syntax.specs.declared.lexer.Radix.{Radix}
 use Rattle.ksv_expr_syntax.specs.declared.lexer.Radix.TheVariants as radices
 use Rattle.ksv_expr_tree.specs.Tree.{integer, truth, string}
 use Rattle.ksv_expr_syntax.specs.Lexemes.{Lexeme, constant, word, symbol}
+use Rattle.ksv_expr_syntax.specs.Symbols.{spelling, is_word}
 
 -- ---- bytes
 
@@ -123,48 +124,6 @@ pub data IsQuoted : List ℕ → List ℕ → Type 0 where
   plain_byte : {c : ℕ} {cs ds : List ℕ} → c ≢ 34 → c ≢ 92 → IsQuoted cs ds → IsQuoted (c ∷ cs) (c ∷ ds)
   letter_escape : {c u : ℕ} {cs ds : List ℕ} → escape_of c ≡ Some u → IsQuoted cs ds → IsQuoted (92 ∷ c ∷ cs) (encode_utf8 u ++ ds)
   digits_escape : {a b c d u : ℕ} {cs ds : List ℕ} → unicode_of a b c d ≡ Some u → IsQuoted cs ds → IsQuoted (92 ∷ 117 ∷ a ∷ b ∷ c ∷ d ∷ cs) (encode_utf8 u ++ ds)
-
--- ---- symbols
-
-abbrev pub spelling : Symbol → List ℕ
-spelling tok.Plus = codes "+"
-spelling tok.Minus = codes "-"
-spelling tok.Star = codes "*"
-spelling tok.Slash = codes "/"
-spelling tok.Percent = codes "%"
-spelling tok.Tilde = codes "~"
-spelling tok.Ampersand = codes "&"
-spelling tok.Bar = codes "|"
-spelling tok.Caret = codes "^"
-spelling tok.ShiftLeft = codes "<<"
-spelling tok.ShiftRight = codes ">>"
-spelling tok.Less = codes "<"
-spelling tok.LessOrEqual = codes "<="
-spelling tok.Greater = codes ">"
-spelling tok.GreaterOrEqual = codes ">="
-spelling tok.Equal = codes "=="
-spelling tok.NotEqual = codes "!="
-spelling tok.Question = codes "?"
-spelling tok.Colon = codes ":"
-spelling tok.ColonColon = codes "::"
-spelling tok.OpenParenthesis = codes "("
-spelling tok.CloseParenthesis = codes ")"
-spelling tok.OpenBracket = codes "["
-spelling tok.CloseBracket = codes "]"
-spelling tok.Comma = codes ","
-spelling tok.Dot = codes "."
-spelling tok.And = codes "and"
-spelling tok.Or = codes "or"
-spelling tok.Not = codes "not"
-spelling tok.As = codes "as"
-
--- a symbol that is spelled as a name
-abbrev pub is_word : Symbol → Bool
-is_word tok.And = true
-is_word tok.Or = true
-is_word tok.Not = true
-is_word tok.As = true
-is_word s = false
 
 -- ---- a token
 

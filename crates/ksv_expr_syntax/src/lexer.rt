@@ -1,14 +1,14 @@
 //! Cuts a text into tokens, each the longest that the rest of the text begins with.
 
-ghost use Rattle.std.specs.Prelude.{◌≡◌, ◌≢◌, ℕ, suc, ◌+◌, ◌<◌, ◌≤◌, List, [], ◌∷◌, ◌++◌, length, take, drop, take_while, position, slice_index, codes, bytes_eq, ◌==◌, ◌&&◌, ◌*◌, ◌^◌, IsUtf8, Some, None, encode_utf8, OnOk, IfOk, MatchOption, MatchResult};
+ghost use Rattle.std.specs.Prelude.{◌≡◌, ◌≢◌, ◌+◌, ◌<◌, ◌≤◌, [], ◌∷◌, ◌++◌, length, take, drop, take_while, position, slice_index, codes, bytes_eq, ◌==◌, ◌&&◌, ◌*◌, ◌^◌, IsUtf8, Some, None, encode_utf8, OnOk, IfOk, MatchOption, MatchResult};
 ghost use Rattle.ksv_expr_syntax.specs.Lexemes.{lexeme_of};
 ghost use Rattle.ksv_expr_syntax.specs.Tokens.{is_space, is_name_start, is_name_byte, skip, word_lexeme, base, is_digit, digit_value, natural, escape_of, four_digits, is_surrogate, unicode_of, less_follows, is_dot, is_as, mark};
-ghost use Rattle.ksv_expr_syntax.specs.Cutting.{cut_name, radix_of, prefix_size, run, goes_on_as_float, is_left_out_number, cut_number, text_of, cut_single, put, quoted, escaped, unicode, cut_double, two_bytes, one_byte, cut_symbol, cut};
+ghost use Rattle.ksv_expr_syntax.specs.Cutting.{cut_name, radix_of, prefix_size, run, goes_on_as_float, is_left_out_number, cut_number, text_of, cut_single, put, quoted, escaped, unicode, cut_double, cut_symbol, cut};
 ghost use Rattle.ksv_expr_syntax.specs.Code.{GivesCut, GivesQuoted, GivesTokens};
 ghost use Rattle.std.specs.Char.{is_ascii_hexdigit};
 
 use crate::fault::{ExprFault, ExprFaultKind};
-use crate::token::{Placed, Symbol, Token};
+use crate::token::{Placed, Symbol, Token, one_byte_symbol, two_byte_symbol};
 use ksv_expr_tree::Literal;
 use std::alloc::{AllocError, Global};
 
@@ -507,57 +507,6 @@ fn double_token<'a>(alloc: Global, text: &'a [u8]) -> Result<(Token, &'a [u8]), 
 {
     let (bytes, rest) = quoted_bytes(alloc, text)?;
     text_token(alloc, bytes.as_slice(), rest)
-}
-
-/// The symbol of two bytes that these are.
-fn two_byte_symbol(first: u8, second: u8) -> Option<Symbol>
-    ensures { result ≡ two_bytes first second }
-{
-    if first == b'<' && second == b'<' {
-        Some(Symbol::ShiftLeft)
-    } else if first == b'>' && second == b'>' {
-        Some(Symbol::ShiftRight)
-    } else if first == b'<' && second == b'=' {
-        Some(Symbol::LessOrEqual)
-    } else if first == b'>' && second == b'=' {
-        Some(Symbol::GreaterOrEqual)
-    } else if first == b'=' && second == b'=' {
-        Some(Symbol::Equal)
-    } else if first == b'!' && second == b'=' {
-        Some(Symbol::NotEqual)
-    } else if first == b':' && second == b':' {
-        Some(Symbol::ColonColon)
-    } else {
-        None
-    }
-}
-
-/// The symbol of one byte that this is.
-fn one_byte_symbol(byte: u8) -> Option<Symbol>
-    ensures { result ≡ one_byte byte }
-{
-    match byte {
-        b'+' => Some(Symbol::Plus),
-        b'-' => Some(Symbol::Minus),
-        b'*' => Some(Symbol::Star),
-        b'/' => Some(Symbol::Slash),
-        b'%' => Some(Symbol::Percent),
-        b'~' => Some(Symbol::Tilde),
-        b'&' => Some(Symbol::Ampersand),
-        b'|' => Some(Symbol::Bar),
-        b'^' => Some(Symbol::Caret),
-        b'<' => Some(Symbol::Less),
-        b'>' => Some(Symbol::Greater),
-        b'?' => Some(Symbol::Question),
-        b':' => Some(Symbol::Colon),
-        b'(' => Some(Symbol::OpenParenthesis),
-        b')' => Some(Symbol::CloseParenthesis),
-        b'[' => Some(Symbol::OpenBracket),
-        b']' => Some(Symbol::CloseBracket),
-        b',' => Some(Symbol::Comma),
-        b'.' => Some(Symbol::Dot),
-        _ => None,
-    }
 }
 
 /// A symbol.

@@ -17,11 +17,10 @@
 //! - `laws`: the laws of the language
 //! - `lexer`: cuts a text into tokens, each as long as possible
 //! - `make`: expressions as the parser makes them, each with its plain tree
-//! - `operator`: operators: which tokens they are, and how tightly they bind
 //! - `outcome`: expressions from the results of reading their parts, a fault included
 //! - `parser`: reads an expression from front to back, one token ahead
 //! - `read`: the crate's two readers: `parse` and `parse_type`
-//! - `token`: tokens of the expression language
+//! - `token`: tokens: how symbols are written, which operators they are, and how tightly these bind
 //!
 //! Definitions (`specs/`):
 //!
@@ -31,6 +30,7 @@
 //! - `Grammar`: which tokens are which tree, one case a rule
 //! - `Lexemes`: tokens as plain data
 //! - `Reading`: reading one token ahead, with a bound on nested calls
+//! - `Symbols`: symbols: how each is written and found, and which operator it is
 //! - `Text`: what a text spells: its tokens, and their tree within the limits
 //! - `Tokens`: what a token is, which is the longest at a place, and the tokens of a text
 //!
@@ -46,6 +46,7 @@
 //! - `Scan`: cutting a text from front to back gives its tokens
 //! - `Sound`: what is read is spelled
 //! - `Steps`: what follows from a step of reading that found something
+//! - `Symbols`: each symbol is found where it is written, and how tightly tokens bind
 //! - `Theorem`: tokens spell one tree, the one that is read
 #![tactic(auto)]
 
@@ -54,7 +55,6 @@ mod fault;
 mod laws;
 mod lexer;
 mod make;
-mod operator;
 mod outcome;
 mod parser;
 mod read;

@@ -10,8 +10,7 @@ ghost use Rattle.ksv_expr_syntax.specs.declared.fault.ExprFaultKind.TheVariants.
 use crate::cursor::{Rest, expect};
 use crate::fault::ExprFault;
 use crate::make;
-use crate::operator::Infix;
-use crate::token::Symbol;
+use crate::token::{Infix, Symbol};
 use ksv_expr_tree::{Expr, UnaryOperator};
 use std::alloc::{AllocError, Global};
 

@@ -10,11 +10,11 @@ ghost use Rattle.ksv_expr_syntax.specs.Code.{Gives, GivesArms, GivesList, GivesC
 use crate::cursor::{Rest, behind, enter, expect, first, left_out, name, open_group, path, spend};
 use crate::fault::ExprFault;
 use crate::make;
-use crate::operator::{
-    Infix, Operand, Precedence, comparison_operator, infix_operator, operand_of, prefix_operator,
-};
 use crate::outcome::{self, Read};
-use crate::token::{Placed, Symbol, Token};
+use crate::token::{
+    Infix, Operand, Placed, Precedence, Symbol, Token, comparison_operator, infix_operator,
+    operand_of, prefix_operator,
+};
 use ksv_expr_tree::{Expr, Literal, UnaryOperator};
 use std::alloc::Global;
 

@@ -1,7 +1,9 @@
 -- What a plan of an expression gives, by its parts: bytes and streams that it was told of.
 use Rattle.std.proofs.Common.{codes, ℕ, ◌+◌, ◌-◌, ◌==◌, Bool, true, false, nat_lt, if◌then◌else◌, ℤ, pos, negsuc, List, [], ◌∷◌, Option, Some, None, Result, Ok}
 use Rattle.std.proofs.Common.{Err, bytes_eq}
-use Rattle.std.specs.Ordering.{int_eq}
+use Rattle.std.specs.Ordering.{nat_cmp, int_cmp, int_eq}
+use Rattle.std.specs.Cmp.Lexicographic.{slice_cmp}
+use Rattle.std.specs.declared.cmp.Ordering.{Ordering}
 use Rattle.ksv_basics.specs.Plan.{Answer, Fail, Ask, bind}
 use Rattle.ksv_expr_tree.specs.Tree.{Tree, Word, Constant, integer, truth, string, no_arguments, argument, literal, named, special, member, unary, binary}
 use Rattle.ksv_expr_tree.specs.Tree.{logical, choice, field, special_field, call, index, cast}
@@ -24,10 +26,10 @@ use Rattle.ksv_expr_value.specs.declared.value.Value.{Value}
 use Rattle.ksv_expr_value.specs.declared.value.Value.TheVariants as values
 use Rattle.ksv_expr_meaning.specs.declared.want.Want.{Want}
 use Rattle.ksv_expr_meaning.specs.declared.want.Want.TheVariants as wants
-use Rattle.ksv_expr_meaning.specs.Integers.{floored_quotient, floored_remainder, shifted_left, shifted_right, places}
+use Rattle.ksv_expr_meaning.specs.Integers.{calculated}
 use Rattle.ksv_expr_meaning.specs.Methods.{method_named}
 use Rattle.ksv_expr_meaning.specs.Texts.{joined, substring, text_number, number_of, written_in}
-use Rattle.ksv_expr_meaning.specs.Operators.{exactly, shifted_left_by, shifted_right_by, matched, integers_of, same_truth, joined_text, texts_of, members_of}
+use Rattle.ksv_expr_meaning.specs.Operators.{exactly, matched, ordered, ranged_value, compared, integers_of, same_truth, joined_text, texts_of, members_of}
 use Rattle.ksv_expr_meaning.specs.Operators.{unary_of, as_value, substring_of}
 use Rattle.ksv_expr_meaning.specs.Heard.{Heard, Valued, Opened}
 use Rattle.ksv_expr_meaning.specs.Asked.{Eval, given, in_opened, value_for, opened_for, number_for, truth_for, bytes_for}
@@ -131,36 +133,30 @@ module _ (S : Stream → Type 0) (B : ℕ → ℕ → Type 0) where
   exactly_ranges None = tt
   exactly_ranges (Some z) = tt
 
-  left_ranges : (a : ℤ) (n : Option ℕ) → RangedResult (shifted_left_by a n)
-  left_ranges a None = tt
-  left_ranges a (Some n) = exactly_ranges (ranged (shifted_left a n))
-
-  right_ranges : (a : ℤ) (n : Option ℕ) → RangedResult (shifted_right_by a n)
-  right_ranges a None = tt
-  right_ranges a (Some n) = exactly_ranges (ranged (shifted_right a n))
-
   matched_ranges : (op : BinaryOperator) (b : Bool) → RangedResult (matched op b)
   matched_ranges operators.Equal b = tt
   matched_ranges operators.NotEqual b = tt
   matched_ranges _ b = tt
 
+  ordered_ranges : (op : BinaryOperator) (o : Ordering) → RangedResult (ordered op o)
+  ordered_ranges operators.Less o = tt
+  ordered_ranges operators.LessOrEqual o = tt
+  ordered_ranges operators.Greater o = tt
+  ordered_ranges operators.GreaterOrEqual o = tt
+  ordered_ranges _ o = tt
+
+  compared_ranges : (op : BinaryOperator) (a b : ℤ) → RangedResult (compared op a b)
+  compared_ranges operators.Equal a b = tt
+  compared_ranges operators.NotEqual a b = tt
+  compared_ranges op a b = ordered_ranges op (int_cmp a b)
+
   integers_range : (op : BinaryOperator) (a b : ℤ) → RangedResult (integers_of op a b)
-  integers_range operators.Add a b = exactly_ranges _
-  integers_range operators.Subtract a b = exactly_ranges _
-  integers_range operators.Multiply a b = exactly_ranges _
-  integers_range operators.Divide a b = choose_result (int_eq b (pos 0)) _ _ tt (exactly_ranges (ranged (floored_quotient a b)))
-  integers_range operators.Remainder a b = choose_result (int_eq b (pos 0)) _ _ tt (exactly_ranges (ranged (floored_remainder a b)))
-  integers_range operators.ShiftLeft a b = left_ranges a (places b)
-  integers_range operators.ShiftRight a b = right_ranges a (places b)
-  integers_range operators.BitAnd a b = exactly_ranges _
-  integers_range operators.BitXor a b = exactly_ranges _
-  integers_range operators.BitOr a b = exactly_ranges _
-  integers_range operators.Equal a b = tt
-  integers_range operators.NotEqual a b = tt
-  integers_range operators.Less a b = tt
-  integers_range operators.LessOrEqual a b = tt
-  integers_range operators.Greater a b = tt
-  integers_range operators.GreaterOrEqual a b = tt
+  integers_range op a b = by_result (calculated op a b)
+    where
+      by_result : (o : Option (Result ℤ FaultKind)) → RangedResult (elim o [ Some r ↦ ranged_value r | None ↦ compared op a b ])
+      by_result None = compared_ranges op a b
+      by_result (Some (Ok z)) = exactly_ranges (ranged z)
+      by_result (Some (Err k)) = tt
 
   joined_ranges : (t : Option (List ℕ)) → RangedResult (joined_text t)
   joined_ranges None = tt
@@ -170,11 +166,7 @@ module _ (S : Stream → Type 0) (B : ℕ → ℕ → Type 0) where
   texts_range operators.Add a b = joined_ranges (joined a b)
   texts_range operators.Equal a b = tt
   texts_range operators.NotEqual a b = tt
-  texts_range operators.Less a b = tt
-  texts_range operators.LessOrEqual a b = tt
-  texts_range operators.Greater a b = tt
-  texts_range operators.GreaterOrEqual a b = tt
-  texts_range _ a b = tt
+  texts_range op a b = ordered_ranges op (slice_cmp nat_cmp a b)
 
   unary_ranges : (op : UnaryOperator) (v : Value) → RangedResult (unary_of op v)
   unary_ranges signs.Negate (values.Int a) = exactly_ranges _

@@ -8,8 +8,8 @@ use Rattle.ksv_expr_syntax.specs.Grammar.{Whole, Joined, Negation, Comparison, P
 use Rattle.ksv_expr_syntax.specs.Reading.{found, found_list, next, ◌>>=◌, read}
 use Rattle.ksv_expr_syntax.specs.Code.{Gives, level_of, arms_at, right_at, list_at, place_at, literal_at, word_at, with_tree, closing}
 use Rattle.ksv_expr_syntax.specs.declared.token.Symbol.TheVariants as tok
-use Rattle.ksv_expr_syntax.specs.declared.operator.Precedence.TheVariants as tier
-use Rattle.ksv_expr_syntax.specs.declared.operator.Infix.TheVariants as infixes
+use Rattle.ksv_expr_syntax.specs.declared.token.Precedence.TheVariants as tier
+use Rattle.ksv_expr_syntax.specs.declared.token.Infix.TheVariants as infixes
 use Rattle.ksv_expr_syntax.proofs.Exits.{ListNow, moved, moved_next, gives_is, gives_arms, within_more, arguments_push, condition_fails, only_condition}
 use Rattle.ksv_expr_syntax.proofs.Exits.{arms_begin, arms_fail, arms_first, left_fails, join_start, join_end, join_step, not_here, not_enters, compare_fails}
 use Rattle.ksv_expr_syntax.proofs.Exits.{compare_only, compare_step, prefix_here, prefix_enters, postfix_fails, suffix_start, suffix_end, suffix_go, list_none}
