@@ -1,18 +1,13 @@
 -- Tables of places: for each key the place of the first element that passes the key's test. They are made from the last element on.
-use Rattle.std.proofs.Common.{◌≡◌, ℕ, suc, ◌+◌, ◌<◌, Bool, true, false, cond, List, [], ◌∷◌, map, length, get_or, drop, Option, Some, None, slice_get, refl}
+use Rattle.std.proofs.Common.{◌≡◌, ℕ, suc, ◌+◌, ◌<◌, Bool, true, false, cond, List, [], ◌∷◌, map, length, get_or, drop, Option, Some, slice_get, refl}
 use Rattle.std.proofs.Common.{sym, ap, ◌∙◌, arith, add-one, drop-cons}
 use Rattle.std.specs.Prelude.{find, option_map, option_and_then}
 use Rattle.std.specs.List.{position_from}
-use Rattle.std.proofs.lemmas.List.{drop_all}
 
 module _ {A K : Type 0} (test : K → A → Bool) (xs : List A) where
   -- a table finds the elements from the place k on
   abbrev pub AreFirstFrom : ℕ → (K → Option ℕ) → Type 0
   AreFirstFrom k table = (key : K) → table key ≡ position_from (test key) k (drop k xs)
-
-  -- of no elements
-  pub none_yet : (k : ℕ) (table : K → Option ℕ) → k ≡ length xs → ((key : K) → table key ≡ None) → AreFirstFrom k table
-  none_yet k table all empty = λ key. empty key ∙ sym (ap (position_from (test key) k) (drop_all k xs (omega (arith, all))))
 
   -- of one element more, in front of those
   pub one_before : (k j : ℕ) (x : A) (table more : K → Option ℕ) → k ≡ suc j → j < length xs → x ≡ get_or xs j x

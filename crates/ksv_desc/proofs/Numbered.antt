@@ -3,7 +3,6 @@ use Rattle.std.proofs.Common.{◌≡◌, ℕ, suc, ◌<◌, cond, List, [], map,
 use Rattle.std.specs.Prelude.{find, option_map, option_and_then}
 use Rattle.std.specs.Ordering.{int_eq}
 use Rattle.std.specs.Cmp.{int_eq_equiv}
-use Rattle.std.specs.Map.{lookup}
 use Rattle.std.specs.HashMap.{HashMap, get}
 use Rattle.ksv_desc.specs.declared.enums.EnumEntry.{EnumEntry}
 use Rattle.ksv_desc.specs.Pieces.{plain_entry}
@@ -14,9 +13,6 @@ module _ {S : Type 0} (entries : List EnumEntry) where
   -- a table has the places of the entries from k on
   abbrev pub AreFirstFrom : ℕ → HashMap ℤ ℕ S → Type 0
   AreFirstFrom k places = firsts.AreFirstFrom has_number entries k (get int_eq places)
-
-  pub none_yet : (k : ℕ) (places : HashMap ℤ ℕ S) → k ≡ length entries → places.entries ≡ [] → AreFirstFrom k places
-  none_yet k places all empty = firsts.none_yet has_number entries k _ all (λ number. ap (λ (es : List (ℤ × ℕ)). lookup (int_eq number) es) empty)
 
   pub one_before : (k j : ℕ) (entry : EnumEntry) (places more : HashMap ℤ ℕ S) → k ≡ suc j → j < length entries → entry ≡ get_or entries j entry
       → Puts places more entry.number j → AreFirstFrom k places → AreFirstFrom j more

@@ -63,13 +63,6 @@ module _ {S : Type 0} (names : List (List ℕ)) (m : HashMap (String Global) ℕ
         ∙ position_last (bytes_eq b) 0 names b (there h ∙ sym lacks) (same_is b) ∙ ap Some (omega arith))
     by_test w false is = h.found w ∙ sym (position_other (bytes_eq w) 0 names b (turned w b ∙ is))
 
-  -- nothing was added
-  pub unchanged : (n : HashMap (String Global) ℕ S) → AreNumbered names m → n.entries ≡ m.entries → AreNumbered names n
-  unchanged n h same = record {
-    few = h.few;
-    found = λ w. ap (λ (es : List (String Global × ℕ)). lookup (λ k. bytes_eq w (string_bytes k)) es) same ∙ h.found w;
-  }
-
 -- ---- a text that was added
 
 -- what a call ensures that gave no error

@@ -149,6 +149,23 @@ member_id d e number = option_and_then (λ x. option_map (λ m. m.id) (find (λ 
 abbrev pub number_of_name : Description → List ℕ → Option ℕ
 number_of_name d text = position_from (bytes_eq text) 0 (take d.known d.names)
 
+-- how a member reads, where it is one that reads
+abbrev pub field_in : MemberKind → Option Field
+field_in Parameter = None
+field_in (Attribute f) = Some f
+field_in (ParseInstance p s f) = Some f
+field_in (ValueInstance v) = None
+
+-- how the member at a place of a type's members reads
+abbrev pub field_at : Description → ℕ → ℕ → Option Field
+field_at d t place = option_and_then (λ m. field_in m.kind) (slice_get (option_map_or (λ x. x.members) (slice_get d.types t) []) place)
+
+-- what was read, by the place of the case that a switch chose; where it chose none, bytes were
+abbrev pub content_by : Choice → Option ℕ → Option Content
+content_by (Always c) case = Some c
+content_by (Switch on cases) None = Some Bytes
+content_by (Switch on cases) (Some i) = option_map (λ c. c.content) (slice_get cases i)
+
 -- what a member's value, or each element of it, must meet
 abbrev pub valid_of : MemberKind → Option Valid
 valid_of Parameter = None

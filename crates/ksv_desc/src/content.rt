@@ -1,7 +1,9 @@
 //! What is read at a member.
 
-ghost use Rattle.std.specs.Prelude.{◌≡◌};
-ghost use Rattle.ksv_desc.specs.Description.{is_truth};
+ghost use Rattle.std.specs.Option.{option_map_or};
+ghost use Rattle.std.specs.Prelude.{◌≡◌, option_map};
+ghost use Rattle.ksv_desc.specs.Description.{Bytes, content_by, is_truth};
+ghost use Rattle.ksv_desc.specs.Pieces.{plain_choice, plain_content};
 
 use crate::order::ByteOrder;
 use ksv_expr_tree::{EnumMember, Expr, Literal};
@@ -85,4 +87,24 @@ pub enum Choice {
         /// The cases in the order of the text.
         cases: Vec<Case>,
     },
+}
+
+impl Choice {
+    /// What was read, by the place of the case that a switch chose. `Some(None)` is bytes, which are read where a switch chose no case;
+    /// None is that there is no such case.
+    #[inline(always)]
+    pub fn content(&self, case: Option<u32>) -> Option<Option<&Content>>
+        ensures { option_map (λ content. option_map_or (λ c. plain_content c.now) content Bytes) result ≡ content_by (plain_choice self.now) case }
+    {
+        match self {
+            Choice::Always(content) => Some(Some(content)),
+            Choice::Switch { cases, .. } => {
+                let Some(place) = case else {
+                    return Some(None);
+                };
+                let found = cases.get(place as usize)?;
+                Some(Some(&found.content))
+            }
+        }
+    }
 }

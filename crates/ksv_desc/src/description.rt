@@ -1,12 +1,13 @@
 //! A whole description.
 
 ghost use Rattle.std.specs.Prelude.{◌≡◌, map, option_map, slice_get};
-ghost use Rattle.ksv_desc.specs.Description.{name, type_id, members, fields, enum_id, member_id, number_of_name};
+ghost use Rattle.ksv_desc.specs.Description.{name, type_id, members, fields, enum_id, field_at, member_id, number_of_name};
 ghost use Rattle.ksv_desc.specs.Resolved.{IsResolved};
-ghost use Rattle.ksv_desc.specs.Pieces.{plain_type, plain_enum};
+ghost use Rattle.ksv_desc.specs.Pieces.{plain_type, plain_enum, plain_field};
 ghost use Rattle.ksv_desc.specs.Whole.{plain_pieces};
 
 use crate::enums::EnumDesc;
+use crate::field::Field;
 use crate::pieces::Pieces;
 use crate::type_desc::TypeDesc;
 use std::marker::Model;
@@ -133,6 +134,16 @@ impl Desc {
         ensures { option_map (λ t. plain_type t.now) result ≡ slice_get (plain_pieces self.now).types number }
     {
         self.pieces.types.get(number as usize)
+    }
+
+    /// How the attribute or parse instance at a place of a type's members reads.
+    #[inline(always)]
+    pub fn field(&self, type_number: u32, place: u32) -> Option<&Field>
+        ensures { option_map (λ field. plain_field field.now) result ≡ field_at (plain_pieces self.now) type_number place }
+    {
+        let found = self.type_desc(type_number)?;
+        let member = found.members().get(place as usize)?;
+        member.kind.field()
     }
 
     /// Its types, by their numbers.

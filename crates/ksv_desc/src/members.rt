@@ -35,8 +35,21 @@ pub enum MemberKind {
 
 impl MemberKind {
     ghost use Rattle.std.specs.Prelude.{◌≡◌, option_map};
-    ghost use Rattle.ksv_desc.specs.Description.{valid_of};
-    ghost use Rattle.ksv_desc.specs.Pieces.{plain_valid, plain_kind};
+    ghost use Rattle.ksv_desc.specs.Description.{field_in, valid_of};
+    ghost use Rattle.ksv_desc.specs.Pieces.{plain_field, plain_valid, plain_kind};
+
+    /// How it reads, if it is one that reads.
+    #[inline(always)]
+    pub(crate) fn field(&self) -> Option<&Field>
+        ensures { option_map (λ field. plain_field field.now) result ≡ field_in (plain_kind self.now) }
+    {
+        match self {
+            MemberKind::Attribute(field) => Some(field),
+            MemberKind::ParseInstance { field, .. } => Some(field),
+            MemberKind::Parameter => None,
+            MemberKind::ValueInstance { .. } => None,
+        }
+    }
 
     /// What its value, or each element of it, must meet.
     pub fn valid(&self) -> Option<&Valid>

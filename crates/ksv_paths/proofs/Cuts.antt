@@ -1,24 +1,19 @@
 -- Where the first part of a text ends that is cut at certain bytes.
 use Rattle.std.proofs.Common.{◌≡◌, ◌∙◌, ◌+◌, ◌<◌, ◌≤◌, length, take, drop, Some, None, arith, inl, inr, ℕ, Bool, cond, List, [], ◌∷◌, true, false, ap, sym}
 use Rattle.std.proofs.Common.{refl}
-use Rattle.std.specs.Prelude.{nat_lt, position}
+use Rattle.std.specs.Prelude.{position}
 use Rattle.std.specs.List.{onto_first, position_or_len, slice_split}
 use Rattle.std.proofs.lemmas.Bool.{cases_lt, lt-ltb}
-use Rattle.std.proofs.lemmas.Bool.Decides.{nat_tests}
+use Rattle.std.proofs.lemmas.Option.{same_Some}
 use Rattle.std.proofs.lemmas.List.Splits.{slice_split_first, slice_split_none}
 use Rattle.std.proofs.lemmas.List.Sums.{fails_before_first}
-
-not_below : (m n : ℕ) → n ≤ m → nat_lt m n ≡ false
-not_below m n h = grind (arith, nat_tests)
-
-pub some_is : {A : Type 0} (x y : A) → Some x ≡ Some y → x ≡ y
-some_is x y h = cc
+use Rattle.ksv_paths.proofs.Digits.{not_below}
 
 -- where an element that passes is found, it is the first; where none is, none passes
 pub found_at : {X : Type 0} (p : X → Bool) (xs : List X) (n : ℕ) → position p xs ≡ Some n → (position_or_len p xs ≡ n) × (n < length xs)
 found_at p xs n h = elim (cases_lt (position_or_len p xs) (length xs)) [
   | inl lt ↦
-      let is : position_or_len p xs ≡ n = some_is _ _ (sym (rw (lt-ltb _ _ lt) refl) ∙ h) in
+      let is : position_or_len p xs ≡ n = same_Some _ _ (sym (rw (lt-ltb _ _ lt) refl) ∙ h) in
       (is, omega arith)
   | inr ge ↦
       let none : position p xs ≡ None = rw (not_below (position_or_len p xs) (length xs) ge) refl in

@@ -1,6 +1,6 @@
 -- The text of a path whose names are those of members, read, gives the path again.
 use Rattle.std.proofs.Common.{◌≡◌, ◌∙◌, ℕ, zero, suc, ◌+◌, ◌^◌, ◌<◌, ◌≤◌, Bool, true, false, cond, if◌then◌else◌, List, [], ◌∷◌, ◌++◌, length, get_or, map}
-use Rattle.std.proofs.Common.{reverse, take, Some, None, refl, sym, ap, subst, arith, rules, inl, inr, append-nil, length-append}
+use Rattle.std.proofs.Common.{reverse, take, Some, None, refl, sym, ap, subst, arith, inl, inr, append-nil, length-append}
 use Rattle.std.specs.Prelude.{◌==◌, ◌||◌, not, decimal, slice_get, slice_index, unwrap_or, option_map, option_and_then}
 use Rattle.std.specs.Char.{is_ascii_digit}
 use Rattle.std.specs.Cmp.{first_so, second_so}
@@ -17,7 +17,6 @@ use Rattle.std.proofs.lemmas.Option.{slice_get-get_or, unwrap_or-slice_get}
 use Rattle.std.proofs.lemmas.Slice.Eq.{bytes_eq-Decides}
 use Rattle.std.proofs.lemmas.Str.{IsUtf8-from_ascii, is_utf8-from_IsUtf8}
 use Rattle.std.proofs.lemmas.Str.Ascii.{IsAscii-from_all}
-use Rattle.std.proofs.lemmas.Str.Parse.{IsNumeralModel, numerals_by_value}
 use Rattle.ksv_expr_value.specs.Trail.{root, same_trail, step_fits, all_fit}
 use Rattle.ksv_expr_value.specs.declared.step.Step.{Step}
 use Rattle.ksv_expr_value.specs.declared.step.Step.TheVariants.{Index, Name}
@@ -27,6 +26,7 @@ use Rattle.ksv_desc.proofs.Readers.{found_in_front}
 use Rattle.ksv_paths.specs.PathTexts.{step_text, steps_text, or_slash, decimal_of, below_limit, index_of, name_of, name_or_index, step_of, in_front}
 use Rattle.ksv_paths.specs.PathTexts.{behind_step, steps_of, is_slash, path_of_steps, path_named}
 use Rattle.ksv_paths.specs.Laws.{is_letter, is_id_byte, is_id, HasIds, IsKnown, PathsAreRead}
+use Rattle.ksv_paths.proofs.Digits.{digits}
 use Rattle.ksv_paths.proofs.PathTexts.{path_is}
 
 -- ---- bytes
@@ -131,9 +131,6 @@ module _ (d : Description) (table : HasIds d) where
       by_test : (b : Bool) → option_and_then (number_of_name d) (cond b (Some text) None) ≡ None
       by_test true = none
       by_test false = refl
-
-digits : IsNumeralModel (λ ds. list_all is_ascii_digit ds ≡ true) (digits_value 10)
-digits = numerals_by_value _ (search rules)
 
 -- a number has no zero in front, unless it is 0
 plain : (i : ℕ) → i < 2 ^ 64 → (length (decimal i) == 1 || not (slice_index (decimal i) 0 == 48)) ≡ true

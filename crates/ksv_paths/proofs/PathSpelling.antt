@@ -1,6 +1,6 @@
 -- A text that names a path is the text of that path.
 use Rattle.std.proofs.Common.{◌≡◌, ◌∙◌, ℕ, suc, zero, ◌+◌, ◌^◌, ◌<◌, Bool, true, false, cond, List, [], ◌∷◌, ◌++◌, length, get_or, reverse, take, Option, Some}
-use Rattle.std.proofs.Common.{None, refl, sym, ap, arith, rules}
+use Rattle.std.proofs.Common.{None, refl, sym, ap, arith}
 use Rattle.std.specs.Prelude.{◌&&◌, ◌||◌, ◌==◌, not, nat_lt, decimal, slice_get, slice_index, option_map, option_and_then, unwrap_or}
 use Rattle.std.specs.Char.{is_ascii_digit}
 use Rattle.std.specs.List.{list_all, flat_map, onto_first, position_from, slice_split}
@@ -11,26 +11,21 @@ use Rattle.std.proofs.lemmas.Bool.Decides.{nat_tests}
 use Rattle.std.proofs.lemmas.Fmt.{decimal-digits_value}
 use Rattle.std.proofs.lemmas.List.{reverse-reverse}
 use Rattle.std.proofs.lemmas.Slice.Eq.{bytes_eq-Decides}
-use Rattle.std.proofs.lemmas.Str.Parse.{IsNumeralModel, numerals_by_value}
 use Rattle.ksv_expr_value.specs.Trail.{Trail, trail_of-steps, root}
 use Rattle.ksv_expr_value.specs.declared.step.Step.{Step}
 use Rattle.ksv_expr_value.specs.declared.step.Step.TheVariants.{Index, Name}
 use Rattle.ksv_desc.specs.Description.{Description, as_text, name, number_of_name}
 use Rattle.ksv_paths.specs.PathTexts.{step_text, steps_text, or_slash, path_text, decimal_of, below_limit, index_of, name_of, name_or_index, step_of}
 use Rattle.ksv_paths.specs.PathTexts.{behind_step, steps_of, is_slash, path_of_steps, path_behind, TextsAreWritten}
+use Rattle.std.proofs.lemmas.Option.{same_Some}
 use Rattle.ksv_paths.proofs.Cuts.{HasFirst, split_has_first}
+use Rattle.ksv_paths.proofs.Digits.{digits}
 
 is_empty : {A : Type 0} (xs : List A) → (length xs == 0) ≡ true → xs ≡ []
 is_empty [] e = refl
 is_empty (x ∷ xs) e = absurd (grind (arith, nat_tests))
 
 -- ---- an index
-
-digits : IsNumeralModel (λ ds. list_all is_ascii_digit ds ≡ true) (digits_value 10)
-digits = numerals_by_value _ (search rules)
-
-some_is : {A : Type 0} (x y : A) → Some x ≡ Some y → x ≡ y
-some_is x y h = cc
 
 -- digits of a number below 2^64
 record IsDecimal (text : List ℕ) (i : ℕ) : Type 0 where
@@ -45,7 +40,7 @@ decimal_is text i h = by_test (list_all is_ascii_digit text) (nat_lt 0 (length t
     by_test : (a b c : Bool) → list_all is_ascii_digit text ≡ a → nat_lt 0 (length text) ≡ b → nat_lt (digits_value 10 text) (2 ^ 64) ≡ c
         → cond (a && (b && c)) (Some (digits_value 10 text)) None ≡ Some i → IsDecimal text i
     by_test true true true p q r e =
-        record { digits = p; some = ltb-true 0 (length text) q; small = ltb-true (digits_value 10 text) (2 ^ 64) r; value = some_is _ _ e }
+        record { digits = p; some = ltb-true 0 (length text) q; small = ltb-true (digits_value 10 text) (2 ^ 64) r; value = same_Some _ _ e }
     by_test true true false p q r e = absurd (cc)
     by_test true false c p q r e = absurd (cc)
     by_test false b c p q r e = absurd (cc)
@@ -85,7 +80,7 @@ place_is text (x ∷ xs) (suc m) i k h = by_test (bytes_eq text x) refl h (place
   where
     by_test : (b : Bool) → bytes_eq text x ≡ b → cond b (Some i) (position_from (bytes_eq text) (i + 1) (take m xs)) ≡ Some k
         → (position_from (bytes_eq text) (i + 1) (take m xs) ≡ Some k → IsPlace text xs (i + 1) k) → IsPlace text (x ∷ xs) i k
-    by_test true e found later = let same : i ≡ k = some_is i k found in record { offset = 0; is = omega arith; there = sym ((bytes_eq-Decides text x).0 e) }
+    by_test true e found later = let same : i ≡ k = same_Some i k found in record { offset = 0; is = omega arith; there = sym ((bytes_eq-Decides text x).0 e) }
     by_test false e found later = let p = later found in record { offset = suc p.offset; is = omega (arith, p.is); there = p.there }
 
 name_is : (d : Description) (text : List ℕ) (n : ℕ) → name_of d text ≡ Some n → name d n ≡ text
@@ -105,11 +100,11 @@ step_is : (d : Description) (piece : List ℕ) (step : Step) → step_of d piece
 step_is d piece step h = by_name (name_of d piece) refl h
   where
     by_index : (o : Option ℕ) → index_of piece ≡ o → option_map Index o ≡ Some step → step_text d step ≡ 47 ∷ piece
-    by_index (Some i) is e = let same : Index i ≡ step = some_is (Index i) step e in rw (← same) (ap (λ t. 47 ∷ t) (sym (index_is piece i is)))
+    by_index (Some i) is e = let same : Index i ≡ step = same_Some (Index i) step e in rw (← same) (ap (λ t. 47 ∷ t) (sym (index_is piece i is)))
     by_index None is e = absurd (cc)
 
     by_name : (o : Option ℕ) → name_of d piece ≡ o → name_or_index o piece ≡ Some step → step_text d step ≡ 47 ∷ piece
-    by_name (Some n) is e = let same : Name n ≡ step = some_is (Name n) step e in rw (← same) (ap (λ t. 47 ∷ t) (name_is d piece n is))
+    by_name (Some n) is e = let same : Name n ≡ step = same_Some (Name n) step e in rw (← same) (ap (λ t. 47 ∷ t) (name_is d piece n is))
     by_name None is e = by_index (index_of piece) refl e
 
 -- pieces, each after a slash
@@ -117,7 +112,7 @@ abbrev joined : List (List ℕ) → List ℕ
 joined pieces = flat_map (λ piece. 47 ∷ piece) pieces
 
 steps_are : (d : Description) (pieces : List (List ℕ)) (steps : List Step) → steps_of d pieces ≡ Some steps → steps_text d steps ≡ joined pieces
-steps_are d [] steps h = let same : ◌≡◌ {A = List Step} [] steps = some_is [] steps h in rw (← same) refl
+steps_are d [] steps h = let same : ◌≡◌ {A = List Step} [] steps = same_Some [] steps h in rw (← same) refl
 steps_are d (piece ∷ rest) steps h = by_step (step_of d piece) (steps_of d rest) refl refl h (steps_are d rest)
   where
     by_step : (o : Option Step) (q : Option (List Step)) → step_of d piece ≡ o → steps_of d rest ≡ q → behind_step o q ≡ Some steps
@@ -125,7 +120,7 @@ steps_are d (piece ∷ rest) steps h = by_step (step_of d piece) (steps_of d res
     by_step None q is are e later = absurd (cc)
     by_step (Some step) None is are e later = absurd (cc)
     by_step (Some step) (Some others) is are e later =
-        let same : step ∷ others ≡ steps = some_is (step ∷ others) steps e in
+        let same : step ∷ others ≡ steps = same_Some (step ∷ others) steps e in
         rw (← same) (ap (λ t. t ++ steps_text d others) (step_is d piece step is) ∙ ap (λ t. (47 ∷ piece) ++ t) (later others are))
 
 -- ---- the pieces between slashes
@@ -169,7 +164,7 @@ texts_are_written d (c ∷ text) p h = by_slash (is_slash c) refl h
     by_end : (b : Bool) → (length text == 0) ≡ b → cond b (Some root) (path_of_steps (steps_of d (slice_split is_slash text))) ≡ Some p
         → 47 ∷ text ≡ path_text d p
     by_end true e h' =
-        let same : root ≡ p = some_is root p h' in
+        let same : root ≡ p = same_Some root p h' in
         let none : text ≡ [] = is_empty text e in
         rw (none, ← same) refl
     by_end false e h' = behind_is_written d text p h'

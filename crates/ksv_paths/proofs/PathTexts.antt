@@ -5,7 +5,7 @@ use Rattle.std.specs.Prelude.{◌==◌, is_some, IsSome, MatchOption, option_cop
 use Rattle.std.proofs.lemmas.Bool.{cases_lt}
 use Rattle.std.specs.Borrow.{Bor}
 use Rattle.std.specs.List.{slice_split}
-use Rattle.std.proofs.lemmas.List.{append-nil, append_assoc, length-append, length-reverse}
+use Rattle.std.proofs.lemmas.List.{append_assoc, length-append, length-reverse}
 use Rattle.ksv_expr_value.specs.Trail.{Trail, fits, step_fits, trail_of, trail_of-true, trail_of-false, length-fits, fits-more}
 use Rattle.ksv_expr_value.specs.declared.step.Step.{Step}
 use Rattle.ksv_expr_value.proofs.Paths.{fits-push}
@@ -40,11 +40,6 @@ steps_more d front piece rest step is = rw is (by_rest (steps_of d rest))
     by_rest (Some steps) = ap Some (sym (append_assoc front (step ∷ []) steps))
     by_rest None = refl
 
--- a text that names no step
-pub steps_none : (d : Description) (front : List Step) (piece : List ℕ) (rest : List (List ℕ)) → step_of d piece ≡ None
-    → path_of_steps (behind_steps front (steps_of d (piece ∷ rest))) ≡ None
-steps_none d front piece rest is = rw is refl
-
 -- more than 64 steps are those of no path
 pub no_path : (steps : List Step) → 64 < length steps → path_of_steps (Some steps) ≡ None
 no_path steps many = trail_of-false (reverse steps) (by_fit (fits (reverse steps)) refl)
@@ -67,9 +62,6 @@ pub fits_pushed : (steps : List Step) (step : Step) → fits (reverse steps) ≡
     → fits (reverse (steps ++ step ∷ [])) ≡ true
 fits_pushed steps step h in_range few = fits-push steps step (steps ++ step ∷ []) refl
     (fits-more step (reverse steps) in_range h (omega (arith, length-reverse steps)))
-
-pub steps_end : (front : List Step) → behind_steps front (Some []) ≡ Some front
-steps_end front = ap Some (append-nil front)
 
 -- the path of steps that fit
 pub path_is : (steps : List Step) (p : Trail) → p.upward ≡ reverse steps → path_of_steps (Some steps) ≡ Some p

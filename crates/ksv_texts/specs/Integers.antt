@@ -1,6 +1,6 @@
 -- The integers that a file holds: which integer a leaf holds, which numbers one of whole bytes can hold, and its bytes.
-use Rattle.std.specs.Prelude.{ℕ, zero, suc, ◌-◌, ◌*◌, ◌/◌, ◌%◌, ◌^◌, nat_le, Bool, ◌&&◌, ℤ, pos, negsuc, neg_ℤ, int_le, int_lt, List, [], ◌∷◌, reverse, Option, Some, None, option_map, option_and_then, slice_get, if◌then◌else◌}
-use Rattle.ksv_desc.specs.Description.{Description, MemberKind, Attribute, ParseInstance, Field, Content, Number, Bits, is_truth, Choice, Always, Switch}
+use Rattle.std.specs.Prelude.{ℕ, zero, suc, ◌-◌, ◌*◌, ◌/◌, ◌%◌, ◌^◌, nat_le, Bool, ◌&&◌, ℤ, pos, negsuc, neg_ℤ, int_le, int_lt, List, [], ◌∷◌, reverse, Option, Some, None, option_and_then, if◌then◌else◌}
+use Rattle.ksv_desc.specs.Description.{Description, Content, Number, Bits, is_truth, field_at, content_by}
 use Rattle.ksv_desc.specs.declared.order.ByteOrder.{ByteOrder}
 use Rattle.ksv_desc.specs.declared.order.ByteOrder.TheVariants.{Big, Little}
 use Rattle.ksv_nodes.specs.declared.given.Leaf.{Leaf}
@@ -24,23 +24,9 @@ type_in (Number signed size order enum) = if nat_le size 8 then Some (OfBytes (r
 type_in (Bits width enum) = if is_truth width enum then None else Some OfBits
 type_in _ = None
 
--- what was read, by the case that a switch chose; where it chose none, bytes were
-abbrev pub content_in : Choice → Option ℕ → Option Content
-content_in (Always c) case = Some c
-content_in (Switch on cases) (Some i) = option_map (λ c. c.content) (slice_get cases i)
-content_in (Switch on cases) None = None
-
-abbrev pub field_in : MemberKind → Option Field
-field_in (Attribute f) = Some f
-field_in (ParseInstance e io f) = Some f
-field_in _ = None
-
--- how the member reads by which the leaf is there
-abbrev pub field_at : Description → Leaf → Option Field
-field_at d l = option_and_then (λ t. option_and_then (λ m. field_in m.kind) (slice_get t.members l.origin.member.member)) (slice_get d.types l.origin.member.type_number)
-
+-- by what the leaf's member reads, and the case that a switch chose
 unfoldable pub number_type : Description → Leaf → Option NumberType
-number_type d l = option_and_then (λ f. option_and_then type_in (content_in f.choice l.origin.case)) (field_at d l)
+number_type d l = option_and_then (λ f. option_and_then type_in (content_by f.choice l.origin.case)) (field_at d l.origin.member.type_number l.origin.member.member)
 
 -- ---- the bytes of an integer
 

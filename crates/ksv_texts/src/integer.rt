@@ -1,12 +1,12 @@
 //! The integers that a file holds: their types, and their bytes.
 ghost use Rattle.std.specs.Prelude.{◌≡◌, ◌≤◌, ◌^◌, ◌*◌, IsTrue, IfSome, option_map, pos};
-ghost use Rattle.ksv_desc.specs.Pieces.{plain_choice, plain_content, plain_field, plain_kind};
+ghost use Rattle.ksv_desc.specs.Pieces.{plain_content};
 ghost use Rattle.ksv_desc.specs.Whole.{plain_pieces};
-ghost use Rattle.ksv_texts.specs.Integers.{as_unsigned, content_in, field_at, field_in, holds, integer_bytes, little_endian, number_type, type_in, value_count};
+ghost use Rattle.ksv_texts.specs.Integers.{as_unsigned, holds, integer_bytes, little_endian, number_type, type_in, value_count};
 ghost use Rattle.ksv_texts.specs.Seen.{IsSmall, number_of_leaf, type_of};
 
 use arrayvec::ArrayVec;
-use ksv_desc::{ByteOrder, Choice, Content, Desc, Field, MemberKind, is_truth};
+use ksv_desc::{ByteOrder, Content, Desc, is_truth};
 use ksv_expr_value::Integer;
 use ksv_nodes::Leaf;
 
@@ -64,48 +64,15 @@ fn type_in(content: &Content) -> Option<NumberType>
     }
 }
 
-/// What was read; of a switch, by the case that it chose.
-fn content_in(choice: &Choice, case: Option<u32>) -> Option<&Content>
-    ensures { option_map (λ content. plain_content content.now) result ≡ content_in (plain_choice choice.now) case }
-{
-    match choice {
-        Choice::Always(content) => Some(content),
-        Choice::Switch { cases, .. } => {
-            let found = cases.get(case? as usize)?;
-            Some(&found.content)
-        }
-    }
-}
-
-/// How a member is read; None for a value instance, which is calculated.
-fn field_in(kind: &MemberKind) -> Option<&Field>
-    ensures { option_map (λ field. plain_field field.now) result ≡ field_in (plain_kind kind.now) }
-{
-    match kind {
-        MemberKind::Attribute(field) => Some(field),
-        MemberKind::ParseInstance { field, .. } => Some(field),
-        _ => None,
-    }
-}
-
-/// How the member was read that a leaf belongs to.
-fn field_at(desc: &Desc, leaf: Leaf) -> Option<&Field>
-    ensures { option_map (λ field. plain_field field.now) result ≡ field_at (plain_pieces desc.now) leaf }
-{
-    let member = leaf.origin.member;
-    let holder = desc.type_desc(member.type_number)?;
-    let found = holder.members().get(member.member as usize)?;
-    field_in(&found.kind)
-}
-
 /// The type of the integer that a leaf holds, if it holds one.
 #[tactic(auto, unfolding(crate::specs::Integers::number_type))]
 pub fn number_type(desc: &Desc, leaf: Leaf) -> Option<NumberType>
     ensures found { option_map number_of_leaf result ≡ number_type (plain_pieces desc.now) leaf }
     ensures small { IfSome result IsSmall }
 {
-    let field = field_at(desc, leaf)?;
-    type_in(content_in(&field.choice, leaf.origin.case.get())?)
+    let member = leaf.origin.member;
+    let field = desc.field(member.type_number, member.member)?;
+    type_in(field.choice.content(leaf.origin.case.get())??)
 }
 
 // ---- the bytes of an integer

@@ -1,9 +1,8 @@
-use Rattle.std.proofs.Common.{◌≡◌, ◌∙◌, ◌+◌, ◌*◌, ◌/◌, ◌%◌, ◌^◌, ◌<◌, ◌≤◌, length, ap, subst, arith}
+use Rattle.std.proofs.Common.{◌≡◌, ◌∙◌, ◌*◌, ◌^◌, ◌<◌, ◌≤◌, length, ap, arith}
 use Rattle.std.proofs.Math.Nat.{mod-le}
-use Rattle.ksv_expr_value.specs.Bits.{number_of, bits_of}
 use Rattle.ksv_expr_value.specs.Bytes.{content}
 use Rattle.ksv_expr_value.specs.Places.{bits_between, bits_left}
-use Rattle.ksv_texts.proofs.Among.{HasRoom, few_bits, few_numbers, has_room, replaced}
+use Rattle.ksv_texts.proofs.Among.{few_bits, few_numbers, has_room, replaced}
 use Rattle.ksv_texts.proofs.bits.replaced_number.Goals as goal
 
 pub power-unit-requires : goal.power-unit-requires
