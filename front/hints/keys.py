@@ -61,7 +61,7 @@ PLACES: Dict[str, str] = {
     **dict.fromkeys(schema.FIELD.split()[:-1], "it is a key of an attribute or instance"),
     "valid": "only an attribute or instance has it",
     "parent": "leave it out, `_parent` is always the object that holds this one",
-    **dict.fromkeys(("process", "pad-right"), "it is a key of an attribute, and isn't read: leave it out"),
+    **dict.fromkeys(schema.LEFT_OUT["attribute"], "it is a key of an attribute, and isn't read: leave it out"),
 }
 
 
@@ -369,7 +369,7 @@ def attribute_exclusions(node: Node, at: Dict[str, int]) -> Iterator[Tuple[int, 
     for key in schema.AGAINST_CONTENTS:
         if "contents" in at and key in at:
             yield min(at["contents"], at[key]), say("beside contents", key=key)
-    sizes = [it for it in ("size", "size-eos", "terminator") if it in at and (it != "size-eos" or is_eos)]
+    sizes = [it for it in schema.AGAINST_INTEGER if it in at and (it != "size-eos" or is_eos)]
     kind, cases = node.said("type"), node.get("type").get("cases") if node.has("type") and node.get("type").kind == "map" else None
     for key in sizes:
         said = "size-eos: true" if key == "size-eos" else key

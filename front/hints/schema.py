@@ -26,9 +26,10 @@ LEFT_OUT: Dict[str, Tuple[str, ...]] = {
     "meta": ("imports", "ks-opaque-types"), "attribute": ("process", "pad-right"), "instance": ("process", "pad-right"), "value": ("process", "pad-right"),
     "valid": ("in-enum",),
 }
-# What can't be beside `value`, and beside `contents`.
+# What can't be beside `value`, beside `contents`, and beside an integer.
 AGAINST_VALUE = ("pos", "io", "type", "size", "repeat")
 AGAINST_CONTENTS = ("type", "size", "size-eos", "terminator", "enum", "valid")
+AGAINST_INTEGER = ("size", "size-eos", "terminator")
 # The kinds of what is in a key of a mapping, and of the items of a list; `*` is each key.
 BELOW = {
     ("type", "meta"): "meta", ("type", "params"): "params", ("type", "seq"): "seq", ("type", "types"): "types", ("type", "instances"): "instances",

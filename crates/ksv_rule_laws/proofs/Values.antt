@@ -40,9 +40,10 @@ use Rattle.ksv_nodes.proofs.First.{first_at_below}
 use Rattle.ksv_rule_meaning.specs.Choosing.{content_of}
 use Rattle.ksv_rule_meaning.specs.Fields.{members_of, field_of, kind_of}
 use Rattle.ksv_rule_meaning.specs.Integers.{integer_value}
-use Rattle.ksv_rule_meaning.specs.Values.{in_number, number_value, of_bits, bits_value, fixed_value, cut_by, kept_of, kept, cut_bytes, bytes_value, in_text}
-use Rattle.ksv_rule_meaning.specs.Values.{cut_text, text_value, content_value, leaf_value, value_at, given_by, arguments_for, in_no_stream, plain_value}
-use Rattle.ksv_rule_meaning.specs.Values.{parameter_value, instance_value, value_of, calculated, in_enum, argument_at, calc_value, argument_value}
+use Rattle.ksv_rule_meaning.specs.Values.{in_number, number_value, of_bits, bits_value, fixed_value, cut_by, kept_of, kept_by, is_cut, kept, cut_bytes}
+use Rattle.ksv_rule_meaning.specs.Values.{bytes_value, in_text, cut_text, text_value, content_value, leaf_value, value_at, given_by, arguments_for}
+use Rattle.ksv_rule_meaning.specs.Values.{in_no_stream, plain_value, parameter_value, instance_value, value_of, calculated, in_enum, argument_at, calc_value}
+use Rattle.ksv_rule_meaning.specs.Values.{argument_value}
 use Rattle.ksv_rule_laws.proofs.Rules.{Answers, join, either, so, asked_head, exact}
 use Rattle.ksv_rule_laws.proofs.Members.{field_found, kind_found, content_found}
 use Rattle.ksv_rule_laws.proofs.Checking.{value_meets}
@@ -119,42 +120,42 @@ module _ (met : Node → Result Given NodeFault) (here : Trail) (bytes : List �
     fixed_fits wanted = after _ _ (peek (byte_of l.from) (byte_of l.to)) _ (peeked (byte_of l.from) (byte_of l.to))
         (λ bs is. test _ (bytes_eq bs wanted) _ _ (λ e. (refl, omega arith)) (λ e. tt))
 
-    kept_below : (t : Terminator) (bs : List ℕ) → kept t bs ≤ length bs
-    unfolding kept
-    kept_below t bs = by_place (first_at t.byte bs) t.is_included refl
+    kept_below : (t : Option Terminator) (bs : List ℕ) → kept_by t bs ≤ length bs
+    kept_below None bs = omega arith
+    kept_below (Some t) bs = by_place (first_at t.byte bs) t.is_included refl
       where
         by_place : (o : Option ℕ) (b : Bool) → first_at t.byte bs ≡ o → kept_of (record t { is_included = b }) bs o ≤ length bs
         by_place None b e = omega arith
         by_place (Some i) true e = omega (arith, first_at_below t.byte bs i e)
         by_place (Some i) false e = omega (arith, first_at_below t.byte bs i e)
 
-    bytes_fit : (t : Option Terminator) → Says (IsOfLeaf l) (bytes_value l t)
-    unfolding bytes_value cut_bytes
-    bytes_fit None = (refl, omega arith)
-    bytes_fit (Some t) = after _ _ (peek (byte_of l.from) (byte_of l.to)) _ (peeked (byte_of l.from) (byte_of l.to))
-        (λ bs is. (refl, omega (arith, kept_below t bs, is)))
+    bytes_fit : (f : Field) → Says (IsOfLeaf l) (bytes_value l f)
+    unfolding bytes_value cut_bytes kept
+    bytes_fit f = test _ (is_cut f) _ _
+        (λ e. after _ _ (peek (byte_of l.from) (byte_of l.to)) _ (peeked (byte_of l.from) (byte_of l.to)) (λ bs is.
+        (refl, omega (arith, kept_below (cut_by f.extent f.terminator) bs, is))))
+        (λ e. (refl, omega arith))
 
     in_text_fits : (t : Option (List ℕ)) → Says (IsOfLeaf l) (in_text t)
     in_text_fits None = tt
     in_text_fits (Some t) = tt
 
-    text_fits : (encoding : Encoding) (t : Option Terminator) → Says (IsOfLeaf l) (text_value l encoding t)
+    text_fits : (encoding : Encoding) (f : Field) → Says (IsOfLeaf l) (text_value l encoding f)
     unfolding text_value
-    text_fits encoding t = after _ _ (peek (byte_of l.from) (byte_of l.to)) _ (peeked (byte_of l.from) (byte_of l.to))
-        (λ bs is. in_text_fits (decoded encoding (cut_text t bs)))
+    text_fits encoding f = after _ _ (peek (byte_of l.from) (byte_of l.to)) _ (peeked (byte_of l.from) (byte_of l.to))
+        (λ bs is. in_text_fits (decoded encoding (cut_text f bs)))
 
     any_width : (c : Content) (p : Rule Value) → Says (IsOfLeaf l) p → Says (λ v. IsAsWide c l → IsOfLeaf l v) p
     any_width c p h = hence _ _ p h (λ v fits wide. fits)
 
     content_fits : (f : Field) (c : Content) → Says (λ v. IsAsWide c l → IsOfLeaf l v) (content_value l f c)
     unfolding content_value
-    content_fits f contents.Bytes = any_width contents.Bytes (bytes_value l (cut_by f.extent f.terminator)) (bytes_fit (cut_by f.extent f.terminator))
+    content_fits f contents.Bytes = any_width contents.Bytes (bytes_value l f) (bytes_fit f)
     content_fits f (contents.Fixed bs) = any_width (contents.Fixed bs) (fixed_value l bs) (fixed_fits bs)
     content_fits f (contents.Number signed size order enum) =
         any_width (contents.Number signed size order enum) (number_value l signed order enum) (number_fits signed order enum)
     content_fits f (contents.Bits width enum) = bits_fit width enum
-    content_fits f (contents.Characters encoding) = any_width (contents.Characters encoding) (text_value l encoding (cut_by f.extent f.terminator))
-        (text_fits encoding (cut_by f.extent f.terminator))
+    content_fits f (contents.Characters encoding) = any_width (contents.Characters encoding) (text_value l encoding f) (text_fits encoding f)
     content_fits f (contents.Object t given) = tt
 
   module _ (d : Description) where

@@ -1,6 +1,6 @@
 -- The value of what is at a path: integers, bits, bytes and texts, value instances and parameters as the Kaitai Struct User Guide
 -- has them, objects and lists by their path.
-use Rattle.std.specs.Prelude.{ℕ, zero, suc, ◌+◌, nat_le, ◌==◌, Bool, not, ℤ, pos, List, length, take, Option, Some, None, if◌then◌else◌}
+use Rattle.std.specs.Prelude.{ℕ, zero, suc, ◌+◌, nat_le, ◌==◌, Bool, not, ℤ, pos, List, length, take, Option, Some, None, is_some, if◌then◌else◌}
 use Rattle.std.specs.Str.{bytes_eq}
 use Rattle.ksv_basics.specs.Plan.{Answer, ◌>>=◌}
 use Rattle.ksv_desc.specs.declared.order.ByteOrder.{ByteOrder}
@@ -82,40 +82,45 @@ abbrev pub kept_of : Terminator → List ℕ → Option ℕ → ℕ
 kept_of t bytes None = length bytes
 kept_of t bytes (Some i) = if t.is_included then i + 1 else i
 
--- how many of the bytes are kept
-unfoldable pub kept : Terminator → List ℕ → ℕ
-kept t bytes = kept_of t bytes (first_at t.byte bytes)
+abbrev pub kept_by : Option Terminator → List ℕ → ℕ
+kept_by None bytes = length bytes
+kept_by (Some t) bytes = kept_of t bytes (first_at t.byte bytes)
+
+-- whether the bytes of an attribute or instance may be cut, and how many of them are its value
+abbrev pub is_cut : Field → Bool
+is_cut f = is_some (cut_by f.extent f.terminator)
+
+unfoldable pub kept : Field → List ℕ → ℕ
+kept f bytes = kept_by (cut_by f.extent f.terminator) bytes
 
 -- the range of bytes; where they may be cut they are read
-unfoldable pub cut_bytes : Leaf → Terminator → Rule Value
-cut_bytes l t = do
+unfoldable pub cut_bytes : Leaf → Field → Rule Value
+cut_bytes l f = do
   bs ← peek (byte_of l.from) (byte_of l.to)
-  Answer (values.Bytes (byte_of l.from) (byte_of l.from + kept t bs))
+  Answer (values.Bytes (byte_of l.from) (byte_of l.from + kept f bs))
 
-unfoldable pub bytes_value : Leaf → Option Terminator → Rule Value
-bytes_value l None = Answer (values.Bytes (byte_of l.from) (byte_of l.to))
-bytes_value l (Some t) = cut_bytes l t
+unfoldable pub bytes_value : Leaf → Field → Rule Value
+bytes_value l f = if is_cut f then cut_bytes l f else Answer (values.Bytes (byte_of l.from) (byte_of l.to))
 
 -- a text; bytes that spell none are the fault bad-text
 abbrev pub in_text : Option (List ℕ) → Rule Value
 in_text None = raise kinds.BadText
 in_text (Some t) = Answer (values.Text t)
 
-abbrev pub cut_text : Option Terminator → List ℕ → List ℕ
-cut_text None bytes = bytes
-cut_text (Some t) bytes = take (kept t bytes) bytes
+abbrev pub cut_text : Field → List ℕ → List ℕ
+cut_text f bytes = if is_cut f then take (kept f bytes) bytes else bytes
 
-unfoldable pub text_value : Leaf → Encoding → Option Terminator → Rule Value
-text_value l encoding t = do
+unfoldable pub text_value : Leaf → Encoding → Field → Rule Value
+text_value l encoding f = do
   bs ← peek (byte_of l.from) (byte_of l.to)
-  in_text (decoded encoding (cut_text t bs))
+  in_text (decoded encoding (cut_text f bs))
 
 unfoldable pub content_value : Leaf → Field → Content → Rule Value
-content_value l f contents.Bytes = bytes_value l (cut_by f.extent f.terminator)
+content_value l f contents.Bytes = bytes_value l f
 content_value l f (contents.Fixed bs) = fixed_value l bs
 content_value l f (contents.Number signed size order enum) = number_value l signed order enum
 content_value l f (contents.Bits width enum) = bits_value l width enum
-content_value l f (contents.Characters encoding) = text_value l encoding (cut_by f.extent f.terminator)
+content_value l f (contents.Characters encoding) = text_value l encoding f
 content_value l f (contents.Object t given) = raise kinds.NoSuch
 
 unfoldable pub leaf_value : Description → Leaf → Rule Value

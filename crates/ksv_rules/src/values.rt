@@ -10,7 +10,7 @@ ghost use Rattle.ksv_desc.specs.Pieces.{plain_content, plain_extent, plain_field
 ghost use Rattle.ksv_desc.specs.Whole.{plain_pieces};
 ghost use Rattle.ksv_nodes.specs.Rule.{peek};
 ghost use Rattle.ksv_nodes.specs.Turning.{Runs};
-ghost use Rattle.ksv_rule_meaning.specs.Values.{as_member, in_number, number_in, number_value, of_bits, bits_in, bits_value, fixed_value, cut_by, kept, cut_bytes, bytes_value, in_text, cut_text, text_value, content_value, leaf_value, value_at, value_of};
+ghost use Rattle.ksv_rule_meaning.specs.Values.{as_member, in_number, number_in, number_value, of_bits, bits_in, bits_value, fixed_value, cut_by, is_cut, kept_by, kept, cut_bytes, bytes_value, in_text, cut_text, text_value, content_value, leaf_value, value_at, value_of};
 
 use crate::calculated::calculated;
 use crate::checks::value_checked;
@@ -185,13 +185,22 @@ fn cut_by(extent: &Extent, terminator: Option<Terminator>) -> Option<Terminator>
     }
 }
 
-/// How many of the bytes are kept.
-#[tactic(auto, unfolding(ksv_rule_meaning::specs::Values::kept))]
-fn kept(terminator: Terminator, parts: Parts) -> usize
+/// Whether the bytes of an attribute or instance may be cut.
+fn is_cut(field: &Field) -> bool
+    ensures { result ≡ is_cut (plain_field field.now) }
+{
+    cut_by(&field.extent, field.terminator).is_some()
+}
+
+/// How many of the bytes are kept before the first terminator, or up to it where it is included.
+fn kept_by(terminator: Option<Terminator>, parts: Parts) -> usize
     requires { length (content parts) < 4294967296 }
-    ensures kept { result ≡ kept (plain_terminator terminator) (content parts.entry) }
+    ensures kept { result ≡ kept_by (option_map plain_terminator terminator) (content parts.entry) }
     ensures inside { result ≤ length (content parts.entry) }
 {
+    let Some(terminator) = terminator else {
+        return len_of(parts);
+    };
     match first_in_parts(parts, terminator.byte) {
         None => len_of(parts),
         Some(place) => {
@@ -204,13 +213,23 @@ fn kept(terminator: Terminator, parts: Parts) -> usize
     }
 }
 
-/// The range of bytes, up to a terminator.
+/// How many of the bytes of an attribute or instance are its value.
+#[tactic(auto, unfolding(ksv_rule_meaning::specs::Values::kept))]
+fn kept(field: &Field, parts: Parts) -> usize
+    requires { length (content parts) < 4294967296 }
+    ensures kept { result ≡ kept (plain_field field.now) (content parts.entry) }
+    ensures inside { result ≤ length (content parts.entry) }
+{
+    kept_by(cut_by(&field.extent, field.terminator), parts)
+}
+
+/// The range of bytes, as far as they are the value.
 #[tactic(auto, using(ksv_basics::proofs::Running::run_bind), unfolding(ksv_rule_meaning::specs::Values::cut_bytes))]
-fn cut_bytes(turn: &mut Turn, leaf: Leaf, terminator: Terminator) -> Result<Value, Halt>
-    ensures { Runs (cut_bytes leaf (plain_terminator terminator)) (λ value. value) turn.old turn.new result }
+fn cut_bytes(turn: &mut Turn, leaf: Leaf, field: &Field) -> Result<Value, Halt>
+    ensures { Runs (cut_bytes leaf (plain_field field.now)) (λ value. value) turn.old turn.new result }
 {
     let bytes = bytes_of(turn, &leaf)?;
-    let kept = kept(terminator, bytes);
+    let kept = kept(field, bytes);
     let from = leaf.from.byte();
     Ok(Value::Bytes {
         from,
@@ -220,16 +239,16 @@ fn cut_bytes(turn: &mut Turn, leaf: Leaf, terminator: Terminator) -> Result<Valu
 
 /// The range of bytes; where they may be cut they are read.
 #[tactic(auto, unfolding(ksv_rule_meaning::specs::Values::bytes_value))]
-fn bytes_value(turn: &mut Turn, leaf: Leaf, terminator: Option<Terminator>) -> Result<Value, Halt>
-    ensures { Runs (bytes_value leaf (option_map plain_terminator terminator)) (λ value. value) turn.old turn.new result }
+fn bytes_value(turn: &mut Turn, leaf: Leaf, field: &Field) -> Result<Value, Halt>
+    ensures { Runs (bytes_value leaf (plain_field field.now)) (λ value. value) turn.old turn.new result }
 {
-    match terminator {
-        None => Ok(Value::Bytes {
-            from: leaf.from.byte(),
-            to: leaf.to.byte(),
-        }),
-        Some(terminator) => cut_bytes(turn, leaf, terminator),
+    if is_cut(field) {
+        return cut_bytes(turn, leaf, field);
     }
+    Ok(Value::Bytes {
+        from: leaf.from.byte(),
+        to: leaf.to.byte(),
+    })
 }
 
 /// A text; bytes that spell none are a fault.
@@ -242,29 +261,24 @@ fn in_text(turn: &mut Turn, text: Option<Text>) -> Result<Value, Halt>
     }
 }
 
-/// The bytes of a text, up to a terminator.
-fn cut_text(terminator: Option<Terminator>, parts: Parts) -> Parts
+/// The bytes of a text, as far as they are the value.
+fn cut_text<'a>(field: &Field, parts: Parts<'a>) -> Parts<'a>
     requires { length (content parts) < 4294967296 }
-    ensures { content result ≡ cut_text (option_map plain_terminator terminator) (content parts.entry) }
+    ensures { content result ≡ cut_text (plain_field field.now) (content parts.entry) }
 {
-    match terminator {
-        None => parts,
-        Some(terminator) => cut(parts, kept(terminator, parts)),
+    if is_cut(field) {
+        return cut(parts, kept(field, parts));
     }
+    parts
 }
 
 /// The text of a leaf.
 #[tactic(auto, using(ksv_basics::proofs::Running::run_bind), unfolding(ksv_rule_meaning::specs::Values::text_value))]
-fn text_value(
-    turn: &mut Turn,
-    leaf: Leaf,
-    encoding: Encoding,
-    terminator: Option<Terminator>,
-) -> Result<Value, Halt>
-    ensures { Runs (text_value leaf encoding (option_map plain_terminator terminator)) (λ value. value) turn.old turn.new result }
+fn text_value(turn: &mut Turn, leaf: Leaf, encoding: Encoding, field: &Field) -> Result<Value, Halt>
+    ensures { Runs (text_value leaf encoding (plain_field field.now)) (λ value. value) turn.old turn.new result }
 {
     let bytes = bytes_of(turn, &leaf)?;
-    let text = encoding.decode(turn.alloc(), cut_text(terminator, bytes))?;
+    let text = encoding.decode(turn.alloc(), cut_text(field, bytes))?;
     in_text(turn, text)
 }
 
@@ -278,7 +292,7 @@ fn content_value(
     ensures { Runs (content_value leaf (plain_field field.now) (plain_content content.now)) (λ value. value) turn.old turn.new result }
 {
     match content {
-        Content::Bytes => bytes_value(turn, leaf, cut_by(&field.extent, field.terminator)),
+        Content::Bytes => bytes_value(turn, leaf, field),
         Content::Fixed(bytes) => fixed_value(turn, leaf, bytes),
         Content::Number {
             is_signed,
@@ -287,10 +301,7 @@ fn content_value(
             ..
         } => number_value(turn, leaf, *is_signed, *order, *enumeration),
         Content::Bits { width, enumeration } => bits_value(turn, &leaf, *width, *enumeration),
-        Content::Characters(encoding) => {
-            let terminator = cut_by(&field.extent, field.terminator);
-            text_value(turn, leaf, *encoding, terminator)
-        }
+        Content::Characters(encoding) => text_value(turn, leaf, *encoding, field),
         Content::Object { .. } => turn.raise(FaultKind::NoSuch),
     }
 }
@@ -306,7 +317,7 @@ fn known_value(
     ensures { Runs (content_value leaf (plain_field field.now) (option_map_or (λ c. plain_content c.now) content.entry Bytes)) (λ value. value) turn.old turn.new result }
 {
     match content {
-        None => bytes_value(turn, leaf, cut_by(&field.extent, field.terminator)),
+        None => bytes_value(turn, leaf, field),
         Some(content) => content_value(turn, leaf, field, content),
     }
 }

@@ -181,7 +181,7 @@ in_valid c (AnyOf conditions) = AnyOf (map (in_tree c) conditions)
 in_valid c (AllOf conditions) = AllOf (map (in_tree c) conditions)
 
 abbrev pub in_field : Context → Field → Field
-in_field c f = record { condition = option_map (in_tree c) f.condition; repeat = in_repeat c f.repeat; choice = in_choice c f.choice; extent = in_extent c f.extent; terminator = f.terminator; valid = option_map (in_valid c) f.valid }
+in_field c f = record f { condition = option_map (in_tree c) f.condition; repeat = in_repeat c f.repeat; choice = in_choice c f.choice; extent = in_extent c f.extent; valid = option_map (in_valid c) f.valid }
 
 abbrev pub in_kind : Context → MemberKind → MemberKind
 in_kind c Parameter = Parameter

@@ -58,7 +58,7 @@ use Rattle.ksv_rule_meaning.specs.Checks.{meets_one, meets_each, meets, with_val
 use Rattle.ksv_rule_meaning.specs.Choosing.{Chosen, switched, choose, in_case, content_of}
 use Rattle.ksv_rule_meaning.specs.Wanted.{whole, in_object, wanted, expression, in_integer, in_truth, integer_of, truth_of, holds, in_size, size_of, in_stream, stream_for}
 use Rattle.ksv_rule_meaning.specs.Integers.{integer_value}
-use Rattle.ksv_rule_meaning.specs.Values.{in_number, number_in, number_value, of_bits, bits_value, fixed_value, cut_by, cut_bytes, bytes_value, in_text, cut_text, text_value, content_value, leaf_value, in_no_stream, in_enum, instance_value, given_by, arguments_for, argument_at, argument_setting, plain_value, argument_value, parameter_value, calc_value, calculated, value_at, value_of}
+use Rattle.ksv_rule_meaning.specs.Values.{in_number, number_in, number_value, of_bits, bits_value, fixed_value, is_cut, cut_bytes, bytes_value, in_text, cut_text, text_value, content_value, leaf_value, in_no_stream, in_enum, instance_value, given_by, arguments_for, argument_at, argument_setting, plain_value, argument_value, parameter_value, calc_value, calculated, value_at, value_of}
 use Rattle.ksv_rule_meaning.specs.Ends.{stream_end, fields_end, object_end, part_rest, list_end, absent_end, place_of, start_of, behind_element, is_last, is_by_bytes, not_empty, element_end, end_at, end_of, next_rest, rest_behind, rest_from, in_whole_list, first_rest, whole_rest, rest_at, rest_of}
 use Rattle.ksv_rule_meaning.specs.Meaning.{meaning_of, rule_of}
 use Rattle.ksv_rule_meaning.specs.Heads.{leaf, bits_leaf, leaf_to_end, terminated_at, terminated, run_of, sized_leaf, bytes_at, sized_object, object_at, content_at, unchosen_at, chosen_at, shape_at, in_count, count_of, counted, until_eos, repeated, attribute_at, part_end, attribute_start, attribute_head, positioned_in, positioned, instance_head, value_head, member_at, member_head, in_list, is_past, in_next, next_start, element_start, element_head, head_at, head_of}
@@ -469,30 +469,29 @@ fixed_nodes : (l : Leaf) (expected : List ℕ) → NodesAtMost 0 (fixed_value l 
 unfolding fixed_value
 fixed_nodes l expected = nodes_join (peek (byte_of l.from) (byte_of l.to)) _ 0 0 0 (omega arith) (λ bs. tt) (λ bs. nodes_if (bytes_eq bs expected) 0 _ _ tt tt)
 
-cut_nodes : (l : Leaf) (t : Terminator) → NodesAtMost 0 (cut_bytes l t)
+cut_nodes : (l : Leaf) (f : Field) → NodesAtMost 0 (cut_bytes l f)
 unfolding cut_bytes
-cut_nodes l t = nodes_join (peek (byte_of l.from) (byte_of l.to)) _ 0 0 0 (omega arith) (λ bs. tt) (λ bs. tt)
+cut_nodes l f = nodes_join (peek (byte_of l.from) (byte_of l.to)) _ 0 0 0 (omega arith) (λ bs. tt) (λ bs. tt)
 
-bytes_value_nodes : (l : Leaf) (t : Option Terminator) → NodesAtMost 0 (bytes_value l t)
+bytes_value_nodes : (l : Leaf) (f : Field) → NodesAtMost 0 (bytes_value l f)
 unfolding bytes_value
-bytes_value_nodes l None = tt
-bytes_value_nodes l (Some t) = cut_nodes l t
+bytes_value_nodes l f = nodes_if (is_cut f) 0 _ _ (cut_nodes l f) tt
 
 in_text_nodes : (t : Option (List ℕ)) → NodesAtMost 0 (in_text t)
 in_text_nodes None = tt
 in_text_nodes (Some t) = tt
 
-text_nodes : (l : Leaf) (encoding : Encoding) (t : Option Terminator) → NodesAtMost 0 (text_value l encoding t)
+text_nodes : (l : Leaf) (encoding : Encoding) (f : Field) → NodesAtMost 0 (text_value l encoding f)
 unfolding text_value
-text_nodes l encoding t = nodes_join (peek (byte_of l.from) (byte_of l.to)) _ 0 0 0 (omega arith) (λ bs. tt) (λ bs. in_text_nodes (decoded encoding (cut_text t bs)))
+text_nodes l encoding f = nodes_join (peek (byte_of l.from) (byte_of l.to)) _ 0 0 0 (omega arith) (λ bs. tt) (λ bs. in_text_nodes (decoded encoding (cut_text f bs)))
 
 content_value_nodes : (l : Leaf) (f : Field) (c : Content) → NodesAtMost 0 (content_value l f c)
 unfolding content_value
-content_value_nodes l f contents.Bytes = bytes_value_nodes l (cut_by f.extent f.terminator)
+content_value_nodes l f contents.Bytes = bytes_value_nodes l f
 content_value_nodes l f (contents.Fixed bs) = fixed_nodes l bs
 content_value_nodes l f (contents.Number signed size order enum) = number_nodes l signed order enum
 content_value_nodes l f (contents.Bits width enum) = bits_nodes l width enum
-content_value_nodes l f (contents.Characters encoding) = text_nodes l encoding (cut_by f.extent f.terminator)
+content_value_nodes l f (contents.Characters encoding) = text_nodes l encoding f
 content_value_nodes l f (contents.Object t given) = tt
 
 -- what asks nothing goes on
