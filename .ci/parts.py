@@ -38,10 +38,12 @@ EARLY = (
     Part("dry", ("{top}/edits/run", "--dry")),
     Part("named", ("{top}/.ci/named",)),
     Part("rows", ("{top}/tools/rows/run", "--check")),
+    Part("patches", ("{top}/docs/changes/run", "--files")),
     Part("kit", ("{top}/edits/run", "--self")),
 )
 PROOFS = Part("rt", ("rt", "ci"))
 EDITS = Part("edits", ("{top}/edits/run", "--gate", "--over", "{copy}", "--rt", "{log}"))
+CHANGES = Part("changes", ("{top}/docs/changes/run", "--some", "{commit}", "--over", "{copy}"))
 # Through the program that was proved: parts of one process each, that run side by side.
 TOGETHER = (
     Part("examples", ("{copy}/examples/run",)),
@@ -64,7 +66,7 @@ ALONE = (
     Part("self", ("{top}/.ci/self", "--some", "{commit}", "--over", "{copy}")),
 )
 LATE = (*TOGETHER, *ALONE)
-PARTS = (*EARLY, PROOFS, EDITS, *LATE)
+PARTS = (*EARLY, PROOFS, EDITS, CHANGES, *LATE)
 # What can be started and is no part: the gate itself, and what is run by hand.
 TOOLS = (".ci/gate", ".ci/run", ".ci/times", "bench/run", "tools/build/run")
 
@@ -140,7 +142,8 @@ def misplaced(top: str) -> list[str]:
 def runs_at(top: str) -> list[str]:
     """The folders in which a file `run` is a part or a tool."""
     above = [f"{top}/{name}" for name in sorted(os.listdir(top)) if os.path.isdir(f"{top}/{name}") and not name.startswith(".")]
-    return [*above, *(f"{top}/tools/{name}" for name in sorted(os.listdir(f"{top}/tools")))]
+    inside = [f"{top}/{within}/{name}" for within in ("docs", "tools") for name in sorted(os.listdir(f"{top}/{within}"))]
+    return [*above, *inside]
 
 
 # The parts that run at present.
