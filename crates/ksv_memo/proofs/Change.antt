@@ -1,11 +1,14 @@
 -- What stays right when the bytes change.
-use Rattle.std.proofs.Common.{◌≡◌, ℕ, zero, suc, ◌+◌, ◌≤◌, Bool, true, false, List, [], ◌∷◌, ◌++◌, refl, sym, ◌∙◌, ap, subst, nat_eq, arith, ◌||◌, get_or}
-use Rattle.std.specs.List.{AllByRecursion}
-use Rattle.std.proofs.lemmas.List.Elements.{All-from_recursion, recursion_from_All, All-contains, Contains-get_or}
+use Rattle.std.proofs.Common.{◌≡◌, ℕ, zero, suc, ◌+◌, ◌<◌, ◌≤◌, ◌↔◌, Bool, true, false, List, [], ◌∷◌, ◌++◌, length, refl, sym, ◌∙◌, ap, subst, nat_eq, arith}
+use Rattle.std.proofs.Common.{◌||◌, Any, Contains}
+use Rattle.std.specs.List.{AllByRecursion, list_any, flat_map}
+use Rattle.std.proofs.lemmas.Bool.{or_parts}
+use Rattle.std.proofs.lemmas.List.Elements.{All-from_recursion, All-contains}
 use Rattle.ksv_bytes.specs.declared.uses.Change.{Change}
-use Rattle.ksv_bytes.specs.Uses.{AgreeOn, CanUse, Touches, Makes}
-use Rattle.ksv_bytes.proofs.Untouched.{untouched-keeps}
+use Rattle.ksv_bytes.specs.Uses.{AgreeOn, CanUse, Touches, Makes, is_use_touched}
+use Rattle.ksv_bytes.proofs.Untouched.{use_touched, untouched_use, untouched-keeps}
 use Rattle.ksv_bytes.specs.declared.uses.Use.{Use}
+use Rattle.ksv_bytes.specs.declared.uses.Use.TheVariants.{Bytes}
 use Rattle.ksv_memo_rules.specs.declared.rules.Next.{Next}
 use Rattle.ksv_memo_rules.specs.declared.rules.Next.TheVariants.{Need, Done}
 use Rattle.ksv_memo_rules.specs.declared.rules.Outcome.{Outcome}
@@ -13,13 +16,14 @@ use Rattle.ksv_memo_rules.specs.declared.rules.Outcome.TheVariants.{Answered, Ci
 use Rattle.ksv_memo_rules.specs.Meaning.{Standing, IsSettled}
 use Rattle.ksv_memo_rules.specs.Evaluation.{is_among, Told, after, with_reply, with_step, told, eval, IsAnswered, completed, tells}
 use Rattle.ksv_memo_rules.specs.Entry.{Entry}
-use Rattle.ksv_memo_rules.specs.Right.{nodes_of, HasEachOnce, IsRightEntry, IsRight}
-use Rattle.ksv_memo.specs.Running.{made}
+use Rattle.ksv_memo_rules.specs.Right.{nodes_of, StandsIn, IsRight}
+use Rattle.ksv_memo_rules.specs.Touched.{tree, is_hit, is_touched}
 use Rattle.ksv_memo_rules.specs.Meaning.{Meaning, IsLawful, on}
 use Rattle.ksv_memo_rules.proofs.Standing.{law_on}
-use Rattle.ksv_memo_rules.proofs.Lists.{All-always, All-both, All-++, All-left, All-right}
+use Rattle.ksv_memo_rules.proofs.Lists.{All-map, All-always, All-both, All-++, All-left, All-right, any_same, none_fails, none_pass}
 use Rattle.ksv_memo_rules.proofs.Evals.{NoneIn, eqb_true, asking, told_answered, eval-open, eval-free, transfer, deep_enough, eval-zero, eval-zero_unanswered}
-use Rattle.ksv_memo_rules.proofs.Keeping.{IsIn, AreDistinct-none, self_in}
+use Rattle.ksv_memo_rules.proofs.Keeping.{IsIn, AreDistinct-none, self_in, kept_is, kept-tree, done-kept, flat_map_congr}
+use Rattle.ksv_memo_rules.proofs.Standins.{touched-parts, asks-lower, answered-by}
 
 -- rules of the same nodes, on other bytes
 abbrev pub changed : {N A : Type 0} → Standing N A → (N → List A → Next N A) → (N → List A → List Use) → Standing N A
@@ -124,43 +128,75 @@ member w law P [] h n e = absurd (cc)
 member w law P (x ∷ es) h n e = member_cases w law P x.node n (is_among w.number (nodes_of es) n) h.0 (member w law P es h.1 n)
     (nat_eq (w.number n) (w.number x.node)) refl e
 
--- what holds of each member holds of each, where one list has the members of another once
-pub All-once : {X : Type 0} (P : X → Type 0) (once xs : List X) → HasEachOnce once xs → AllByRecursion P once → AllByRecursion P xs
-All-once P once xs h all = recursion_from_All P xs
-    (λ k d lt. All-contains P once (get_or xs k d) (All-from_recursion P once all) ((h.same (get_or xs k d)).1 (Contains-get_or xs k d lt)))
+-- ---- what is right is right on the other bytes too, where the uses of all kept nodes hold
+module _ {N A : Type 0} (w : Standing N A) (law : IsSettled w) (follow : N → List A → Next N A) (added : N → List A → List Use)
+    (other_law : IsSettled (changed w follow added)) (holds : Use → Type 0) (local : IsLocal w follow added holds)
+    (es : List (Entry N A)) (right : IsRight w es) (used : AllByRecursion (λ (e : Entry N A). AllByRecursion holds (tells w [] e.node).uses) es) where
+  abbrev v : Standing N A
+  v = changed w follow added
 
-pub All-of-once : {X : Type 0} (P : X → Type 0) (once xs : List X) → HasEachOnce once xs → AllByRecursion P xs → AllByRecursion P once
-All-of-once P once xs h all = recursion_from_All P once
-    (λ k d lt. All-contains P xs (get_or once k d) (All-from_recursion P xs all) ((h.same (get_or once k d)).0 (Contains-get_or once k d lt)))
+  abbrev kept : List N
+  kept = nodes_of es
 
--- entries that are right, and whose uses all hold, are right on the other bytes
-pub stays-right : {N A : Type 0} (w : Standing N A) → IsSettled w → (follow : N → List A → Next N A) (added : N → List A → List Use) (holds : Use → Type 0)
-    → IsLocal w follow added holds → (es : List (Entry N A)) → IsRight w es → AllByRecursion (λ e. AllByRecursion holds e.uses) es
-    → IsRight (changed w follow added) es
-stays-right {N} {A} w law follow added holds local es right used =
-    let kept : List N = nodes_of es in
-    let stays : AllByRecursion (λ (e : Entry N A). Stays w kept holds e.node) es =
-    All-both (IsRightEntry w kept) (λ (e : Entry N A). AllByRecursion holds e.uses) (λ (e : Entry N A). Stays w kept holds e.node)
-    (λ e is_right uses. record {
-      closed = subst (AllByRecursion (IsIn w kept)) (sym is_right.asked) is_right.closed;
-      used = All-once holds e.uses (tells w [] e.node).uses
-          is_right.uses uses;
-    }) es right.each used in
-    let each : (n : N) → IsIn w kept n → Stays w kept holds n = member w law (λ n. Stays w kept holds n) es stays in
-    record {
-      each = All-both (λ (e : Entry N A). IsIn w kept e.node) (IsRightEntry w kept) (IsRightEntry (changed w follow added) kept)
-          (λ e is_in is_right.
-          let same : tells (changed w follow added) [] e.node ≡ tells w [] e.node =
-          change w law follow added holds local kept each w.nodes w.nodes [] e.node (omega arith) is_in
-          (let Q : Outcome N A → Type 0 = λ out. IsAnswered out in subst Q (sym is_right.outcome) tt) in
-          record {
-            outcome = ap (λ (t : Told N A). t.outcome) same ∙ is_right.outcome;
-            asked = ap (λ (t : Told N A). t.asked) same ∙ is_right.asked;
-            uses = subst (λ (t : Told N A). HasEachOnce e.uses t.uses) (sym same) is_right.uses;
-            closed = is_right.closed;
-          }) es (self_in w es) right.each;
-      once = right.once;
-    }
+  each-stays : (n : N) → IsIn w kept n → Stays w kept holds n
+  each-stays = member w law (λ n. Stays w kept holds n) es
+      (All-both (StandsIn w kept) (λ (e : Entry N A). AllByRecursion holds (tells w [] e.node).uses) (λ (e : Entry N A). Stays w kept holds e.node)
+      (λ e is us. record { closed = is.closed; used = us }) es right.each used)
+
+  each-answers : (n : N) → IsIn w kept n → IsAnswered (tells w [] n).outcome
+  each-answers n h = (kept_is w law kept es right.each n h).answered
+
+  same : (n : N) → IsIn w kept n → tells v [] n ≡ tells w [] n
+  same n h = change w law follow added holds local kept each-stays w.nodes w.nodes [] n (omega arith) h (each-answers n h)
+
+  same-tree : (k : ℕ) (n : N) → IsIn w kept n → length (tree w n) < k → tree v n ≡ tree w n
+  same-tree zero n h lt = absurd (omega arith)
+  same-tree (suc k) n h lt =
+      kept-tree v other_law n (subst (λ (t : Told N A). IsAnswered t.outcome) (sym (same n h)) (each-answers n h))
+      ∙ ap (λ (t : Told N A). flat_map (tree v) t.asked ++ n ∷ []) (same n h)
+      ∙ ap (λ ys. ys ++ n ∷ []) (flat_map_congr (tree v) (tree w) (tells w [] n).asked
+      (All-both (IsIn w kept) (λ m. length (tree w m) < length (tree w n)) (λ m. tree v m ≡ tree w m) (λ m inside less. same-tree k m inside (omega arith))
+      (tells w [] n).asked (each-stays n h).closed (asks-lower w law n (each-answers n h))))
+      ∙ sym (kept-tree w law n (each-answers n h))
+
+  tree-is : (n : N) → IsIn w kept n → tree v n ≡ tree w n
+  tree-is n h = same-tree (suc (length (tree w n))) n h (omega arith)
+
+  tree-told : (n : N) → IsIn w kept n → AllByRecursion (λ m. tells v [] m ≡ tells w [] m) (tree w n)
+  tree-told n h = All-map same (tree w n) (done-kept w law es right [] tt n h)
+
+  touched-is : (c : Change) (n : N) → IsIn w kept n → is_touched v c n ≡ is_touched w c n
+  touched-is c n h = ap (list_any (is_hit v c)) (tree-is n h) ∙ any_same (is_hit v c) (is_hit w c) (tree w n)
+      (All-map (λ m e. ap (λ (t : Told N A). list_any (is_use_touched c) t.uses) e) (tree w n) (tree-told n h))
+
+  made-is : (n : N) → IsIn w kept n → (u : Use) → Any (λ m. Contains (tells w [] m).uses u) (tree w n) → Any (λ m. Contains (tells v [] m).uses u) (tree v n)
+  made-is n h u any =
+      let IsSame : N → Type 0 = λ m. tells v [] m ≡ tells w [] m in
+      let told = All-contains IsSame (tree w n) any.1 (All-from_recursion IsSame (tree w n) (tree-told n h)) (any.0, any.2, any.3) in
+      subst (λ ns. Any (λ m. Contains (tells v [] m).uses u) ns) (sym (tree-is n h))
+      (any.0, any.1, any.2, any.3, subst (λ (t : Told N A). Contains t.uses u) (sym told) any.4)
+
+  still-stands : (e : Entry N A) → IsIn w kept e.node → StandsIn w kept e → StandsIn v kept e
+  still-stands e inside is = record {
+    outcome = ap (λ (t : Told N A). t.outcome) (same e.node inside) ∙ is.outcome;
+    closed = subst (λ (t : Told N A). AllByRecursion (IsIn w kept) t.asked) (sym (same e.node inside)) is.closed;
+    named = is.named;
+    lower = All-both (IsIn w kept) (λ m. length (tree w m) < length (tree w e.node)) (λ m. length (tree v m) < length (tree v e.node))
+        (λ m h lt. (let a = ap length (tree-is m h) in let b = ap length (tree-is e.node inside) in omega arith)) e.asked is.named is.lower;
+    touched = λ c. touched-is c e.node inside ∙ is.touched c ∙ ap (λ b. list_any (is_use_touched c) e.uses || b)
+        (sym (any_same (is_touched v c) (is_touched w c) e.asked (All-map (touched-is c) e.asked is.named)));
+    few = subst (λ (t : Told N A). length e.asked ≤ length t.asked) (sym (same e.node inside)) is.few;
+    once = is.once;
+    bytes = λ from to. subst (λ (t : Told N A). Contains e.uses (Bytes from to) ↔ Contains t.uses (Bytes from to)) (sym (same e.node inside))
+        (is.bytes from to);
+    made = All-map (made-is e.node inside) e.uses is.made;
+  }
+
+  stays-right : IsRight v es
+  stays-right = record {
+    each = All-both (λ (e : Entry N A). IsIn w kept e.node) (StandsIn w kept) (StandsIn v kept) still-stands es (self_in w es) right.each;
+    once = right.once;
+  }
 
 -- ---- the uses of an evaluation can be made on its bytes
 reply_can : {N A : Type 0} (P : Use → Type 0) (rest : A → Told N A) → ((a : A) → AllByRecursion P (rest a).uses) → (o : Outcome N A)
@@ -192,22 +228,49 @@ eval_can {N} {A} w P can (suc k) opened n = by (is_among w.number opened n) refl
     by false e = subst (λ (t : Told N A). AllByRecursion P t.uses) (sym (eval-free w k opened n e))
         (told_can w P can (asking w k (n ∷ opened)) n (suc w.replies) [])
 
--- ---- the law of kept answers: those that no edit touches stay right
-untouched-agree : {N A : Type 0} (meaning : Meaning N A) → IsLawful meaning → (change : Change) (before after : List ℕ) → Makes change before after
-    → (kept : List N) (e : Entry N A) → IsRightEntry (on meaning before) kept e → AllByRecursion (λ u. Touches change u → ⊥) e.uses
-    → AllByRecursion (AgreeOn before after) e.uses
-untouched-agree meaning law change before after made kept e right free =
-    All-both (λ u. Touches change u → ⊥) (CanUse before) (AgreeOn before after) (λ u apart can. untouched-keeps change u apart before after made can) e.uses
-    free
-    (All-of-once (CanUse before) e.uses (tells (on meaning before) [] e.node).uses right.uses
-    (eval_can (on meaning before) (CanUse before) (law.can_use before) meaning.nodes [] e.node))
+-- a use that isn't touched doesn't pass the test
+use_untouched : (c : Change) (u : Use) → (Touches c u → ⊥) → is_use_touched c u ≡ false
+use_untouched c u apart = by (is_use_touched c u) refl
+  where
+    by : (b : Bool) → is_use_touched c u ≡ b → b ≡ false
+    by true e = absurd (apart ((use_touched c u).0 e))
+    by false e = refl
 
-pub untouched-stays : {N A : Type 0} (meaning : Meaning N A) → IsLawful meaning → (change : Change) (before after : List ℕ) → Makes change before after
-    → (es : List (Entry N A)) → IsRight (on meaning before) es → AllByRecursion (λ e. AllByRecursion (λ u. Touches change u → ⊥) e.uses) es
-    → IsRight (on meaning after) es
-untouched-stays {N} {A} meaning law change before after made es right free =
-    stays-right (on meaning before) (law_on meaning law before) (meaning.follow after) (meaning.added after) (AgreeOn before after)
-    (record { steps = law.same_step before after; adds = law.same_uses before after }) es right
-    (All-both (IsRightEntry (on meaning before) (nodes_of es)) (λ (e : Entry N A). AllByRecursion (λ u. Touches change u → ⊥) e.uses)
-    (λ (e : Entry N A). AllByRecursion (AgreeOn before after) e.uses)
-    (λ e is_right apart. untouched-agree meaning law change before after made (nodes_of es) e is_right apart) es right.each free)
+-- ---- the law of kept answers: those that no edit touches stay right
+module _ {N A : Type 0} (meaning : Meaning N A) (law : IsLawful meaning) (c : Change) (before after : List ℕ) (makes : Makes c before after)
+    (es : List (Entry N A)) (right : IsRight (on meaning before) es)
+    (free : AllByRecursion (λ (e : Entry N A). AllByRecursion (λ u. Touches c u → ⊥) e.uses) es) where
+  abbrev was : Standing N A
+  was = on meaning before
+
+  settled : IsSettled was
+  settled = law_on meaning law before
+
+  -- where no entry has a touched use, no node is touched
+  none-touched : (k : ℕ) (n : N) → IsIn was (nodes_of es) n → length (tree was n) < k → is_touched was c n ≡ false
+  none-touched zero n h lt = absurd (omega arith)
+  none-touched (suc k) n h lt =
+      member was settled (λ m. length (tree was m) < suc k → is_touched was c m ≡ false) es
+      (All-both (StandsIn was (nodes_of es)) (λ (e : Entry N A). AllByRecursion (λ u. Touches c u → ⊥) e.uses)
+      (λ (e : Entry N A). length (tree was e.node) < suc k → is_touched was c e.node ≡ false)
+      (λ e is apart less. is.touched c
+      ∙ (λ j. none_fails (is_use_touched c) e.uses (All-map (use_untouched c) e.uses apart) j || none_fails (is_touched was c) e.asked
+      (All-both (IsIn was (nodes_of es)) (λ m. length (tree was m) < length (tree was e.node)) (λ m. is_touched was c m ≡ false)
+      (λ m inside lower. none-touched k m inside (omega arith)) e.asked is.named is.lower) j)) es right.each free) n h lt
+
+  -- so the uses of each hold on the bytes after the edit
+  uses-hold : (e : Entry N A) → IsIn was (nodes_of es) e.node → StandsIn was (nodes_of es) e → AllByRecursion (AgreeOn before after) (tells was [] e.node).uses
+  uses-hold e inside is =
+      let untouched = none-touched (suc (length (tree was e.node))) e.node inside (omega arith) in
+      let parts = or_parts (is_hit was c e.node) (list_any (is_touched was c) (tells was [] e.node).asked)
+      (sym (touched-parts was settled c e.node (answered-by was (nodes_of es) e is)) ∙ untouched) in
+      All-both (λ u. is_use_touched c u ≡ false) (CanUse before) (AgreeOn before after)
+      (λ u none can. untouched-keeps c u (untouched_use c u none) before after makes can) (tells was [] e.node).uses
+      (none_pass (is_use_touched c) (tells was [] e.node).uses parts.0) (eval_can was (CanUse before) (law.can_use before) meaning.nodes [] e.node)
+
+  pub untouched-stays : IsRight (on meaning after) es
+  untouched-stays =
+      stays-right was settled (meaning.follow after) (meaning.added after) (law_on meaning law after) (AgreeOn before after)
+      (record { steps = law.same_step before after; adds = law.same_uses before after }) es right
+      (All-both (λ (e : Entry N A). IsIn was (nodes_of es) e.node) (StandsIn was (nodes_of es))
+      (λ (e : Entry N A). AllByRecursion (AgreeOn before after) (tells was [] e.node).uses) uses-hold es (self_in was es) right.each)

@@ -4,7 +4,7 @@ use Rattle.std.proofs.Common.{length-append, length-take, length-drop, filter, C
 use Rattle.std.specs.List.{AllByRecursion, list_any}
 use Rattle.std.proofs.lemmas.Bool.{or_parts, cases_lt}
 use Rattle.std.proofs.lemmas.Bool.Decides.{Decides-ltb}
-use Rattle.std.proofs.lemmas.List.Elements.{Contains-append_cases}
+use Rattle.std.proofs.lemmas.List.Elements.{All-contains, All-from_recursion, Contains-append_cases}
 use Rattle.ksv_bytes.specs.declared.uses.Use.{Use}
 use Rattle.ksv_bytes.specs.declared.uses.Use.TheVariants.{Bytes, Reach, Size}
 use Rattle.ksv_bytes.specs.declared.uses.Change.{Change}
@@ -20,7 +20,7 @@ use Rattle.ksv_memo_rules.proofs.Lists.{All-map, All-both, none_pass}
 use Rattle.ksv_memo.specs.Behind.{EndsBy, AllEndBy, pages_to}
 use Rattle.ksv_memo.specs.Resting.{left_reach}
 use Rattle.ksv_memo.specs.Sweep.{Mark, IsMarked, Sweeps, entries_with, entries_left}
-use Rattle.ksv_memo.proofs.Change.{All-of-once, eval_can}
+use Rattle.ksv_memo.proofs.Change.{eval_can}
 
 -- ---- on the bytes on which it is right
 can-end : (bytes : List ℕ) (u : Use) → CanUse bytes u → EndsBy (length bytes) u
@@ -31,9 +31,9 @@ can-end bytes Size h = tt
 pub right-ends : {N A : Type 0} (meaning : Meaning N A) → IsLawful meaning → (bytes : List ℕ) (es : List (Entry N A)) → IsRight (on meaning bytes) es
     → AllEndBy (length bytes) es
 right-ends {N} {A} meaning law bytes es right =
-    All-map (λ (e : Entry N A) is. All-of-once (EndsBy (length bytes)) e.uses (tells (on meaning bytes) [] e.node).uses is.uses
-    (All-map (can-end bytes) (tells (on meaning bytes) [] e.node).uses
-    (eval_can (on meaning bytes) (CanUse bytes) (law.can_use bytes) meaning.nodes [] e.node))) es right.each
+    All-map (λ (e : Entry N A) is. All-map (λ u made. can-end bytes u
+    (All-contains (CanUse bytes) (tells (on meaning bytes) [] made.1).uses u (All-from_recursion (CanUse bytes) (tells (on meaning bytes) [] made.1).uses
+    (eval_can (on meaning bytes) (CanUse bytes) (law.can_use bytes) meaning.nodes [] made.1)) made.4)) e.uses is.made) es right.each
 
 -- ---- so it is within its pages
 numbers-few : (a n g : ℕ) → Contains (numbers_from a n) g → g < a + n

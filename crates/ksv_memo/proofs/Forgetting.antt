@@ -1,25 +1,24 @@
 -- What an edit takes from the kept nodes is what the pass takes from the table, and what stays is right.
 use Rattle.std.proofs.lemmas.List.Sums.{sum_by-cons}
-use Rattle.std.proofs.Common.{◌≡◌, ℕ, zero, suc, ◌+◌, ◌*◌, ◌<◌, ◌≤◌, arith, length, length-append, sum_by, count_by, get_or, nat_lt, Bool, true, false, not}
-use Rattle.std.proofs.Common.{cond, ◌||◌, ◌&&◌, nat_eq, List, [], ◌∷◌, ◌++◌, map, filter, Contains, Any, refl, sym, ◌∙◌, ap, subst, inl, inr, eq-eqb}
+use Rattle.std.proofs.Common.{◌≡◌, ℕ, zero, suc, ◌+◌, ◌*◌, ◌<◌, ◌≤◌, arith, length, sum_by, count_by, get_or, nat_lt, Bool, true, false, not}
+use Rattle.std.proofs.Common.{cond, ◌||◌, ◌&&◌, nat_eq, List, [], ◌∷◌, map, filter, Contains, Any, refl, sym, ◌∙◌, ap, subst, inl, inr, eq-eqb}
 use Rattle.std.specs.Bool.{Decides}
-use Rattle.std.specs.List.{AllByRecursion, list_any, flat_map}
+use Rattle.std.specs.List.{AllByRecursion, list_any}
 use Rattle.std.proofs.Math.Bool.{and-false}
 use Rattle.std.proofs.lemmas.Bool.{or_parts, or_right}
 use Rattle.std.proofs.lemmas.Bool.Decides.{Decides-and, Decides-not, Decides-ltb}
 use Rattle.std.proofs.lemmas.List.Elements.{All-contains_itself, recursion_from_All}
-use Rattle.std.proofs.lemmas.List.Folds.{list_any-append, Any-from_list_any, list_any-from_Any}
+use Rattle.std.proofs.lemmas.List.Folds.{Any-from_list_any, list_any-from_Any}
 use Rattle.std.proofs.lemmas.Map.Keys.{IsDistinct-head, IsDistinct-tail, IsDistinct-cons}
 use Rattle.ksv_bytes.specs.declared.uses.Use.{Use}
 use Rattle.ksv_bytes.specs.declared.uses.Change.{Change}
 use Rattle.ksv_bytes.specs.declared.uses.Change.TheVariants.{Overwrite, Insert, Delete, Append}
 use Rattle.ksv_bytes.specs.Uses.{Touches, Makes, is_use_touched}
 use Rattle.ksv_bytes.proofs.Untouched.{use_touched, untouched_use}
-use Rattle.ksv_memo_rules.specs.declared.rules.Outcome.{Outcome}
 use Rattle.ksv_memo_rules.specs.Meaning.{Meaning, Standing, IsLawful, IsSettled, on}
-use Rattle.ksv_memo_rules.specs.Evaluation.{is_among, IsAnswered, completed, tells}
+use Rattle.ksv_memo_rules.specs.Evaluation.{is_among, tells}
 use Rattle.ksv_memo_rules.specs.Entry.{Entry}
-use Rattle.ksv_memo_rules.specs.Right.{nodes_of, AreDistinct, AreExactly, HasEachOnce, IsRightEntry, IsRight}
+use Rattle.ksv_memo_rules.specs.Right.{nodes_of, AreDistinct, AreExactly, StandsIn, IsRight}
 use Rattle.ksv_memo_rules.specs.Touched.{IsTouched, is_hit, is_touched, tree, left_after}
 use Rattle.ksv_memo.specs.Layout.{IsOneOf}
 use Rattle.ksv_memo_links.specs.Touching.{pages_in, ends_in}
@@ -29,10 +28,11 @@ use Rattle.ksv_memo.specs.Near.{IsWrite, LooksNear, gone_of}
 use Rattle.ksv_memo.specs.Behind.{LooksBehind, pages_to}
 use Rattle.ksv_memo.specs.Sweep.{Mark, AllSay, IsMarked, entries_with as entries_in, entries_left, entries_gone, Sweeps}
 use Rattle.ksv_memo_rules.proofs.Standing.{law_on}
-use Rattle.ksv_memo_rules.proofs.Lists.{All-map, All-both, none_fails, none_pass}
+use Rattle.ksv_memo_rules.proofs.Lists.{All-map, All-both, none_pass}
 use Rattle.ksv_memo_rules.proofs.Evals.{eqb_true}
-use Rattle.ksv_memo_rules.proofs.Keeping.{AreDistinct-none, kept-tree}
-use Rattle.ksv_memo.proofs.Change.{All-once, All-of-once, untouched-stays}
+use Rattle.ksv_memo_rules.proofs.Keeping.{AreDistinct-none, IsIn}
+use Rattle.ksv_memo_rules.proofs.Standins.{touched-parts, answered-by, stands-among}
+use Rattle.ksv_memo.proofs.Change.{untouched-stays}
 use Rattle.ksv_memo.proofs.Laying.{one_of-all}
 
 -- ---- the tests
@@ -50,26 +50,6 @@ any_decides p P each xs = (
 pub touched_decides : {N A : Type 0} (w : Standing N A) (change : Change) (n : N) → Decides (is_touched w change n) (IsTouched w change n)
 touched_decides w change n = any_decides (is_hit w change) (λ m. Any (Touches change) (tells w [] m).uses)
     (λ m. any_decides (is_use_touched change) (Touches change) (use_touched change) (tells w [] m).uses) (tree w n)
-
--- ---- a test on a list and on its members, each once
-any_once : {X : Type 0} (p : X → Bool) (once xs : List X) → HasEachOnce once xs → list_any p once ≡ list_any p xs
-any_once {X} p once xs h = by (list_any p once) refl (list_any p xs) refl
-  where
-    by : (a : Bool) → list_any p once ≡ a → (b : Bool) → list_any p xs ≡ b → a ≡ b
-    by true e true f = refl
-    by false e false f = refl
-    by false e true f = let no : list_any p xs ≡ false = none_fails p xs (All-once (λ x. p x ≡ false) once xs h (none_pass p once e)) in cc
-    by true e false f = let no : list_any p once ≡ false = none_fails p once (All-of-once (λ x. p x ≡ false) once xs h (none_pass p xs f)) in cc
-
-any-flat_map : {X Y : Type 0} (p : Y → Bool) (f : X → List Y) (xs : List X) → list_any p (flat_map f xs) ≡ list_any (λ x. list_any p (f x)) xs
-any-flat_map p f [] = refl
-any-flat_map p f (x ∷ xs) = list_any-append p (f x) (flat_map f xs) ∙ ap (λ b. list_any p (f x) || b) (any-flat_map p f xs)
-
-or_turn : (a b : Bool) → (a || (b || false)) ≡ (b || a)
-or_turn true true = refl
-or_turn true false = refl
-or_turn false true = refl
-or_turn false false = refl
 
 -- what holds of all marked entries holds of those that stay
 pub All-entries_left : {N A : Type 0} (P : Entry N A → Type 0) (ks : List (Mark N A)) → AllByRecursion P (entries_in ks) → AllByRecursion P (entries_left ks)
@@ -277,21 +257,6 @@ gone-less {N} {A} p (k ∷ ks) = by k.goes (gone-less p ks)
     by true rest = let a = sum_by-cons p k.entry (entries_in ks) in let b = sum_by-cons p k.entry (entries_gone ks) in omega arith
 
 module _ {N A : Type 0} (w : Standing N A) (law : IsSettled w) where
-  -- ---- a kept node is touched if one of its uses is, or a node that it asked
-  touched-kept : (change : Change) (kept : List N) (e : Entry N A) → IsRightEntry w kept e
-      → is_touched w change e.node ≡ (list_any (is_use_touched change) e.uses || list_any (is_touched w change) e.asked)
-  touched-kept change kept e right =
-      let Q : Outcome N A → Type 0 = λ out. IsAnswered out in
-      let answered : IsAnswered (tells w [] e.node).outcome = subst Q (sym right.outcome) tt in
-      let asked : List N = (tells w [] e.node).asked in
-      let parts : list_any (is_hit w change) (tree w e.node) ≡ (list_any (is_touched w change) e.asked || (is_hit w change e.node || false)) =
-      ap (list_any (is_hit w change)) (kept-tree w law e.node answered)
-      ∙ list_any-append (is_hit w change) (flat_map (completed w w.nodes []) asked) (e.node ∷ [])
-      ∙ ap (λ b. b || (is_hit w change e.node || false))
-      (any-flat_map (is_hit w change) (completed w w.nodes []) asked ∙ ap (list_any (is_touched w change)) right.asked) in
-      parts ∙ or_turn (list_any (is_touched w change) e.asked) (is_hit w change e.node)
-      ∙ ap (λ b. b || list_any (is_touched w change) e.asked) (sym (any_once (is_use_touched change) e.uses (tells w [] e.node).uses right.uses))
-
   -- ---- what is left of a list, as a set
   among_cases : (p : N → Bool) (m n : N) (ns : List N) → is_among w.number (filter p ns) n ≡ (is_among w.number ns n && p n) → (a : Bool)
       → nat_eq (w.number n) (w.number m) ≡ a → (b : Bool) → p m ≡ b
@@ -322,13 +287,6 @@ module _ {N A : Type 0} (w : Standing N A) (law : IsSettled w) where
       ∙ sym (among-filter (λ m. not (is_touched w change m)) ms x)
 
   -- ---- the marks
-  -- what a node asked has a shorter tree
-  small : (ms : List N) → AllByRecursion (λ m. length (tree w m) ≤ length (flat_map (tree w) ms)) ms
-  small [] = tt
-  small (m ∷ ms) =
-      let n = length-append (tree w m) (flat_map (tree w) ms) in
-      (omega arith, All-map (λ x le. (let k : length (tree w x) ≤ length (tree w m ++ flat_map (tree w) ms) = omega arith in k)) ms (small ms))
-
   said : (change : Change) (all : List (Mark N A)) (n : ℕ) → ((k : Mark N A) → IsOneOf all k → length (tree w k.entry.node) < n → IsTold w change k)
       → (ms : List N) → AllByRecursion (λ m. length (tree w m) < n) ms → (bs : List Bool) → AllSay all ms bs
       → list_any (λ b. b) bs ≡ list_any (is_touched w change) ms
@@ -340,33 +298,27 @@ module _ {N A : Type 0} (w : Standing N A) (law : IsSettled w) where
       let here : b ≡ is_touched w change m = sym h.0.goes ∙ told h.0.mark h.0.there short ∙ ap (is_touched w change) h.0.node in
       ap (λ c. c || list_any (λ b. b) bs) here ∙ ap (λ c. is_touched w change m || c) (said change all n told ms few.1 bs h.1)
 
-  entry_right : (kept : List N) (ks : List (Mark N A)) → AllByRecursion (IsRightEntry w kept) (entries_in ks)
-      → AllByRecursion (λ k. IsRightEntry w kept k.entry) ks
+  entry_right : (kept : List N) (ks : List (Mark N A)) → AllByRecursion (StandsIn w kept) (entries_in ks)
+      → AllByRecursion (λ k. StandsIn w kept k.entry) ks
   entry_right kept [] h = tt
   entry_right kept (k ∷ ks) h = (h.0, entry_right kept ks h.1)
 
   -- each mark says whether the node is touched, by the length of its tree
   mark-told : (change : Change) (kept : List N) (all : List (Mark N A)) → AllByRecursion (IsMarked change all) all
-      → AllByRecursion (λ k. IsRightEntry w kept k.entry) all → (n : ℕ) (k : Mark N A) → IsOneOf all k → length (tree w k.entry.node) < n → IsTold w change k
+      → AllByRecursion (λ k. StandsIn w kept k.entry) all → (n : ℕ) (k : Mark N A) → IsOneOf all k → length (tree w k.entry.node) < n → IsTold w change k
   mark-told change kept all marked right zero k m lt = absurd (omega arith)
   mark-told change kept all marked right (suc n) k m lt =
       let mark : IsMarked change all k = one_of-all (IsMarked change all) all marked k m in
-      let is : IsRightEntry w kept k.entry = one_of-all (λ (x : Mark N A). IsRightEntry w kept x.entry) all right k m in
-      let Q : Outcome N A → Type 0 = λ out. IsAnswered out in
-      let answered : IsAnswered (tells w [] k.entry.node).outcome = subst Q (sym is.outcome) tt in
-      let whole : tree w k.entry.node ≡ flat_map (tree w) k.entry.asked ++ k.entry.node ∷ [] =
-      kept-tree w law k.entry.node answered ∙ ap (λ ns. flat_map (tree w) ns ++ k.entry.node ∷ []) is.asked in
-      let count = ap length whole in
-      let more = length-append (flat_map (tree w) k.entry.asked) (k.entry.node ∷ []) in
+      let is : StandsIn w kept k.entry = one_of-all (λ (x : Mark N A). StandsIn w kept x.entry) all right k m in
       let few : AllByRecursion (λ x. length (tree w x) < n) k.entry.asked =
-      All-map (λ x le. (let short : length (tree w x) < n = omega arith in short)) k.entry.asked (small k.entry.asked) in
+      All-map (λ x le. (let short : length (tree w x) < n = omega arith in short)) k.entry.asked is.lower in
       mark.goes
       ∙ ap (λ b. list_any (is_use_touched change) k.entry.uses || b)
       (said change all n (mark-told change kept all marked right n) k.entry.asked few mark.asked mark.say)
-      ∙ sym (touched-kept change kept k.entry is)
+      ∙ sym (is.touched change)
 
   marks-told : (change : Change) (kept : List N) (ks : List (Mark N A)) → AllByRecursion (IsMarked change ks) ks
-      → AllByRecursion (IsRightEntry w kept) (entries_in ks) → AllByRecursion (IsTold w change) ks
+      → AllByRecursion (StandsIn w kept) (entries_in ks) → AllByRecursion (IsTold w change) ks
   marks-told change kept ks marked right = each ks (λ k m. m)
     where
       each : (xs : List (Mark N A)) → ((k : Mark N A) → IsOneOf xs k → IsOneOf ks k) → AllByRecursion (IsTold w change) xs
@@ -378,63 +330,45 @@ module _ {N A : Type 0} (w : Standing N A) (law : IsSettled w) where
       )
 
   -- ---- what the pass leaves
-  -- an entry that stays is left
-  stays_in : (ks : List (Mark N A)) (k : Mark N A) → IsOneOf ks k → k.goes ≡ false → is_among w.number (nodes_of (entries_left ks)) k.entry.node ≡ true
-  stays_in [] k h e = absurd h
-  stays_in (x ∷ ks) k (inl same) e = subst (λ (y : Mark N A). is_among w.number (nodes_of (entries_left (x ∷ ks))) y.entry.node ≡ true) same
-      (by x.goes (ap (λ (y : Mark N A). y.goes) same ∙ e))
+  -- an entry that stays isn't touched
+  free : (change : Change) (ks : List (Mark N A)) → AllByRecursion (IsTold w change) ks
+      → AllByRecursion (λ (e : Entry N A). is_touched w change e.node ≡ false) (entries_left ks)
+  free change [] told = tt
+  free change (k ∷ ks) told = by k.goes refl (free change ks told.1)
     where
-      by : (b : Bool) → b ≡ false → is_among w.number (nodes_of (entries_in (cond (not b) (x ∷ filter (λ k. not k.goes) ks) (filter (λ k. not k.goes) ks))))
-          x.entry.node ≡ true
-      by true f = absurd (cc)
-      by false f = ap (λ c. c || is_among w.number (nodes_of (entries_left ks)) x.entry.node) (eq-eqb (w.number x.entry.node) (w.number x.entry.node) refl)
-  stays_in (x ∷ ks) k (inr h) e = by x.goes (stays_in ks k h e)
-    where
-      by : (b : Bool) → is_among w.number (nodes_of (entries_left ks)) k.entry.node ≡ true
-          → is_among w.number (nodes_of (entries_in (cond (not b) (x ∷ filter (λ k. not k.goes) ks) (filter (λ k. not k.goes) ks)))) k.entry.node ≡ true
-      by true ih = ih
-      by false ih = or_right (nat_eq (w.number k.entry.node) (w.number x.entry.node)) (is_among w.number (nodes_of (entries_left ks)) k.entry.node) ih
-
-  none_said : (all before : List (Mark N A)) → ((k : Mark N A) → IsOneOf before k → IsOneOf all k) → (ms : List N) (bs : List Bool) → AllSay before ms bs
-      → list_any (λ b. b) bs ≡ false → AllByRecursion (λ m. is_among w.number (nodes_of (entries_left all)) m ≡ true) ms
-  none_said all before inside [] [] h none = tt
-  none_said all before inside [] (b ∷ bs) h none = absurd h
-  none_said all before inside (m ∷ ms) [] h none = absurd h
-  none_said all before inside (m ∷ ms) (b ∷ bs) h none =
-      let parts = or_parts b (list_any (λ b. b) bs) none in (
-        subst (λ n. is_among w.number (nodes_of (entries_left all)) n ≡ true) h.0.node (stays_in all h.0.mark (inside h.0.mark h.0.there) (h.0.goes ∙ parts.0)),
-        none_said all before inside ms bs h.1 parts.1,
-      )
-
-  -- what an entry that stays asked is left
-  closed_left : (change : Change) (all ks : List (Mark N A)) → AllByRecursion (IsMarked change all) ks
-      → AllByRecursion (λ (e : Entry N A). AllByRecursion (λ m. is_among w.number (nodes_of (entries_left all)) m ≡ true) e.asked) (entries_left ks)
-  closed_left change all [] marked = tt
-  closed_left change all (k ∷ ks) marked = by k.goes refl (closed_left change all ks marked.1)
-    where
-      by : (b : Bool) → k.goes ≡ b → AllByRecursion (λ (e : Entry N A). AllByRecursion (λ m. is_among w.number (nodes_of (entries_left all)) m ≡ true) e.asked)
-          (entries_left ks)
-          → AllByRecursion (λ (e : Entry N A). AllByRecursion (λ m. is_among w.number (nodes_of (entries_left all)) m ≡ true) e.asked)
+      by : (b : Bool) → k.goes ≡ b → AllByRecursion (λ (e : Entry N A). is_touched w change e.node ≡ false) (entries_left ks)
+          → AllByRecursion (λ (e : Entry N A). is_touched w change e.node ≡ false)
           (entries_in (cond (not b) (k ∷ filter (λ k. not k.goes) ks) (filter (λ k. not k.goes) ks)))
       by true e rest = rest
-      by false e rest = (
-        none_said all all (λ x m. m) k.entry.asked marked.0.asked marked.0.say
-            (or_parts (list_any (is_use_touched change) k.entry.uses) (list_any (λ b. b) marked.0.asked) (sym marked.0.goes ∙ e)).1,
-        rest,
-      )
+      by false e rest = (sym told.0 ∙ e, rest)
 
-  -- what stays is right on the same bytes
-  right-entries_left : (change : Change) (ks : List (Mark N A)) → IsRight w (entries_in ks) → AllByRecursion (IsMarked change ks) ks
-      → IsRight w (entries_left ks)
-  right-entries_left change ks right marked =
-      let kept : List N = nodes_of (entries_left ks) in
-      record {
-        each = All-both (IsRightEntry w (nodes_of (entries_in ks))) (λ (e : Entry N A). AllByRecursion (λ m. is_among w.number kept m ≡ true) e.asked)
-            (IsRightEntry w kept)
-            (λ e is asked. record { outcome = is.outcome; asked = is.asked; uses = is.uses; closed = asked })
-            (entries_left ks) (All-entries_left (IsRightEntry w (nodes_of (entries_in ks))) ks right.each) (closed_left change ks ks marked);
-        once = distinct-entries_left w ks right.once;
-      }
+  module _ (change : Change) (ks : List (Mark N A)) (right : IsRight w (entries_in ks)) (told : AllByRecursion (IsTold w change) ks) where
+    -- what isn't touched is left
+    stays : (m : N) → IsIn w (nodes_of (entries_in ks)) m → is_touched w change m ≡ false → IsIn w (nodes_of (entries_left ks)) m
+    stays m inside e =
+        ap (λ ns. is_among w.number ns m) (left_nodes w change ks told) ∙ among-filter (λ x. not (is_touched w change x)) (nodes_of (entries_in ks)) m
+        ∙ (λ j. inside j && not (e j))
+
+    -- so is all that an untouched node asked, and what its entry names
+    still : (e : Entry N A) → StandsIn w (nodes_of (entries_in ks)) e → is_touched w change e.node ≡ false → StandsIn w (nodes_of (entries_left ks)) e
+    still e is untouched =
+        let left : (ms : List N) → AllByRecursion (IsIn w (nodes_of (entries_in ks))) ms → list_any (is_touched w change) ms ≡ false
+        → AllByRecursion (IsIn w (nodes_of (entries_left ks))) ms =
+        λ ms inside none. All-both (IsIn w (nodes_of (entries_in ks))) (λ m. is_touched w change m ≡ false) (IsIn w (nodes_of (entries_left ks))) stays
+        ms inside (none_pass (is_touched w change) ms none) in
+        let asked = (or_parts (is_hit w change e.node) (list_any (is_touched w change) (tells w [] e.node).asked)
+        (sym (touched-parts w law change e.node (answered-by w (nodes_of (entries_in ks)) e is)) ∙ untouched)).1 in
+        let names = (or_parts (list_any (is_use_touched change) e.uses) (list_any (is_touched w change) e.asked) (sym (is.touched change) ∙ untouched)).1 in
+        stands-among w (nodes_of (entries_in ks)) (nodes_of (entries_left ks)) e is (left (tells w [] e.node).asked is.closed asked)
+        (left e.asked is.named names)
+
+    -- what stays is right on the same bytes
+    right-entries_left : IsRight w (entries_left ks)
+    right-entries_left = record {
+      each = All-both (StandsIn w (nodes_of (entries_in ks))) (λ (e : Entry N A). is_touched w change e.node ≡ false) (StandsIn w (nodes_of (entries_left ks)))
+          still (entries_left ks) (All-entries_left (StandsIn w (nodes_of (entries_in ks))) ks right.each) (free change ks told);
+      once = distinct-entries_left w ks right.once;
+    }
 
   module _ (change : Change) (pages : ℕ) (es all : List (Entry N A)) (looked : ℕ) (right : IsRight w es) (sweeps : Sweeps change pages es all looked) where
     right_marks : IsRight w (entries_in sweeps.marks)
@@ -447,7 +381,7 @@ module _ {N A : Type 0} (w : Standing N A) (law : IsSettled w) where
     pub forgets : IsRight w all × AreExactly w (nodes_of all) (left_after w change (nodes_of es))
     forgets =
         let R : List (Entry N A) → Type 0 = λ xs. IsRight w xs in
-        let stays : IsRight w all = subst R (sym sweeps.stays) (right-entries_left change sweeps.marks right_marks sweeps.marked) in
+        let stays : IsRight w all = subst R (sym sweeps.stays) (right-entries_left change sweeps.marks right_marks told) in
         let same : nodes_of all ≡ left_after w change (nodes_of es) = ap nodes_of sweeps.stays ∙ left_nodes w change sweeps.marks told
         ∙ ap (λ xs. left_after w change (nodes_of xs)) sweeps.entries in
         (stays, record { once = stays.once; same = λ x. ap (λ ns. is_among w.number ns x) same })

@@ -21,7 +21,8 @@ use Rattle.ksv_memo.specs.Running.{HasCome, IsWaiting, HasEnded, HasStepped, Cha
 use Rattle.ksv_memo.specs.Running.{rest_at, to_keep, debt}
 use Rattle.ksv_memo_rules.proofs.Lists.{All-map, All-++, All-left}
 use Rattle.ksv_memo_rules.proofs.Evals.{IsOut, few, out_apart, AreDistinct-cons, tells-open, tells-free, done-free, completed-open}
-use Rattle.ksv_memo_rules.proofs.Keeping.{IsIn, IsIn-append, is_among-append, nodes_of-append, agrees, keep, AreDistinct-none}
+use Rattle.ksv_memo_rules.proofs.Keeping.{IsIn, IsIn-append, is_among-append, nodes_of-append, agrees, AreDistinct-none}
+use Rattle.ksv_memo_rules.proofs.Standins.{keep}
 
 pub ++-nil : {X : Type 0} (xs : List X) → xs ++ [] ≡ xs
 ++-nil [] = refl

@@ -8,14 +8,15 @@ use Rattle.std.proofs.lemmas.List.Sorted.{IsPermutation-to_front, IsPermutation-
 use Rattle.std.proofs.lemmas.Map.Keys.{IsDistinct-IsPermutation}
 use Rattle.ksv_memo_rules.specs.declared.rules.Outcome.{Outcome}
 use Rattle.ksv_memo_rules.specs.Meaning.{Standing}
-use Rattle.ksv_memo_rules.specs.Evaluation.{is_among}
+use Rattle.ksv_memo_rules.specs.Evaluation.{is_among, tells}
 use Rattle.ksv_memo_rules.specs.Entry.{Entry}
 use Rattle.ksv_memo.specs.Open.{Open, nodes_in}
-use Rattle.ksv_memo_rules.specs.Right.{nodes_of, AreDistinct, IsRightEntry, IsRight, fresh, costs, Agrees}
+use Rattle.ksv_memo_rules.specs.Right.{nodes_of, AreDistinct, StandsIn, IsRight, fresh, costs, Agrees}
 use Rattle.ksv_memo.specs.Running.{HasCome, IsWaiting, Chain, IsStack, calls_left, calls_of, to_keep, debt, Account, GoesOn, HasFinished, IsLeft, AreSame}
 use Rattle.ksv_memo.specs.Running.{rest_of}
 use Rattle.ksv_memo_rules.proofs.Lists.{All-map, All-++, All-left, All-right}
 use Rattle.ksv_memo_rules.proofs.Keeping.{is_among-append, nodes_of-append}
+use Rattle.ksv_memo_rules.proofs.Standins.{stands-among}
 
 or-turned : (a b c : Bool) → ((a || b) || (c || false)) ≡ (a || (c || b))
 or-turned true b c = refl
@@ -103,8 +104,8 @@ module _ {N A : Type 0} (w : Standing N A) (front back : List (Entry N A)) (e : 
 
   right-moved : IsRight w last → IsRight w among
   right-moved h = record {
-    each = All-map (λ x k. record { outcome = k.outcome; asked = k.asked; uses = k.uses; closed = among-in x.asked k.closed }) among
-        (All-moved (IsRightEntry w (nodes_of last)) h.each);
+    each = All-map (λ x k. stands-among w (nodes_of last) (nodes_of among) x k (among-in (tells w [] x.node).asked k.closed) (among-in x.asked k.named)) among
+        (All-moved (StandsIn w (nodes_of last)) h.each);
     once = distinct-moved h.once;
   }
 

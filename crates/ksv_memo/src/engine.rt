@@ -44,8 +44,9 @@ fn reach_after(change: Change, reach: usize) -> usize
 
 /// An engine that answers nodes by rules over the bytes of a file, and keeps the answers.
 ///
-/// It is *right* for rules and bytes if each kept node has the answer, the asked nodes and the uses that evaluation
-/// from nothing gives, and all nodes that it asked are kept. Contracts state no order of the kept entries.
+/// It is *right* for rules and bytes if each kept node has the answer that evaluation from nothing gives, all nodes that
+/// it asked are kept, and the nodes and uses that are kept with it decide which edits touch its tree. Contracts state no
+/// order of the kept entries.
 #[derive(Drop)]
 pub struct Engine<R: Rules> {
     machine: Machine<R>,

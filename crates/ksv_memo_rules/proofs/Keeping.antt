@@ -3,16 +3,13 @@ use Rattle.std.proofs.Common.{◌≡◌, ℕ, zero, suc, ◌+◌, ◌≤◌, Boo
 use Rattle.std.proofs.lemmas.Bool.{or_from, or_left, or_right}
 use Rattle.std.proofs.lemmas.List.{map-append}
 use Rattle.std.proofs.lemmas.List.Folds.{list_any-append}
-use Rattle.std.proofs.lemmas.Cmp.{nat_eq_equiv}
-use Rattle.std.proofs.lemmas.Map.Keys.{IsDistinct-push}
 use Rattle.std.specs.List.{AllByRecursion, flat_map, list_any, IsDistinct}
-use Rattle.ksv_bytes.specs.declared.uses.Use.{Use}
 use Rattle.ksv_memo_rules.specs.declared.rules.Outcome.{Outcome}
 use Rattle.ksv_memo_rules.specs.declared.rules.Outcome.TheVariants.{Answered, Circle}
 use Rattle.ksv_memo_rules.specs.Meaning.{Standing, IsSettled}
 use Rattle.ksv_memo_rules.specs.Evaluation.{is_among, Told, told, eval, IsAnswered, if_answered, completed, tells, answering}
 use Rattle.ksv_memo_rules.specs.Entry.{Entry}
-use Rattle.ksv_memo_rules.specs.Right.{nodes_of, AreDistinct, HasEachOnce, IsRightEntry, IsRight, Agrees}
+use Rattle.ksv_memo_rules.specs.Right.{nodes_of, AreDistinct, StandsIn, IsRight, Agrees}
 use Rattle.ksv_memo_rules.proofs.Lists.{All-map, All-always, All-both, All-++, All-left, All-right, All-flat_map, All-from_flat_map}
 use Rattle.ksv_memo_rules.proofs.Evals.{done-free, completed-apart, IsOut-cons, IsOut, NoneIn, eqb_true, asking, told_answered, eval-open, eval-free}
 use Rattle.ksv_memo_rules.proofs.Evals.{completed-free, transfer, deep_enough, tells-free, answered_is, eval-zero_unanswered}
@@ -26,16 +23,16 @@ pub record IsKept {N A : Type 0} (w : Standing N A) (kept : List N) (n : N) : Ty
   pub answered : IsAnswered (tells w [] n).outcome
   closed : AllByRecursion (IsIn w kept) (tells w [] n).asked
 
-kept_cases : {N A : Type 0} (w : Standing N A) → IsSettled w → (kept : List N) (e : Entry N A) (n : N) (rest : Bool) → IsRightEntry w kept e
+kept_cases : {N A : Type 0} (w : Standing N A) → IsSettled w → (kept : List N) (e : Entry N A) (n : N) (rest : Bool) → StandsIn w kept e
     → (rest ≡ true → IsKept w kept n) → (b : Bool) → nat_eq (w.number n) (w.number e.node) ≡ b → (b || rest) ≡ true → IsKept w kept n
 kept_cases {N} {A} w law kept e n rest right more true same h =
     let eq : n ≡ e.node = law.own_number n e.node (eqb_true (w.number n) (w.number e.node) same) in
     let P : N → Type 0 = λ x. IsKept w kept x in
     let Q : Outcome N A → Type 0 = λ out. IsAnswered out in
-    subst P (sym eq) (record { answered = subst Q (sym right.outcome) tt; closed = subst (AllByRecursion (IsIn w kept)) (sym right.asked) right.closed })
+    subst P (sym eq) (record { answered = subst Q (sym right.outcome) tt; closed = right.closed })
 kept_cases w law kept e n rest right more false same h = more h
 
-pub kept_is : {N A : Type 0} (w : Standing N A) → IsSettled w → (kept : List N) (es : List (Entry N A)) → AllByRecursion (IsRightEntry w kept) es → (n : N)
+pub kept_is : {N A : Type 0} (w : Standing N A) → IsSettled w → (kept : List N) (es : List (Entry N A)) → AllByRecursion (StandsIn w kept) es → (n : N)
     → IsIn w (nodes_of es) n → IsKept w kept n
 kept_is w law kept [] right n h = absurd (cc)
 kept_is w law kept (e ∷ es) right n h = kept_cases w law kept e n (is_among w.number (nodes_of es) n) right.0 (kept_is w law kept es right.1 n)
@@ -123,40 +120,9 @@ self_in w (e ∷ es) = (
 pub agrees : {N A : Type 0} (w : Standing N A) → IsSettled w → (es : List (Entry N A)) → IsRight w es → (opened : List N)
     → AllByRecursion (IsOut w (nodes_of es)) opened → Agrees es (answering w opened)
 agrees {N} {A} w law es right opened apart =
-    All-both (λ e. IsIn w (nodes_of es) e.node) (IsRightEntry w (nodes_of es)) (λ e. answering w opened e.node ≡ Answered e.answer)
+    All-both (λ e. IsIn w (nodes_of es) e.node) (StandsIn w (nodes_of es)) (λ e. answering w opened e.node ≡ Answered e.answer)
     (λ e is_in is_right. ap (λ (u : Told N A). u.outcome) (kept_anywhere w law es right opened apart e.node is_in) ∙ is_right.outcome)
     es (self_in w es) right.each
-
-IsRightEntry-append : {N A : Type 0} (w : Standing N A) (kept more : List N) (e : Entry N A) → IsRightEntry w kept e → IsRightEntry w (kept ++ more) e
-IsRightEntry-append w kept more e h =
-    record { outcome = h.outcome; asked = h.asked; uses = h.uses; closed = All-map (IsIn-append w kept more) e.asked h.closed }
-
-pub keep : {N A : Type 0} (w : Standing N A) → IsSettled w → (es : List (Entry N A)) (e : Entry N A) (us : List Use) → IsRight w es
-    → IsOut w (nodes_of es) e.node → AllByRecursion (IsIn w (nodes_of es)) e.asked → HasEachOnce e.uses us
-    → ((g : N → Outcome N A) → Agrees es g → told w g e.node (suc w.replies) [] ≡ record { outcome = Answered e.answer; asked = e.asked; uses = us })
-    → IsRight w (es ++ e ∷ [])
-keep {N} {A} w law es e us right out closed once came =
-    let is : tells w [] e.node ≡ record { outcome = Answered e.answer; asked = e.asked; uses = us } = tells-free w law [] e.node (AreDistinct-none w) refl
-    ∙ came (answering w (e.node ∷ [])) (agrees w law es right (e.node ∷ []) (out, tt)) in
-    let at : List N → Type 0 = λ ns. AllByRecursion (IsRightEntry w ns) (es ++ e ∷ []) in
-    let apart : List N → Type 0 = λ ns. AreDistinct w ns in
-    let used : HasEachOnce e.uses (tells w [] e.node).uses = subst (λ (t : Told N A). HasEachOnce e.uses t.uses) (sym is) once in
-    record {
-      each = subst at (sym (nodes_of-append es (e ∷ []))) (All-++ (IsRightEntry w (nodes_of es ++ e.node ∷ [])) es (e ∷ [])
-          (All-map (λ x h. IsRightEntry-append w (nodes_of es) (e.node ∷ []) x h) es right.each) (
-            record {
-              outcome = ap (λ (t : Told N A). t.outcome) is;
-              asked = ap (λ (t : Told N A). t.asked) is;
-              uses = used;
-              closed = All-map
-                  (IsIn-append w (nodes_of es) (e.node ∷ [])) e.asked closed;
-            },
-            tt,
-          ));
-      once = subst apart (sym (nodes_of-append es (e ∷ [])))
-          (subst (IsDistinct nat_eq) (sym (map-append w.number (nodes_of es) (e.node ∷ [])))
-          (IsDistinct-push nat_eq_equiv (map w.number (nodes_of es)) (w.number e.node) right.once out));
-    }
 
 -- with no entry the engine is right
 pub none_right : {N A : Type 0} (w : Standing N A) (es : List (Entry N A)) → es ≡ [] → IsRight w es
@@ -171,7 +137,7 @@ done-kept {N} {A} w law es right opened apart n h =
     (subst (λ (t : Told N A). IsAnswered t.outcome) (sym (kept_anywhere w law es right opened apart n h)) (each n h).answered)
 
 -- ---- what a kept node completes is the same whatever is open
-flat_map_congr : {X Y : Type 0} (f g : X → List Y) (xs : List X) → AllByRecursion (λ x. f x ≡ g x) xs → flat_map f xs ≡ flat_map g xs
+pub flat_map_congr : {X Y : Type 0} (f g : X → List Y) (xs : List X) → AllByRecursion (λ x. f x ≡ g x) xs → flat_map f xs ≡ flat_map g xs
 flat_map_congr f g [] h = refl
 flat_map_congr f g (x ∷ xs) h = ap (λ ys. ys ++ flat_map f xs) h.0 ∙ ap (λ ys. g x ++ ys) (flat_map_congr f g xs h.1)
 

@@ -2,7 +2,7 @@
 use Rattle.std.specs.Prelude.{ℕ, List, Option}
 use Rattle.ksv_bytes.specs.declared.uses.Use.{Use}
 
--- a kept node with its answer, the nodes that it asked in order, and its uses, each once
+-- a kept node with its answer, and the nodes and the uses, each once, by which an edit takes it
 pub record Entry (N A : Type 0) : Type 0 where
   pub node : N
   pub answer : A

@@ -1,12 +1,17 @@
 -- What is right to keep, what a question keeps, and the turns that it takes.
-use Rattle.std.specs.Prelude.{◌≡◌, ◌≢◌, ◌↔◌, ℕ, zero, suc, ◌+◌, ◌-◌, ◌^◌, min, length, Option, true, cond, List, [], ◌∷◌, ◌++◌, map, nat_eq, Contains}
+use Rattle.std.specs.Prelude.{◌≡◌, ◌≢◌, ◌↔◌, ◌<◌, ◌≤◌, ◌||◌, ℕ, zero, suc, ◌+◌, ◌-◌, ◌^◌, min, length, Option, true, cond, List, [], ◌∷◌, ◌++◌, map}
+use Rattle.std.specs.Prelude.{nat_eq, Contains, Any}
 use Rattle.std.specs.Option.{option_map}
-use Rattle.std.specs.List.{AllByRecursion, AllPairs, IsDistinct}
+use Rattle.std.specs.List.{AllByRecursion, AllPairs, IsDistinct, list_any}
+use Rattle.ksv_bytes.specs.declared.uses.Use.TheVariants.{Bytes}
+use Rattle.ksv_bytes.specs.declared.uses.Change.{Change}
+use Rattle.ksv_bytes.specs.Uses.{is_use_touched}
 use Rattle.ksv_memo_rules.specs.declared.rules.Outcome.{Outcome}
 use Rattle.ksv_memo_rules.specs.declared.rules.Outcome.TheVariants.{Answered}
 use Rattle.ksv_memo_rules.specs.Meaning.{Standing}
 use Rattle.ksv_memo_rules.specs.Evaluation.{is_among, tells}
 use Rattle.ksv_memo_rules.specs.Entry.{Entry}
+use Rattle.ksv_memo_rules.specs.Touched.{tree, is_touched}
 
 -- the kept nodes
 abbrev pub nodes_of : {N A : Type 0} → List (Entry N A) → List N
@@ -25,16 +30,24 @@ pub record HasEachOnce {X : Type 0} (once xs : List X) : Type 0 where
   pub distinct : AllPairs (λ a b. a ≢ b) once
   pub same : (x : X) → Contains once x ↔ Contains xs x
 
--- an entry has what its node answers, asks and uses from nothing, and all that its node asked is kept
-pub record IsRightEntry {N A : Type 0} (w : Standing N A) (kept : List N) (e : Entry N A) : Type 0 where
+-- An entry stands in for its node's evaluation from nothing. It has the answer, and all that the node asked is kept. The nodes
+-- that the entry names are kept, and have smaller trees. A change touches a use in the node's tree exactly if it touches one of
+-- the entry's uses, or one in the tree of a node that the entry names. It names no more nodes than the node asked. It has no use
+-- twice; its uses of bytes are those of the node itself, and each of its uses is made in the node's tree
+pub record StandsIn {N A : Type 0} (w : Standing N A) (kept : List N) (e : Entry N A) : Type 0 where
   pub outcome : (tells w [] e.node).outcome ≡ Answered e.answer
-  pub asked : (tells w [] e.node).asked ≡ e.asked
-  pub uses : HasEachOnce e.uses (tells w [] e.node).uses
-  pub closed : AllByRecursion (λ m. is_among w.number kept m ≡ true) e.asked
+  pub closed : AllByRecursion (λ m. is_among w.number kept m ≡ true) (tells w [] e.node).asked
+  pub named : AllByRecursion (λ m. is_among w.number kept m ≡ true) e.asked
+  pub lower : AllByRecursion (λ m. length (tree w m) < length (tree w e.node)) e.asked
+  pub touched : (change : Change) → is_touched w change e.node ≡ (list_any (is_use_touched change) e.uses || list_any (is_touched w change) e.asked)
+  pub few : length e.asked ≤ length (tells w [] e.node).asked
+  pub once : AllPairs (λ a b. a ≢ b) e.uses
+  pub bytes : (from to : ℕ) → Contains e.uses (Bytes from to) ↔ Contains (tells w [] e.node).uses (Bytes from to)
+  pub made : AllByRecursion (λ used. Any (λ m. Contains (tells w [] m).uses used) (tree w e.node)) e.uses
 
--- each entry is right, and no node has two
+-- each entry stands in for its node, and no node has two
 pub record IsRight {N A : Type 0} (w : Standing N A) (es : List (Entry N A)) : Type 0 where
-  pub each : AllByRecursion (IsRightEntry w (nodes_of es)) es
+  pub each : AllByRecursion (StandsIn w (nodes_of es)) es
   pub once : AreDistinct w (nodes_of es)
 
 -- a list of nodes is distinct, and has the members of another

@@ -35,6 +35,7 @@
 //! - `Lists`: what holds of each element of a list
 //! - `Replying`: lent replies are the answers in the asked slots
 //! - `Standing`: the laws of rules over one list of bytes
+//! - `Standins`: an entry with its node's own asks and uses is right, so one more can be kept
 #![tactic(auto)]
 
 mod held;

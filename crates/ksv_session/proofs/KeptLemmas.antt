@@ -19,7 +19,7 @@ use Rattle.ksv_rule_meaning.proofs.Completing.{answered_direct, cost_is_direct, 
 use Rattle.ksv_memo_rules.specs.Entry.{Entry, Memo}
 use Rattle.ksv_memo_rules.specs.Evaluation.{IsAnswered, done, is_among, tells}
 use Rattle.ksv_memo_rules.specs.Meaning.{IsSettled, Standing}
-use Rattle.ksv_memo_rules.specs.Right.{AreDistinct, AreExactly, IsRight, IsRightEntry, costs, counted, fresh, nodes_of}
+use Rattle.ksv_memo_rules.specs.Right.{AreDistinct, AreExactly, IsRight, StandsIn, costs, counted, fresh, nodes_of}
 use Rattle.ksv_memo_rules.specs.Touched.{left_after}
 use Rattle.ksv_memo_rules.specs.declared.rules.Outcome.{Outcome}
 use Rattle.ksv_memo_rules.specs.declared.rules.Outcome.TheVariants.{Answered, Circle}
@@ -192,13 +192,12 @@ module _ (d : Description) (b : List ℕ) where
         ∙ counted_is (sum_by (calls d b) (fresh node_number kept (all_completed d b ns))))
 
   -- what kept nodes ask is kept
-  asks_kept : (now : List Node) (es : List (Entry Node Ruled)) → AllByRecursion (IsRightEntry w now) es
+  asks_kept : (now : List Node) (es : List (Entry Node Ruled)) → AllByRecursion (StandsIn w now) es
       → AllByRecursion (λ n. AllByRecursion (λ a. is_among node_number now a ≡ true) (asks_of_node d b [] n)) (nodes_of es)
   asks_kept now [] h = tt
   asks_kept now (e ∷ es) h =
       let direct : IsDirect d b [] e.node = asks_are_direct d b [] e.node (record { distinct = alone; apart = refl }) in
-      let is : asks_of_node d b [] e.node ≡ e.asked = sym direct.asked ∙ h.0.asked in
-      (subst (AllByRecursion (λ a. is_among node_number now a ≡ true)) (sym is) h.0.closed, asks_kept now es h.1)
+      (subst (AllByRecursion (λ a. is_among node_number now a ≡ true)) direct.asked h.0.closed, asks_kept now es h.1)
 
   -- ---- edits
 
