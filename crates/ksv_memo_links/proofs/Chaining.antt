@@ -52,9 +52,6 @@ same-chain a b l p n h s = record {
 -- ---- one is taken out
 module _ (a b : List Entry) (f g : List ℕ) (l n k : ℕ) (h : IsChain a l (first_at f l) (suc n)) (kn : k ≤ n) (u : Unlinks a b f g (hop a (first_at f l) k))
   where
-    at_k : ℕ
-    at_k = hop a (first_at f l) k
-
     of_k : (entry_at a (hop a (first_at f l) k)).list ≡ l
     of_k = h.of k (omega arith)
 

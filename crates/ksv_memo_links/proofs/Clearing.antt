@@ -1,6 +1,6 @@
 -- A row that is cut from its end.
 use Rattle.std.proofs.Common.{◌≡◌, ℕ, ◌-◌, ◌<◌, ◌≤◌, List, [], length, take, set, sym, ◌∙◌, ap, arith}
-use Rattle.std.proofs.lemmas.List.{set-set, set-get_or, take-take, length-take-le, take_all}
+use Rattle.std.proofs.lemmas.List.{set-set, take-take, length-take-le}
 use Rattle.ksv_memo_links.specs.Shelved.{row, pop_row}
 use Rattle.ksv_memo_links.proofs.Edits.{row_set}
 
@@ -9,13 +9,6 @@ pub record IsCutTo {X : Type 0} (before now : List (List X)) (o : ℕ) : Type 0 
   pub inside : o < length before
   pub short : length (row now o) ≤ length (row before o)
   pub is : now ≡ set before o (take (length (row now o)) (row before o))
-
-pub cut-none : {X : Type 0} (rows : List (List X)) (o : ℕ) → o < length rows → IsCutTo rows rows o
-cut-none rows o lt = record {
-  inside = lt;
-  short = omega arith;
-  is = sym (ap (λ xs. set rows o xs) (take_all (length (row rows o)) (row rows o) (omega arith)) ∙ set-get_or rows o []);
-}
 
 -- what is left of the row after one more pop
 pub cut-next : {X : Type 0} (before now then : List (List X)) (o : ℕ) → IsCutTo before now o → then ≡ pop_row now o
@@ -46,7 +39,3 @@ cut-more {X} before now then o h e =
       short = omega arith;
       is = (cut-next before now then o h e).1 ∙ ap (λ i. set before o (take i (row before o))) (sym n);
     }
-
-pub cut-all : {X : Type 0} (before now then : List (List X)) (o : ℕ) → IsCutTo before now o → then ≡ pop_row now o → length (row now o) ≡ 0
-    → then ≡ set before o []
-cut-all {X} before now then o h e z = (cut-next before now then o h e).1 ∙ ap (λ n. set before o (take (n - 1) (row before o))) z

@@ -1,5 +1,5 @@
 -- What was marked is what has to go.
-use Rattle.std.proofs.Common.{◌≡◌, ◌≢◌, ◌⊎◌, inl, inr, Bool, true, false, cond, eqb, ℕ, suc, ◌+◌, ◌-◌, ◌*◌, ◌^◌, ◌<◌, ◌≤◌, max, min, List, [], ◌∷◌, length, map}
+use Rattle.std.proofs.Common.{◌≡◌, ◌≢◌, ◌⊎◌, inl, inr, Bool, true, false, cond, eqb, ℕ, suc, ◌+◌, ◌-◌, ◌*◌, ◌<◌, ◌≤◌, max, min, List, [], ◌∷◌, length, map}
 use Rattle.std.proofs.Common.{take, get_or, Contains, refl, sym, ◌∙◌, ap, subst, arith, true≢false, sum_by, count_by, nat_eq, nat_lt, nat_le, ◌||◌}
 use Rattle.std.proofs.lemmas.List.Sums.{sum_by-cons}
 use Rattle.std.proofs.lemmas.Bool.{cases_lt, cases_Bool}
@@ -176,10 +176,6 @@ sized-near p q e h =
     let k = h.looks in
     omega arith
 
-zeros : {X : Type 0} (xs : List X) → sum_by (λ x. 0) xs ≡ 0
-zeros [] = refl
-zeros {X} (x ∷ xs) = let c = sum_by-cons (λ (y : X). 0) x xs in let r = zeros xs in omega arith
-
 pub append-touched : (p q : Parts) (pages : ℕ) → IsListed p.uses.lists (map lists_of_uses p.uses.rows)
     → HitsRows p q Append (end_lists p.uses.lists) 0 (min 1 (length (end_lists p.uses.lists))) → HitsTouched p q Append pages
 append-touched p q pages e h = record {
@@ -333,6 +329,3 @@ module _ (p q r : Parts) (change : Change) (pages : ℕ) (w : IsWhole p) (idle :
 
   pub rises : looks p ≤ looks r
   rises = to_r.rises
-
-  pub least : min (p.marks.looks + length r.marks.work) (2 ^ 64 - 1) ≤ r.marks.looks
-  least = let z = ap (λ (ws : List ℕ). length ws) idle in to_r.least p.marks.looks (omega arith)

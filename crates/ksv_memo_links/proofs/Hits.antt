@@ -93,17 +93,6 @@ pub peek-more : (p q q1 : Parts) (P : List Bool → Change → Type 0) → Marks
 peek-more p q q1 P h k = more-trans p q q1 P (λ first x. Unit {0}) h (no-mark q q1 (λ first x. Unit {0}) k.same k.kept k.work k.least k.rises)
     (λ first x w m. tt)
 
--- the first item was looked for
-pub row-first : (p p1 : Parts) (change : Change) (items : List Item) → Peeks p p1 → HitsRow p p1 change items 0 1
-row-first p p1 change items k =
-    let h = row-none p change items in
-    record {
-      more = peek-more p p p1 (IsEdit change) h.more k;
-      out = λ s lt. absurd (omega arith);
-      within = omega arith;
-      looks = let len = ap (λ (ws : List ℕ). length ws) k.work in let b = k.looks in omega arith;
-    }
-
 pub row-more : (p q q1 r : Parts) (change : Change) (items : List Item) (i slot : ℕ) → HitsRow p q change items i 0 → Peeks q q1 → i < length items
     → slot ≡ (get_or items i (at 0 0)).owner → HitsSlot q1 r change slot → HitsRow p r change items (i + 1) 0
 row-more p q q1 r change items i slot h k lt e u = record {

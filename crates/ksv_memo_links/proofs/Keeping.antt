@@ -30,6 +30,48 @@ noted_row : (rows : List (List ℕ)) (old : List (List ℕ)) (s n : ℕ) → len
     → 0 < length (row rows s) → s < n
 noted_row rows old s n e h lt = h (omega arith)
 
+-- ---- what one slot asked and used is given anew
+pub record IsSetAt (p r : Parts) (slot : ℕ) (asks : List ℕ) (us : List Use) : Type 0 where
+  pub asked_other : (s : ℕ) → s ≢ slot → row r.asks.named s ≡ row p.asks.named s
+  pub asked_here : row r.asks.named slot ≡ asks
+  pub uses_other : (s : ℕ) → s ≢ slot → row r.uses.rows s ≡ row p.uses.rows s
+  pub uses_here : row r.uses.rows slot ≡ us
+  pub shaped : IsShaped r
+
+set_at : (p r : Parts) (slot : ℕ) (asks : List ℕ) (us : List Use) → IsWhole p → slot < length p.marks.kept → r.asks.named ≡ set p.asks.named slot asks
+    → r.uses.rows ≡ set p.uses.rows slot us → length r.asks.lists ≡ length p.asks.lists → length r.marks.kept ≡ length p.marks.kept
+    → IsSetAt p r slot asks us
+set_at p r slot asks us w inside named rows lists count = record {
+  asked_other = asked_other;
+  asked_here = ap (λ rows. row rows slot) named ∙ row_set p.asks.named slot asks (let h = w.shaped.asks in omega arith);
+  uses_other = uses_other;
+  uses_here = ap (λ rows. row rows slot) rows ∙ row_set p.uses.rows slot us (let h = w.shaped.uses in omega arith);
+  shaped = (let u = ap length named in let u1 = length-set p.asks.named slot asks in
+      let v = ap length rows in let v1 = length-set p.uses.rows slot us in
+      let h1 = w.shaped.asks in let h2 = w.shaped.lists in let h4 = w.shaped.uses in
+      record { asks = omega arith; lists = omega arith; uses = omega arith; asked_in = asked_in; used_in = used_in });
+}
+  where
+    asked_other : (s : ℕ) → s ≢ slot → row r.asks.named s ≡ row p.asks.named s
+    asked_other s ne = ap (λ rows. row rows s) named ∙ row_other p.asks.named slot s asks ne
+
+    uses_other : (s : ℕ) → s ≢ slot → row r.uses.rows s ≡ row p.uses.rows s
+    uses_other s ne = ap (λ rows. row rows s) rows ∙ row_other p.uses.rows slot s us ne
+
+    asked_in : (s : ℕ) → 0 < length (row r.asks.named s) → s < length r.marks.kept
+    asked_in s lt = by (eqb_tells s slot)
+      where
+        by : ((eqb s slot ≡ true) × (s ≡ slot)) ⊎ ((eqb s slot ≡ false) × (s ≢ slot)) → s < length r.marks.kept
+        by (inl e) = let f = e.1 in omega arith
+        by (inr e) = let o = ap length (asked_other s e.1) in let k = w.shaped.asked_in s (omega arith) in omega arith
+
+    used_in : (s : ℕ) → 0 < length (row r.uses.rows s) → s < length r.marks.kept
+    used_in s lt = by (eqb_tells s slot)
+      where
+        by : ((eqb s slot ≡ true) × (s ≡ slot)) ⊎ ((eqb s slot ≡ false) × (s ≢ slot)) → s < length r.marks.kept
+        by (inl e) = let f = e.1 in omega arith
+        by (inr e) = let o = ap length (uses_other s e.1) in let k = w.shaped.used_in s (omega arith) in omega arith
+
 -- ---- a slot is taken
 module _ (p q r : Parts) (slot : ℕ) (w : IsWhole p) (kept : q.marks.kept ≡ p.marks.kept) (work : p.marks.work ≡ q.marks.work ++ slot ∷ [])
     (inside : slot < length p.marks.kept) (asks : q.asks ≡ p.asks) (uses : q.uses ≡ p.uses) (c : Clears q r slot) where
@@ -45,63 +87,17 @@ module _ (p q r : Parts) (slot : ℕ) (w : IsWhole p) (kept : q.marks.kept ≡ p
   work_now : p.marks.work ≡ r.marks.work ++ slot ∷ []
   work_now = work ∙ ap (λ m. m.work ++ slot ∷ []) (sym c.marks)
 
-  asked_in : slot < length p.asks.named
-  asked_in = let h = w.shaped.asks in omega arith
-
-  uses_in : slot < length p.uses.rows
-  uses_in = let h = w.shaped.uses in omega arith
+  at : IsSetAt p r slot [] []
+  at = set_at p r slot [] [] w inside asked_now uses_now (c.ask_lists ∙ ap (λ b. length b.lists) asks) (ap length kept_now)
 
   out_now : is_kept p.marks.kept slot ≡ false
   out_now = w.waits slot (subst (λ ws. Contains ws slot) (sym work_now) (Contains-push r.marks.work slot))
-
-  -- a row that is read after it
-  asked_other : (s : ℕ) → s ≢ slot → row r.asks.named s ≡ row p.asks.named s
-  asked_other s ne = ap (λ rows. row rows s) asked_now ∙ row_other p.asks.named slot s [] ne
-
-  asked_here : row r.asks.named slot ≡ []
-  asked_here = ap (λ rows. row rows slot) asked_now ∙ row_set p.asks.named slot [] asked_in
-
-  uses_other : (s : ℕ) → s ≢ slot → row r.uses.rows s ≡ row p.uses.rows s
-  uses_other s ne = ap (λ rows. row rows s) uses_now ∙ row_other p.uses.rows slot s [] ne
-
-  uses_here : row r.uses.rows slot ≡ []
-  uses_here = ap (λ rows. row rows slot) uses_now ∙ row_set p.uses.rows slot [] uses_in
-
-  less_asked : (s : ℕ) → 0 < length (row r.asks.named s) → s < length r.marks.kept
-  less_asked s lt = by (eqb_tells s slot)
-    where
-      n : length r.marks.kept ≡ length p.marks.kept
-      n = ap length kept_now
-
-      by : ((eqb s slot ≡ true) × (s ≡ slot)) ⊎ ((eqb s slot ≡ false) × (s ≢ slot)) → s < length r.marks.kept
-      by (inl e) = let m = n in let f = e.1 in omega arith
-      by (inr e) = let m = n in let k = noted_row r.asks.named p.asks.named s (length p.marks.kept) (ap length (asked_other s e.1)) (w.shaped.asked_in s) lt in
-          omega arith
-
-  less_used : (s : ℕ) → 0 < length (row r.uses.rows s) → s < length r.marks.kept
-  less_used s lt = by (eqb_tells s slot)
-    where
-      n : length r.marks.kept ≡ length p.marks.kept
-      n = ap length kept_now
-
-      by : ((eqb s slot ≡ true) × (s ≡ slot)) ⊎ ((eqb s slot ≡ false) × (s ≢ slot)) → s < length r.marks.kept
-      by (inl e) = let m = n in let f = e.1 in omega arith
-      by (inr e) = let m = n in let o = ap length (uses_other s e.1) in let k = w.shaped.used_in s (omega arith) in omega arith
-
-  taken_shaped : IsShaped r
-  taken_shaped =
-      let n = ap length kept_now in
-      let u = ap length asked_now in let u1 = length-set p.asks.named slot [] in
-      let v = ap length uses_now in let v1 = length-set p.uses.rows slot [] in
-      let l = c.ask_lists in let l1 = ap (λ b. length b.lists) asks in
-      let h1 = w.shaped.asks in let h2 = w.shaped.lists in let h4 = w.shaped.uses in
-      record { asks = omega arith; lists = omega arith; uses = omega arith; asked_in = less_asked; used_in = less_used }
 
   taken_sound : IsSound r.marks.kept r.marks.work r.asks.named r.uses.rows
   taken_sound = record {
     asked_kept = λ s k e lt. (let e0 = ap (λ ks. is_kept ks s) (sym kept_now) ∙ e in
         let ne : s ≢ slot = λ same. true≢false (sym e0 ∙ ap (λ n. is_kept p.marks.kept n) same ∙ out_now) in
-        let o = asked_other s ne in
+        let o = at.asked_other s ne in
         ap (λ ks. is_kept ks (get_or (row r.asks.named s) k 0)) kept_now ∙ ap (λ (ns : List ℕ). is_kept p.marks.kept (get_or ns k 0)) o
         ∙ w.asked_kept s k e0 (subst (λ (ns : List ℕ). k < length ns) o lt));
     vacant = λ s e non. vacant s e non (eqb_tells s slot);
@@ -117,18 +113,18 @@ module _ (p q r : Parts) (slot : ℕ) (w : IsWhole p) (kept : q.marks.kept ≡ p
     where
       vacant : (s : ℕ) → is_kept r.marks.kept s ≡ false → (Contains r.marks.work s → ⊥)
           → ((eqb s slot ≡ true) × (s ≡ slot)) ⊎ ((eqb s slot ≡ false) × (s ≢ slot)) → (row r.asks.named s ≡ []) × (row r.uses.rows s ≡ [])
-      vacant s e non (inl q) = (ap (λ n. row r.asks.named n) q.1 ∙ asked_here, ap (λ n. row r.uses.rows n) q.1 ∙ uses_here)
+      vacant s e non (inl q) = (ap (λ n. row r.asks.named n) q.1 ∙ at.asked_here, ap (λ n. row r.uses.rows n) q.1 ∙ at.uses_here)
       vacant s e non (inr q) =
           let v = w.vacant s (ap (λ ks. is_kept ks s) (sym kept_now) ∙ e)
           (λ k. cases s q.1 non (Contains-push_cases r.marks.work slot s (subst (λ ws. Contains ws s) work_now k))) in
-          (asked_other s q.1 ∙ v.0, uses_other s q.1 ∙ v.1)
+          (at.asked_other s q.1 ∙ v.0, at.uses_other s q.1 ∙ v.1)
         where
           cases : (s : ℕ) → s ≢ slot → (Contains r.marks.work s → ⊥) → Contains r.marks.work s ⊎ (slot ≡ s) → ⊥
           cases s ne non (inl k) = non k
           cases s ne non (inr e) = ne (sym e)
 
   pub taken_whole : IsWhole r
-  taken_whole = whole r taken_shaped taken_sound
+  taken_whole = whole r at.shaped taken_sound
 
 -- ---- more slots, which have nothing
 pub same_rows : {T : Type 0} (rows : List (List T)) → HasSameRows rows rows
@@ -186,53 +182,11 @@ module _ (p q r : Parts) (slot : ℕ) (asks : List ℕ) (us : List Use) (w : IsW
   uses_fill : r.uses.rows ≡ set p.uses.rows slot us
   uses_fill = ap (λ u. u.rows) uses ∙ f.uses
 
-  long_asked : slot < length p.asks.named
-  long_asked = let h = w.shaped.asks in omega arith
-
-  long_uses : slot < length p.uses.rows
-  long_uses = let h = w.shaped.uses in omega arith
-
-  asked_still : (s : ℕ) → s ≢ slot → row r.asks.named s ≡ row p.asks.named s
-  asked_still s ne = ap (λ rows. row rows s) asked_fill ∙ row_other p.asks.named slot s asks ne
-
-  asked_new : row r.asks.named slot ≡ asks
-  asked_new = ap (λ rows. row rows slot) asked_fill ∙ row_set p.asks.named slot asks long_asked
-
-  uses_still : (s : ℕ) → s ≢ slot → row r.uses.rows s ≡ row p.uses.rows s
-  uses_still s ne = ap (λ rows. row rows s) uses_fill ∙ row_other p.uses.rows slot s us ne
-
-  uses_new : row r.uses.rows slot ≡ us
-  uses_new = ap (λ rows. row rows slot) uses_fill ∙ row_set p.uses.rows slot us long_uses
-
-  same_count : length r.marks.kept ≡ length p.marks.kept
-  same_count = ap length kept ∙ length-set p.marks.kept slot true
+  at : IsSetAt p r slot asks us
+  at = set_at p r slot asks us w inside asked_fill uses_fill (ap (λ b. length b.lists) linked ∙ f.ask_lists) (ap length kept ∙ length-set p.marks.kept slot true)
 
   kept_other : (s : ℕ) → s ≢ slot → is_kept r.marks.kept s ≡ is_kept p.marks.kept s
   kept_other s ne = ap (λ ks. is_kept ks s) kept ∙ get_or-set_other p.marks.kept slot s true false ne
-
-  fill_asked : (s : ℕ) → 0 < length (row r.asks.named s) → s < length r.marks.kept
-  fill_asked s lt = by (eqb_tells s slot)
-    where
-      by : ((eqb s slot ≡ true) × (s ≡ slot)) ⊎ ((eqb s slot ≡ false) × (s ≢ slot)) → s < length r.marks.kept
-      by (inl e) = let m = same_count in let g = e.1 in omega arith
-      by (inr e) = let m = same_count in let k = noted_row r.asks.named p.asks.named s (length p.marks.kept) (ap length (asked_still s e.1))
-          (w.shaped.asked_in s) lt in omega arith
-
-  fill_used : (s : ℕ) → 0 < length (row r.uses.rows s) → s < length r.marks.kept
-  fill_used s lt = by (eqb_tells s slot)
-    where
-      by : ((eqb s slot ≡ true) × (s ≡ slot)) ⊎ ((eqb s slot ≡ false) × (s ≢ slot)) → s < length r.marks.kept
-      by (inl e) = let m = same_count in let g = e.1 in omega arith
-      by (inr e) = let m = same_count in let o = ap length (uses_still s e.1) in let k = w.shaped.used_in s (omega arith) in omega arith
-
-  filled_shaped : IsShaped r
-  filled_shaped =
-      let n = same_count in
-      let u = ap length asked_fill in let u1 = length-set p.asks.named slot asks in
-      let v = ap length uses_fill in let v1 = length-set p.uses.rows slot us in
-      let l = f.ask_lists in let l1 = ap (λ b. length b.lists) linked in
-      let h1 = w.shaped.asks in let h2 = w.shaped.lists in let h4 = w.shaped.uses in
-      record { asks = omega arith; lists = omega arith; uses = omega arith; asked_in = fill_asked; used_in = fill_used }
 
   none_waits : (s : ℕ) → Contains r.marks.work s → ⊥
   none_waits s c = let lt = c.1 in let z = ap (λ (ws : List ℕ). length ws) work in omega arith
@@ -254,10 +208,10 @@ module _ (p q r : Parts) (slot : ℕ) (asks : List ℕ) (us : List Use) (w : IsW
       asked : (s k : ℕ) → is_kept r.marks.kept s ≡ true → k < length (row r.asks.named s)
           → ((eqb s slot ≡ true) × (s ≡ slot)) ⊎ ((eqb s slot ≡ false) × (s ≢ slot)) → is_kept r.marks.kept (get_or (row r.asks.named s) k 0) ≡ true
       asked s k e lt (inl q) =
-          let o : row r.asks.named s ≡ asks = ap (λ n. row r.asks.named n) q.1 ∙ asked_new in
+          let o : row r.asks.named s ≡ asks = ap (λ n. row r.asks.named n) q.1 ∙ at.asked_here in
           ap (λ (ns : List ℕ). is_kept r.marks.kept (get_or ns k 0)) o ∙ now (get_or asks k 0) (asks_kept k 0 (subst (λ (ns : List ℕ). k < length ns) o lt))
       asked s k e lt (inr q) =
-          let o = asked_still s q.1 in
+          let o = at.asked_other s q.1 in
           ap (λ (ns : List ℕ). is_kept r.marks.kept (get_or ns k 0)) o
           ∙ now (get_or (row p.asks.named s) k 0) (w.asked_kept s k (sym (kept_other s q.1) ∙ e) (subst (λ (ns : List ℕ). k < length ns) o lt))
 
@@ -266,10 +220,10 @@ module _ (p q r : Parts) (slot : ℕ) (asks : List ℕ) (us : List Use) (w : IsW
       vacant s e (inl q) =
           absurd (true≢false (sym
           (ap (λ n. is_kept r.marks.kept n) q.1 ∙ ap (λ ks. is_kept ks slot) kept ∙ get_or-set_same p.marks.kept slot true false inside) ∙ e))
-      vacant s e (inr q) = let v = w.vacant s (sym (kept_other s q.1) ∙ e) (none_waited s) in (asked_still s q.1 ∙ v.0, uses_still s q.1 ∙ v.1)
+      vacant s e (inr q) = let v = w.vacant s (sym (kept_other s q.1) ∙ e) (none_waited s) in (at.asked_other s q.1 ∙ v.0, at.uses_other s q.1 ∙ v.1)
 
   pub filled_whole : IsWhole r
-  filled_whole = whole r filled_shaped filled_sound
+  filled_whole = whole r at.shaped filled_sound
 
 -- a row that was empty is so again
 pub undone : {X : Type 0} (before now then : List (List X)) (o : ℕ) (xs : List X) → row before o ≡ [] → now ≡ set before o xs → then ≡ set now o []

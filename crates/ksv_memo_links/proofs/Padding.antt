@@ -1,12 +1,10 @@
 -- More rows at the end, which are empty.
-use Rattle.std.proofs.Common.{◌≡◌, ◌⊎◌, inl, inr, Bool, false, cond, ℕ, zero, suc, ◌-◌, ◌<◌, ◌≤◌, List, [], ◌++◌, length, map, get_or, replicate, count_by}
+use Rattle.std.proofs.Common.{◌≡◌, ◌⊎◌, inl, inr, ℕ, ◌-◌, ◌<◌, ◌≤◌, List, [], ◌++◌, length, map, get_or, replicate}
 use Rattle.std.proofs.Common.{refl, sym, ◌∙◌, ap, subst, arith}
 use Rattle.std.proofs.lemmas.Bool.{cases_lt}
 use Rattle.std.proofs.lemmas.List.{length-append, length-map, length-replicate, get_or_append_left, get_or-append_right, get_or-replicate, get_or_past}
 use Rattle.std.proofs.lemmas.List.{get_or-map}
-use Rattle.std.proofs.lemmas.List.Sums.{sum_by-append, sum_by-cons}
 use Rattle.ksv_memo_links.specs.Shelved.{row, HasSameRows}
-use Rattle.ksv_memo_links.specs.Marking.{HasMore}
 
 -- what lies after is what is found where there is nothing
 pub padded : {X : Type 0} (xs : List X) (n r : ℕ) (d : X) → get_or (xs ++ replicate n d) r d ≡ get_or xs r d
@@ -35,15 +33,3 @@ rows_more {V} {X} f d none seen rows n same = subst (λ (xs : List (List X)). Ha
   more = (let a = length-map rows f in let b = length-map (rows ++ replicate n d) f in let c = length-append rows (replicate n d) in omega arith);
   each = λ r. row_map f d none (rows ++ replicate n d) r ∙ ap f (padded rows n r d) ∙ sym (row_map f d none rows r);
 })
-
-none_counted : (n : ℕ) → count_by (λ (b : Bool). b) (replicate n false) ≡ 0
-none_counted zero = refl
-none_counted (suc n) = let m = sum_by-cons (λ (b : Bool). cond b 1 0) false (replicate n false) in let k = none_counted n in omega arith
-
--- slots that aren't kept
-pub kept_more : (kept : List Bool) (n : ℕ) → HasMore kept (kept ++ replicate n false)
-kept_more kept n = record {
-  more = (let m = length-append kept (replicate n false) in omega arith);
-  each = λ s. padded kept n s false;
-  count = (let e = sum_by-append (λ (b : Bool). cond b 1 0) kept (replicate n false) in let z = none_counted n in omega arith);
-}

@@ -1,5 +1,5 @@
 -- A write to one row, as the list of rows sees it.
-use Rattle.std.proofs.Common.{◌≡◌, ℕ, ◌<◌, List, length, map, set, get_or, sym, ◌∙◌, ap, Result, Ok, Err, OnErr}
+use Rattle.std.proofs.Common.{◌≡◌, ℕ, ◌<◌, List, length, map, set, get_or, sym, ◌∙◌, ap}
 use Rattle.std.proofs.lemmas.List.{map-set, get_or-map, length-map}
 use Rattle.ksv_memo_links.specs.Shelved.{row}
 
@@ -16,7 +16,3 @@ pub row_read : {X V : Type 0} (items : V → List X) (vs : List V) (rows : List 
 row_read {X} {V} items vs rows r v same is lt =
     let inside : r < length vs = simp (same, length-map) at lt in
     ap (λ (q : List (List X)). row q r) same ∙ get_or-map items vs r v _ inside ∙ ap items (sym is)
-
-pub on_err_always : {T E : Type 0} {P : Type 0} (r : Result T E) → P → OnErr r P
-on_err_always (Ok x) p = tt
-on_err_always (Err e) p = p

@@ -112,19 +112,6 @@ impl Parts {
         self.hit_items(list, first, change);
     }
 
-    /// Marks the slots of a list that a change touches, where most lists are empty: then nothing is called.
-    #[inline(always)]
-    fn hit_few(&mut self, list: u32, change: Change)
-        requires shaped { IsShaped self.old }
-        requires list_in { list < length self.old.uses.lists }
-        ensures { HitsRow self.old self.new change (row self.old.uses.lists list) (length (row self.old.uses.lists list)) 1 }
-    {
-        let first = self.uses.first_item(list);
-        if first > 0 {
-            self.hit_items(list, first, change);
-        }
-    }
-
     /// Marks the slots that a change touches and one of whose uses meets a page of a range.
     fn hit_pages(&mut self, change: Change, first: usize, end: usize)
         requires shaped { IsShaped self.old }
@@ -154,7 +141,7 @@ impl Parts {
         ensures { HitsRows self.old self.new change (end_lists self.old.uses.lists) 0 (min 1 (length (end_lists self.old.uses.lists))) }
     {
         if self.uses.ends() > 0 {
-            self.hit_few(end_list(0), change);
+            self.hit_list(end_list(0), change);
         }
     }
 

@@ -74,7 +74,3 @@ length_on links h c p l = by (length links) refl c p l
     by (suc n) e (suc c) p l =
         let less : (link_at links (suc c)).next < suc c = h (suc c) (omega arith) l in
         ap (λ k. 1 + k) (any_fuel_length links h n (suc n) (link_at links (suc c)).next (omega arith) (omega arith) (omega arith))
-
-pub ended_length : (links : List Link) (f : ℕ) → chain_length links f 0 ≡ 0
-ended_length links zero = refl
-ended_length links (suc f) = refl

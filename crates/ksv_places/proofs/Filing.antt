@@ -3,9 +3,8 @@ use Rattle.std.proofs.Common.{◌≡◌, ℕ, ◌+◌, ◌-◌, ◌<◌, ◌≤�
 use Rattle.std.proofs.Common.{ap, subst, arith, slice_get}
 use Rattle.std.specs.Option.{option_map}
 use Rattle.std.proofs.lemmas.List.{get_or_past, length-map, get_or-map, same_lists, get_or_append_left, length_push, length-set, get_or-set_same}
-use Rattle.std.proofs.lemmas.List.{get_or-set_other, map-append, map-set}
+use Rattle.std.proofs.lemmas.List.{get_or-set_other, map-append, map-set, get_or_push}
 use Rattle.std.proofs.lemmas.Bool.Decides.{eqb_tells}
-use Rattle.ksv_places.proofs.Growing.{get_last}
 use Rattle.std.proofs.lemmas.Bool.{cases_lt}
 use Rattle.std.proofs.lemmas.Option.{slice_get-map, slice_get-get_or, slice_get_within, get_or_from_slice_get}
 use Rattle.ksv_expr_value.specs.declared.step.Step.{Step}
@@ -295,7 +294,7 @@ module _ (paths : List (List Step)) (rows : List Row) (spots : List Spot) (place
   filed_push e =
       let s : Spot = record { path = path; kind = kind } in
       let n = length_push spots s in
-      filed_then (spots ++ s ∷ []) (get_last spots s _ place (sym e)) (omega arith) (omega arith) (λ i l ne. omega arith)
+      filed_then (spots ++ s ∷ []) (get_or_push spots s _ place (sym e)) (omega arith) (omega arith) (λ i l ne. omega arith)
       (λ i l ne. get_or_append_left spots (s ∷ []) _ i l)
 
   pub filed_set : place < length spots → IsFiled paths filled (set spots place (record { path = path; kind = kind }))

@@ -1,5 +1,5 @@
 -- A further path.
-use Rattle.std.proofs.Common.{◌≡◌, ◌≢◌, ◌⊎◌, inl, inr, ℕ, ◌+◌, ◌<◌, ◌≤◌, true, false, nat_eq, List, [], ◌∷◌, ◌++◌, length, get_or, sym, ◌∙◌, ap, subst, arith}
+use Rattle.std.proofs.Common.{◌≡◌, ◌≢◌, ◌⊎◌, inl, inr, ℕ, ◌+◌, ◌<◌, ◌≤◌, true, false, nat_eq, List, [], ◌∷◌, ◌++◌, length, sym, ◌∙◌, ap, subst, arith}
 use Rattle.std.proofs.Common.{eqb}
 use Rattle.std.proofs.lemmas.List.{length_push, get_or_append_left}
 use Rattle.std.proofs.Math.Seq.{get_or-append_seam}
@@ -10,13 +10,6 @@ use Rattle.ksv_expr_value.specs.declared.step.Step.TheVariants.{Name, Index}
 use Rattle.ksv_places.specs.declared.links.Link.{Link}
 use Rattle.ksv_places.specs.Tree.{link_at, chain, look, is_name, IsTree, IsChild}
 use Rattle.ksv_places.proofs.Chains.{Falls, any_fuel, more_links, step_on, found_at}
-
--- the last of a list
-pub get_last : {X : Type 0} (xs : List X) (x d : X) (n : ℕ) → length xs ≡ n → get_or (xs ++ x ∷ []) n d ≡ x
-get_last {X} xs x d n e = ap (λ k. get_or (xs ++ x ∷ []) k d) (sym e) ∙ get_or-append_seam xs x [] d
-
-pub nat_same : (x y : ℕ) → nat_eq x y ≡ true → x ≡ y
-nat_same x y e = grind (arith, nat_tests)
 
 pub nat_other : (x y : ℕ) → x ≢ y → nat_eq x y ≡ false
 nat_other x y ne = grind (arith, nat_tests)

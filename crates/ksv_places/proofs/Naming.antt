@@ -1,11 +1,11 @@
 -- Nodes and their kinds and steps.
 use Rattle.std.proofs.Common.{◌≡◌, ◌≢◌, eqb, ℕ, zero, suc, ◌<◌, ◌≤◌, ◌⊎◌, inl, inr, Bool, true, false, List, [], ◌∷◌, ◌++◌, length, get_or, set, reverse, Some}
-use Rattle.std.proofs.Common.{refl, sym, ◌∙◌, ap, arith, slice_get}
+use Rattle.std.proofs.Common.{refl, sym, ◌∙◌, ap, arith, slice_get, Result, Ok, Err, OnOk, OnErr}
 use Rattle.std.specs.List.{list_any, IsDistinct}
 use Rattle.std.specs.Option.{option_map}
 use Rattle.std.proofs.lemmas.Bool.{cases_lt}
 use Rattle.std.proofs.lemmas.List.{length-map, length_push, length-set, get_or_append_left, get_or-set_same, get_or-set_other, map-append, map-set}
-use Rattle.std.proofs.lemmas.List.{reverse-reverse}
+use Rattle.std.proofs.lemmas.List.{reverse-reverse, get_or_push}
 use Rattle.std.proofs.lemmas.Bool.Decides.{eqb_tells}
 use Rattle.std.proofs.lemmas.List.Elements.{recursion_from_All}
 use Rattle.std.proofs.lemmas.List.Folds.{list_any_none, list_any_at}
@@ -18,8 +18,12 @@ use Rattle.ksv_nodes.specs.declared.node.NodeKind.{NodeKind}
 use Rattle.ksv_nodes.specs.contracts.node.NodePartialEq.TheImpl.{ghosts as node_tests}
 use Rattle.ksv_nodes.specs.contracts.node.NodeEq.TheImpl.Laws.{laws-law as node_laws}
 use Rattle.ksv_nodes.specs.Exact.{node_exact}
-use Rattle.ksv_places.proofs.Growing.{get_last}
 use Rattle.ksv_places.specs.Nodes.{some_trail, trail_at, named, all_named, AllFit}
+
+-- what follows where a call succeeds and where it doesn't
+pub either_way : {A E : Type 0} (r : Result A E) (P Q R : Type 0) → (P → R) → (Q → R) → OnOk r P → OnErr r Q → R
+either_way (Ok a) P Q R f g h k = f h
+either_way (Err e) P Q R f g h k = g k
 
 -- the kind and the steps of a node
 abbrev pub pair_of : Node → NodeKind × List Step
@@ -106,7 +110,7 @@ fit_push ps n fit k d l = by (cases_lt k (length ps))
     by : (k < length ps) ⊎ (length ps ≤ k) → fits (get_or (ps ++ pair_of n ∷ []) k d).1 ≡ true
     by (inl lt) = ap (λ (p : NodeKind × List Step). fits p.1) (get_or_append_left ps (pair_of n ∷ []) d k lt) ∙ fit k d lt
     by (inr le) = let c = length_push ps (pair_of n) in let same : length ps ≡ k =
-        omega arith in ap (λ (p : NodeKind × List Step). fits p.1) (get_last ps (pair_of n) d k same) ∙ n.path.valid
+        omega arith in ap (λ (p : NodeKind × List Step). fits p.1) (get_or_push ps (pair_of n) d k same) ∙ n.path.valid
 
 pub fit_set : (ps : List (NodeKind × List Step)) (place : ℕ) (n : Node) → AllFit ps → AllFit (set ps place (pair_of n))
 fit_set ps place n fit k d l = by (eqb_tells k place)

@@ -1,5 +1,5 @@
 -- Spots, of which the paths and the kinds are lists of their own.
-use Rattle.std.proofs.Common.{◌≡◌, ℕ, zero, suc, ◌<◌, List, [], ◌∷◌, ◌++◌, length, get_or, set, refl, ap, arith}
+use Rattle.std.proofs.Common.{◌≡◌, ℕ, zero, suc, ◌<◌, List, [], ◌∷◌, ◌++◌, length, get_or, set, refl, ap, arith, Result, Ok, Err, OnErr}
 use Rattle.ksv_nodes.specs.declared.node.NodeKind.{NodeKind}
 use Rattle.ksv_places.specs.declared.links.Spot.{Spot}
 use Rattle.ksv_places.specs.Spots.{spots_of}
@@ -29,3 +29,8 @@ put [] ks e i r k = refl
 put (q ∷ rs) [] e i r k = absurd (omega arith)
 put (q ∷ rs) (l ∷ ks) e zero r k = refl
 put (q ∷ rs) (l ∷ ks) e (suc i) r k = ap (λ (ss : List Spot). record { path = q; kind = l } ∷ ss) (put rs ks (omega arith) i r k)
+
+-- what holds anyway holds where a call fails
+pub on_err : {A E : Type 0} (r : Result A E) (X : Type 0) → X → OnErr r X
+on_err (Ok a) X x = tt
+on_err (Err e) X x = x

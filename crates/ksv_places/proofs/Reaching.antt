@@ -1,14 +1,13 @@
 -- More paths with numbers, and where a search goes on among them.
 use Rattle.std.proofs.Common.{◌≡◌, ℕ, ◌+◌, ◌<◌, ◌≤◌, ◌⊎◌, inl, inr, List, [], ◌∷◌, ◌++◌, Some, length, get_or, take, reverse, refl, sym, ◌∙◌, ap, arith}
 use Rattle.std.proofs.Common.{append_assoc, slice_get}
-use Rattle.std.proofs.lemmas.List.{length_push, length-append, get_or_append_left, take_all}
+use Rattle.std.proofs.lemmas.List.{length_push, length-append, get_or_append_left, take_all, get_or_push}
 use Rattle.std.proofs.lemmas.Option.{slice_get-get_or, slice_get_within, get_or_from_slice_get}
 use Rattle.ksv_expr_value.specs.declared.step.Step.{Step}
 use Rattle.ksv_places.specs.declared.links.Link.{Link}
 use Rattle.ksv_places.specs.declared.trace.Trace.{Trace}
 use Rattle.ksv_places.specs.Tree.{paths_from, paths_of, IsGrown, IsMore, IsFurther, EndsAt}
 use Rattle.ksv_places.proofs.Walking.{length-paths, root_at}
-use Rattle.ksv_places.proofs.Growing.{get_last}
 
 pub same_more : (ps : List (List Step)) → IsMore ps ps
 same_more ps = record { more = []; grown = none ps }
@@ -44,7 +43,7 @@ module _ (old new : List Link) (r : ℕ) (s : Step) (c : ℕ) (there : r < lengt
   pub grown_further : IsFurther old new r s c
   grown_further = record {
     inside = (let n = ap (λ (ls : List Link). length ls) g.links in let m = length_push old g.link in let k = g.number in omega arith);
-    is = ap (λ (ps : List (List Step)). get_or ps c []) grown_paths ∙ get_last (paths_of old) _ [] c (length-paths old ∙ sym g.number)
+    is = ap (λ (ps : List (List Step)). get_or ps c []) grown_paths ∙ get_or_push (paths_of old) _ [] c (length-paths old ∙ sym g.number)
         ∙ (λ i. g.step i ∷ get_or (paths_of old) (g.parent i) []);
   }
 

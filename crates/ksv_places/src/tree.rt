@@ -192,14 +192,8 @@ fn grow(
 
 /// The root has a number.
 #[inline(always)]
-fn plant(
-    links: &mut Vec<Link>,
-    _firsts: &Numbers,
-    _members: &Tables,
-    _elements: &Tables,
-) -> Result<(), AllocError>
-    requires tree { IsTree links.old.items (number_at _firsts.now) (shelf_at _members.now) (shelf_at _elements.now) }
-    ensures tree { IsTree links.new.items (number_at _firsts.now) (shelf_at _members.now) (shelf_at _elements.now) }
+fn plant(links: &mut Vec<Link>) -> Result<(), AllocError>
+    ensures tree { (firsts : ℕ → ℕ) (members elements : ℕ → ℕ → ℕ) → IsTree links.old.items firsts members elements → IsTree links.new.items firsts members elements }
     ensures more { IsMore (paths_of links.old.items) (paths_of links.new.items) }
     ensures there { OnOk result (0 < length links.new.items) }
 {
@@ -352,7 +346,7 @@ impl Tree {
         ensures more { IsMore self.old self.new }
         ensures ok { IfOk result (λ path. slice_get self.new path ≡ Some (reverse steps.now)) }
     {
-        plant(&mut self.links, &self.firsts, &self.members, &self.elements)?;
+        plant(&mut self.links)?;
         let mut path = trace.path;
         for count in trace.steps as usize..steps.len() {
             path = further(

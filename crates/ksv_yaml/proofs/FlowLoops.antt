@@ -8,7 +8,7 @@ use Rattle.ksv_yaml.specs.Code.{keys_of, behind_close, behind_close_map, behind_
 use Rattle.ksv_yaml.proofs.Steps.{one_less}
 use Rattle.ksv_yaml_scan.proofs.Choices.{pick_true, pick_false}
 use Rattle.ksv_yaml.proofs.Joins.{with_items, with_entries, with_no_items, with_no_entries, regroup_items, regroup_entries, last_items, last_entries, end_items}
-use Rattle.ksv_yaml.proofs.Joins.{end_entries, keys_push, deeper_one, deeper_none}
+use Rattle.ksv_yaml.proofs.Joins.{end_entries, keys_push, deeper_one}
 use Rattle.ksv_yaml_scan.specs.Got.{Got, got, ◌>>=◌}
 use Rattle.ksv_yaml_scan.specs.Tokens.{Token, Open, Close, OpenMap, CloseMap, Comma, Key}
 
@@ -24,13 +24,6 @@ node_items {d} {ts} k rest o e d0 r = record {
       ∙ ap (λ (o : Option (Got Token Items)). o >>= λ is. got (Seq k is.value) is.rest) (r.is i.0 (omega (arith, i.1, g, ap length e)));
 }
 
-pub node_items_limit : {d : ℕ} {ts : List Token} (k : ℕ) (rest : List Token) → ts ≡ Open k ∷ rest → d ≡ 0 → FlowIs d ts None
-node_items_limit {d} {ts} k rest e d0 =
-    record {
-      is = λ f g. let i = one_less f (omega arith) in ap (λ (f : ℕ). flow f d ts) i.1 ∙ ap (λ (ts : List Token). flow (suc i.0) d ts) e
-          ∙ deeper_none d _ d0;
-    }
-
 pub node_entries : {d : ℕ} {ts : List Token} (k : ℕ) (rest : List Token) (o : Option (Got Token Entries)) → ts ≡ OpenMap k ∷ rest → d ≢ 0
     → FlowEntriesIs (d - 1) rest o → FlowIs d ts (o >>= λ es. got (Map k es.value) es.rest)
 node_entries {d} {ts} k rest o e d0 r = record {
@@ -40,13 +33,6 @@ node_entries {d} {ts} k rest o e d0 r = record {
       ∙ deeper_one d (λ d. flow_entries i.0 d [] rest >>= λ es. got (Map k es.value) es.rest) d0
       ∙ ap (λ (o : Option (Got Token Entries)). o >>= λ es. got (Map k es.value) es.rest) (r.is i.0 (omega (arith, i.1, g, ap length e)));
 }
-
-pub node_entries_limit : {d : ℕ} {ts : List Token} (k : ℕ) (rest : List Token) → ts ≡ OpenMap k ∷ rest → d ≡ 0 → FlowIs d ts None
-node_entries_limit {d} {ts} k rest e d0 =
-    record {
-      is = λ f g. let i = one_less f (omega arith) in ap (λ (f : ℕ). flow f d ts) i.1 ∙ ap (λ (ts : List Token). flow (suc i.0) d ts) e
-          ∙ deeper_none d _ d0;
-    }
 
 -- ---- what is at the front
 

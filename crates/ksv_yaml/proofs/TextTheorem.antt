@@ -20,7 +20,3 @@ text_sound text t small utf8 h = elim (chosen (is_allowed text) (tree_of (lines_
 -- no text spells two trees
 pub one_tree_of_text : (text : List ℕ) (t u : Tree) → Spells text t → Spells text u → t ≡ u
 one_tree_of_text text t u a b = one_tree (lines_of text) t u a.lines b.lines
-
--- a text that reading refuses spells no tree
-pub refused_text : (text : List ℕ) (t : Tree) → tree_of_text text ≡ None → Spells text t → ⊥
-refused_text text t h s = let e = text_complete s in cc

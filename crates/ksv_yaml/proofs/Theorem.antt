@@ -15,12 +15,6 @@ use Rattle.ksv_yaml_scan.proofs.Choices.{picked, pick_true, pick_false}
 use Rattle.ksv_yaml.proofs.Sound.{node_sound}
 use Rattle.ksv_yaml.proofs.Complete.{node_ok}
 
-head_is : {a b : Line} {us bs : List Line} → a ∷ us ≡ b ∷ bs → a ≡ b
-head_is h = cc
-
-tail_is : {a b : Line} {us bs : List Line} → a ∷ us ≡ b ∷ bs → us ≡ bs
-tail_is h = cc
-
 -- ---- from the relation to reading
 
 body_complete : {ls : List Line} {t : Tree} → Node 64 0 ls t → body ls ≡ Some t

@@ -3,7 +3,6 @@ use Rattle.std.specs.Bool.{◌==◌}
 use Rattle.std.proofs.lemmas.Bool.Decides.{nat_tests}
 use Rattle.ksv_expr_value.specs.declared.step.Step.TheVariants.{Name}
 use Rattle.ksv_places.specs.declared.links.Link.{Link}
-use Rattle.ksv_places.specs.Table.{number_at, shelf_at}
 use Rattle.ksv_places.specs.Tree.{paths_of, IsTree, IsMore}
 use Rattle.ksv_places.proofs.Planting.{planted}
 use Rattle.ksv_places.proofs.Reaching.{from_none}
@@ -23,13 +22,10 @@ returns-in_ok-push-clause-more c =
     subst (λ (ls : List Link). IsMore (paths_of ls) (paths_of c.push.new.self.items)) (sym none) (from_none (paths_of c.push.new.self.items))
 
 pub returns-in_ok-push-clause-tree : goal.returns-in_ok-push-clause-tree
-returns-in_ok-push-clause-tree c =
+returns-in_ok-push-clause-tree c firsts members elements tree =
     let none : c.args.links.now.items ≡ [] = none_there _
     (ap (λ ls. length ls == 0) (sym c.as_slice.ensures.value) ∙ sym c.is_empty.ensures ∙ c.if-is_empty.true) in
-    let firsts = number_at c.args._firsts.now in
-    let members = shelf_at c.args._members.now in
-    let elements = shelf_at c.args._elements.now in
     let link : Link = record { parent = 0; step = Name 0; next = 0 } in
     let pushed : c.push.new.self.items ≡ link ∷ [] = c.in_ok-push.ensures.items ∙ ap (λ ls. ls ++ link ∷ []) none in
     subst (λ ls. IsTree ls firsts members elements) (sym pushed)
-    (planted firsts members elements (subst (λ ls. IsTree ls firsts members elements) none c.requires.tree) link)
+    (planted firsts members elements (subst (λ ls. IsTree ls firsts members elements) none tree) link)

@@ -1,20 +1,13 @@
-use Rattle.std.proofs.Common.{◌≡◌, ◌++◌, ◌∷◌, List, [], Some, Result, Ok, Err, OnOk, OnErr, reverse, sym, ◌∙◌, ap, subst}
+use Rattle.std.proofs.Common.{◌++◌, ◌∷◌, List, [], Some, reverse, sym, ◌∙◌, ap, subst}
 use Rattle.std.specs.List.{list_any}
+use Rattle.std.proofs.lemmas.Result.{on_ok_weaker}
 use Rattle.ksv_expr_value.specs.declared.step.Step.{Step}
 use Rattle.ksv_nodes.specs.declared.node.NodeKind.{NodeKind}
 use Rattle.ksv_nodes.specs.contracts.node.NodePartialEq.TheImpl.{ghosts as node_tests}
 use Rattle.ksv_places.specs.Nodes.{Placed, all_named, AllFit}
 use Rattle.ksv_places.specs.Tree.{EndsAt}
-use Rattle.ksv_places.proofs.Naming.{is_none, fit_push, named_push, steps_up}
+use Rattle.ksv_places.proofs.Naming.{either_way, is_none, fit_push, named_push, steps_up}
 use Rattle.ksv_places.proofs.places.NodePlacesPlacesNode.add.Goals as goal
-
-on_ok : {A E : Type 0} (r : Result A E) (P Q : Type 0) → (P → Q) → OnOk r P → OnOk r Q
-on_ok (Ok a) P Q f h = f h
-on_ok (Err e) P Q f h = tt
-
-either_way : {A E : Type 0} (r : Result A E) (P Q R : Type 0) → (P → R) → (Q → R) → OnOk r P → OnErr r Q → R
-either_way (Ok a) P Q R f g h k = f h
-either_way (Err e) P Q R f g h k = g k
 
 pub add-requires-clause-none : goal.add-requires-clause-none
 add-requires-clause-none c =
@@ -42,6 +35,6 @@ returns-clause-ok c =
     let ps : List (NodeKind × List Step) = c.self.inside.spots.nodes in
     let n = c.args.node.now in
     let up = steps_up n c.steps.result.now c.steps.ensures in
-    on_ok c.add.result _ (all_named c.add.new.self.nodes ≡ c.args.self.now.nodes ++ n ∷ [])
+    on_ok_weaker c.add.result
     (λ e. ap all_named (e ∙ ap (λ (p : NodeKind × List Step). ps ++ p ∷ []) up) ∙ named_push ps n ∙ ap (λ (p : Placed). p.nodes ++ n ∷ []) c.self.view_is)
     c.add.ensures.ok

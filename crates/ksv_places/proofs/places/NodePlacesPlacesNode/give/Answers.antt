@@ -1,19 +1,12 @@
-use Rattle.std.proofs.Common.{◌≡◌, List, Some, Result, Ok, Err, OnOk, OnErr, set, sym, ◌∙◌, ap, subst}
+use Rattle.std.proofs.Common.{List, Some, set, sym, ◌∙◌, ap, subst}
 use Rattle.std.specs.List.{list_any}
+use Rattle.std.proofs.lemmas.Result.{on_ok_weaker}
 use Rattle.ksv_expr_value.specs.declared.step.Step.{Step}
 use Rattle.ksv_nodes.specs.declared.node.NodeKind.{NodeKind}
 use Rattle.ksv_nodes.specs.contracts.node.NodePartialEq.TheImpl.{ghosts as node_tests}
 use Rattle.ksv_places.specs.Nodes.{Placed, all_named, AllFit}
-use Rattle.ksv_places.proofs.Naming.{is_none, fit_set, named_set, steps_up}
+use Rattle.ksv_places.proofs.Naming.{either_way, is_none, fit_set, named_set, steps_up}
 use Rattle.ksv_places.proofs.places.NodePlacesPlacesNode.give.Goals as goal
-
-on_ok : {A E : Type 0} (r : Result A E) (P Q : Type 0) → (P → Q) → OnOk r P → OnOk r Q
-on_ok (Ok a) P Q f h = f h
-on_ok (Err e) P Q f h = tt
-
-either_way : {A E : Type 0} (r : Result A E) (P Q R : Type 0) → (P → R) → (Q → R) → OnOk r P → OnErr r Q → R
-either_way (Ok a) P Q R f g h k = f h
-either_way (Err e) P Q R f g h k = g k
 
 pub give-given-requires-clause-none : goal.give-given-requires-clause-none
 give-given-requires-clause-none c =
@@ -37,6 +30,6 @@ returns-clause-ok c =
     let n = c.args.node.now in
     let place = c.args.place in
     let up = steps_up n c.steps.result.now c.steps.ensures in
-    on_ok c.give-given.result _ (all_named c.give-given.new.self.nodes ≡ set c.args.self.now.nodes place n)
+    on_ok_weaker c.give-given.result
     (λ e. ap all_named (e ∙ ap (λ (p : NodeKind × List Step). set ps place p) up) ∙ named_set ps place n
     ∙ ap (λ (p : Placed). set p.nodes place n) c.self.view_is) c.give-given.ensures.ok

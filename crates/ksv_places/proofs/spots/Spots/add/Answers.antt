@@ -1,4 +1,4 @@
-use Rattle.std.proofs.Common.{◌≡◌, ℕ, ◌+◌, Result, Ok, Err, OnErr, ◌++◌, ◌∷◌, List, [], Some, length, set, reverse, ◌∙◌, sym, ap, subst, arith, slice_get}
+use Rattle.std.proofs.Common.{◌≡◌, ℕ, ◌+◌, ◌++◌, ◌∷◌, List, [], Some, length, set, reverse, ◌∙◌, sym, ap, subst, arith, slice_get}
 use Rattle.std.proofs.lemmas.List.{length_push}
 use Rattle.ksv_expr_value.specs.declared.step.Step.{Step}
 use Rattle.ksv_nodes.specs.declared.node.NodeKind.{NodeKind}
@@ -6,12 +6,8 @@ use Rattle.ksv_places.specs.declared.links.Row.{Row}
 use Rattle.ksv_places.specs.Spots.{spots_of, with_mark, row_at, nodes_of, IsFiled, Spotted}
 use Rattle.ksv_places.specs.Tree.{EndsAt}
 use Rattle.ksv_places.proofs.Filing.{filed_more, nodes_same, open_behind, no_mark, filed_push, nodes_push}
-use Rattle.ksv_places.proofs.Pairing.{count, pushed}
+use Rattle.ksv_places.proofs.Pairing.{count, on_err, pushed}
 use Rattle.ksv_places.proofs.spots.Spots.add.Goals as goal
-
-on_err : {A E : Type 0} (r : Result A E) (X : Type 0) → X → OnErr r X
-on_err (Ok a) X x = tt
-on_err (Err e) X x = x
 
 pub make_row-requires-clause-ends : goal.make_row-requires-clause-ends
 make_row-requires-clause-ends c = subst (λ (s : Spotted). EndsAt s.paths c.args.steps.now s.end) (sym c.self.view_is) c.requires.ends

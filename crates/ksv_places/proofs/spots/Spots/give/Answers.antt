@@ -1,4 +1,4 @@
-use Rattle.std.proofs.Common.{◌≡◌, ℕ, ◌+◌, ◌<◌, Result, Ok, Err, OnErr, List, Some, length, set, reverse, ◌∙◌, sym, ap, subst, arith, slice_get}
+use Rattle.std.proofs.Common.{◌≡◌, ℕ, ◌+◌, ◌<◌, List, Some, length, set, reverse, ◌∙◌, sym, ap, subst, arith, slice_get}
 use Rattle.std.proofs.lemmas.List.{length-map, length-set}
 use Rattle.ksv_expr_value.specs.declared.step.Step.{Step}
 use Rattle.ksv_nodes.specs.declared.node.NodeKind.{NodeKind}
@@ -6,12 +6,8 @@ use Rattle.ksv_places.specs.declared.links.Row.{Row}
 use Rattle.ksv_places.specs.declared.links.Spot.{Spot}
 use Rattle.ksv_places.specs.Spots.{spots_of, with_mark, row_at, spot_at, node_of, nodes_of, IsFiled, Spotted}
 use Rattle.ksv_places.proofs.Filing.{filed_more, nodes_same, path_in, open_at, still_none, no_mark, filed_set, nodes_set}
-use Rattle.ksv_places.proofs.Pairing.{count, put}
+use Rattle.ksv_places.proofs.Pairing.{count, on_err, put}
 use Rattle.ksv_places.proofs.spots.Spots.give.Goals as goal
-
-on_err : {A E : Type 0} (r : Result A E) (X : Type 0) → X → OnErr r X
-on_err (Ok a) X x = tt
-on_err (Err e) X x = x
 
 place_there : (paths : List (List Step)) (spots : List Spot) (nodes : List (NodeKind × List Step)) (place : ℕ) → nodes_of paths spots ≡ nodes
     → place < length nodes → place < length spots

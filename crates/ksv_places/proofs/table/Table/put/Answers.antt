@@ -1,19 +1,12 @@
-use Rattle.std.proofs.Common.{◌≡◌, ℕ, ◌/◌, ◌%◌, ◌-◌, ◌≤◌, false, Result, Ok, Err, List, [], OnOk, OnErr, length, get_or, set, sym, ◌∙◌, ap, subst, arith}
+use Rattle.std.proofs.Common.{◌≡◌, ℕ, ◌/◌, ◌%◌, ◌-◌, ◌≤◌, false, List, [], length, get_or, set, sym, ◌∙◌, ap, subst, arith}
 use Rattle.std.proofs.lemmas.List.{get_or_default}
+use Rattle.std.proofs.lemmas.Result.{on_ok_weaker, on_err_weaker}
 use Rattle.ksv_places.specs.Table.{number_at, part_at, takes, table_at, IsPut, IsPartOf, Pages}
 use Rattle.ksv_places.proofs.Paging.{page_put, page_same}
 use Rattle.ksv_places.proofs.table.Table.put.Goals as goal
 
-on_ok : {A E : Type 0} (r : Result A E) (X Y : Type 0) → (X → Y) → OnOk r X → OnOk r Y
-on_ok (Ok a) X Y f h = f h
-on_ok (Err e) X Y f h = h
-
-on_err : {A E : Type 0} (r : Result A E) (X Y : Type 0) → (X → Y) → OnErr r X → OnErr r Y
-on_err (Ok a) X Y f h = h
-on_err (Err e) X Y f h = f h
-
-pub returns-clause-ok : goal.returns-clause-ok
-returns-clause-ok c =
+pub returns : goal.returns
+returns c =
     let starts = c.reach_part.new.starts in
     let pages = c.reach_part.new.parts.items in
     let n = c.in_ok-page.page in
@@ -25,24 +18,17 @@ returns-clause-ok c =
     c.index_mut-numbers.ensures.value ∙ get_or_default pages (n - 1) _ _ (let a = part.some in let b = part.inside in omega arith) in
     let far : 1024 ≤ c.args.index = omega arith in
     let alone : takes old.descent c.args.index ≡ false = sym c.takes.ensures ∙ c.if-takes.false in
-    on_ok _ _ _ (λ put. subst
-    (λ (t : Pages). IsPut (table_at t)
-    (table_at (record { near = old.near; descent = old.descent; starts = starts; pages = set pages (n - 1) c.put-2.new.self })) c.args.index
-    c.args.number) c.self.view_is
-    (page_put old starts pages c.args.index n c.reach_part.ensures.apart part same c.put-2.new.self c.args.number far alone
-    (subst (λ (page : List ℕ). IsPut (number_at page) (number_at c.put-2.new.self) (c.args.index % 1024) c.args.number) lent
-    put))) c.put-2.ensures.ok
-
-pub returns-clause-err : goal.returns-clause-err
-returns-clause-err c =
-    let starts = c.reach_part.new.starts in
-    let pages = c.reach_part.new.parts.items in
-    let n = c.in_ok-page.page in
-    let old : Pages = record { near = c.self.inside.near; descent = c.self.inside.descent; starts = c.self.inside.starts; pages = c.self.inside.pages.items } in
-    let part : IsPartOf (number_at starts) (length pages) (c.args.index / 1024) n = c.in_ok-page.ensures.ok in
-    let same = subst (λ (fresh : List ℕ). (q : ℕ) → part_at fresh pages (number_at starts q) ≡ part_at fresh old.pages (number_at old.starts q))
-    c.new-fresh.ensures c.reach_part.ensures.same in
-    let lent : c.index_mut-numbers.result.now ≡ get_or pages (n - 1) [] =
-    c.index_mut-numbers.ensures.value ∙ get_or_default pages (n - 1) _ _ (let a = part.some in let b = part.inside in omega arith) in
-    on_err _ _ _ (λ e. page_same old starts pages c.args.index n c.reach_part.ensures.apart part same c.put-2.new.self (e ∙ lent) ∙ ap table_at c.self.view_is)
-    c.put-2.ensures.err
+    record {
+      ok =
+          on_ok_weaker c.put-2.result (λ put. subst
+          (λ (t : Pages). IsPut (table_at t)
+          (table_at (record { near = old.near; descent = old.descent; starts = starts; pages = set pages (n - 1) c.put-2.new.self })) c.args.index
+          c.args.number) c.self.view_is
+          (page_put old starts pages c.args.index n c.reach_part.ensures.apart part same c.put-2.new.self c.args.number far alone
+          (subst (λ (page : List ℕ). IsPut (number_at page) (number_at c.put-2.new.self) (c.args.index % 1024) c.args.number) lent
+          put))) c.put-2.ensures.ok;
+      err =
+          on_err_weaker c.put-2.result (λ e. page_same old starts pages c.args.index n c.reach_part.ensures.apart part same c.put-2.new.self (e ∙ lent)
+          ∙ ap table_at c.self.view_is)
+          c.put-2.ensures.err;
+    }

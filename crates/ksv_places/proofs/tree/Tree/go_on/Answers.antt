@@ -16,7 +16,7 @@ loop-count-init c =
     let grown = subst (λ (ps : List (List Step)). IsMore ps (paths_of links)) c.self.view_is c.plant.ensures.more in
     let on = goes_on c.args.self.now (paths_of links) c.args.steps.now c.args.trace grown (omega arith) (root_at links there) c.requires.ends in
     let lt = on.0 in
-    ((c.plant.ensures.tree, omega arith), grown, on.1)
+    ((c.plant.ensures.tree _ _ _ c.self.invariant, omega arith), grown, on.1)
 
 pub loop-count-preserved : goal.loop-count-preserved
 loop-count-preserved c =
