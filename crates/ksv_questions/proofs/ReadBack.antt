@@ -10,7 +10,7 @@ use Rattle.std.proofs.lemmas.Grind.{pow_more}
 use Rattle.ksv_desc.specs.declared.order.ByteOrder.{ByteOrder}
 use Rattle.ksv_desc.specs.declared.order.ByteOrder.TheVariants.{Big, Little}
 use Rattle.ksv_rule_meaning.specs.Integers.{integer_value, sum_of_bytes, unsigned_value}
-use Rattle.ksv_rule_meaning.proofs.Integers.{byte_power}
+use Rattle.ksv_expr_value.proofs.Binary.{byte_power}
 use Rattle.ksv_texts.specs.Integers.{IntegerType, holds, in_order, integer_bytes, little_endian, value_count}
 
 pub digits_length : (k n : ℕ) → length (little_endian k n) ≡ k

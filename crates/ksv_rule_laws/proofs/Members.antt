@@ -1,11 +1,13 @@
 -- How the members of a description read: the member of a place or a name, and the case that a switch chose.
 use Rattle.std.proofs.Common.{◌≡◌, ◌∙◌, ℕ, suc, ◌+◌, Bool, true, false, if◌then◌else◌, List, [], ◌∷◌, slice_get, Option, Some, None, Result, refl, sym, ap}
 use Rattle.std.proofs.Common.{subst, arith}
+use Rattle.std.specs.Prelude.{option_map, option_and_then}
 use Rattle.ksv_expr_tree.specs.Tree.{Tree}
 use Rattle.ksv_expr_value.specs.Setting.{Setting}
 use Rattle.ksv_expr_value.specs.Trail.{Trail}
 use Rattle.ksv_expr_value.specs.declared.value.Value.{Value}
-use Rattle.ksv_desc.specs.Description.{Description, MemberOfType, MemberKind, Attribute, ParseInstance, Content, Case, Choice, Always, Switch}
+use Rattle.ksv_desc.specs.Description.{Description, MemberOfType, MemberKind, Parameter, Attribute, ParseInstance, ValueInstance, Content, Case}
+use Rattle.ksv_desc.specs.Description.{Choice, Always, Switch, field_in}
 use Rattle.ksv_desc.specs.Description as contents
 use Rattle.ksv_nodes.specs.declared.node.Node.{Node}
 use Rattle.ksv_nodes.specs.declared.node_fault.NodeFault.{NodeFault}
@@ -13,8 +15,8 @@ use Rattle.ksv_nodes.specs.declared.given.Given.{Given}
 use Rattle.ksv_nodes.specs.declared.given.MemberRef.{MemberRef}
 use Rattle.ksv_nodes.specs.Rule.{Rule}
 use Rattle.ksv_rule_meaning.specs.Wanted.{expression}
-use Rattle.ksv_rule_meaning.specs.Choosing.{Chosen, is_case_of, is_default, first_case, or_default, case_for, switched, choose, in_case, content_of}
-use Rattle.ksv_rule_meaning.specs.Fields.{members_of, Sought, in_sought, read_by, in_kind, kind_of, field_of}
+use Rattle.ksv_rule_meaning.specs.Choosing.{Chosen, is_case_of, is_default, first_case, or_default, case_for, switched, choose, in_content, content_of}
+use Rattle.ksv_rule_meaning.specs.Fields.{members_of, Sought, in_sought, in_field, in_kind, kind_of, field_of}
 use Rattle.ksv_rule_laws.specs.Laws.{Reads, IsFieldOf, IsContentOf}
 use Rattle.ksv_rule_laws.proofs.Rules.{Answers, join, exact}
 
@@ -89,7 +91,8 @@ module _ (met : Node → Result Given NodeFault) (here : Trail) (bytes : List �
   content_found (Switch on cases) None = λ k is. is
   content_found (Switch on cases) (Some i) = by_case (slice_get cases i)
     where
-      by_case : (o : Option Case) → Answers met here bytes (λ c. (k : Content) → (one : Case) × (o ≡ Some one) × (one.content ≡ k) → k ≡ c) (in_case o)
+      by_case : (o : Option Case) → Answers met here bytes (λ c. (k : Content) → (one : Case) × (o ≡ Some one) × (one.content ≡ k) → k ≡ c)
+          (in_content (option_map (λ c. c.content) o))
       by_case None = tt
       by_case (Some c) = λ k is. sym is.2 ∙ sym (ap (λ (x : Case). x.content) (one_case c is.0 is.1))
 
@@ -104,14 +107,20 @@ module _ (met : Node → Result Given NodeFault) (here : Trail) (bytes : List �
       by_member (Some m) = (m, refl, refl)
 
   pub field_found : (d : Description) (r : MemberRef) → Says (λ f. IsFieldOf d r f) (field_of d r)
-  unfolding field_of
-  field_found d r = join met here bytes _ _ (kind_of d r) (λ k. read_by k) (kind_found d r) (λ k is. by_kind k is.0 is.1 is.2)
+  unfolding field_of members_of
+  field_found d r = by_member (slice_get (members_of d r.type_number) r.member)
     where
-      by_kind : (k : MemberKind) (m : MemberOfType) → slice_get (members_of d r.type_number) r.member ≡ Some m → m.kind ≡ k
-          → Answers met here bytes (λ f. IsFieldOf d r f) (read_by k)
-      by_kind (Attribute f) m is kind = (m, is, subst (λ k. Reads k f) (sym kind) refl)
-      by_kind (ParseInstance at io f) m is kind = (m, is, subst (λ k. Reads k f) (sym kind) refl)
-      by_kind _ m is kind = tt
+      by_kind : (m : MemberOfType) (k : MemberKind) → m.kind ≡ k
+          → Answers met here bytes (λ f. (n : MemberOfType) × (Some m ≡ Some n) × Reads n.kind f) (in_field (field_in k))
+      by_kind m (Attribute f) is = (m, refl, subst (λ k. Reads k f) (sym is) refl)
+      by_kind m (ParseInstance at io f) is = (m, refl, subst (λ k. Reads k f) (sym is) refl)
+      by_kind m Parameter is = tt
+      by_kind m (ValueInstance v) is = tt
+
+      by_member : (o : Option MemberOfType) → Answers met here bytes (λ f. (n : MemberOfType) × (o ≡ Some n) × Reads n.kind f)
+          (in_field (option_and_then (λ m. field_in m.kind) o))
+      by_member None = tt
+      by_member (Some m) = by_kind m m.kind refl
 
   -- the member of a name
   pub sought_is : (o : Option Sought) → Says (λ m. o ≡ Some m) (in_sought o)

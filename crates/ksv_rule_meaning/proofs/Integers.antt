@@ -1,10 +1,11 @@
 -- Integers of bytes that are read one by one, and in two parts.
-use Rattle.std.proofs.Common.{◌≡◌, ◌∙◌, ℕ, zero, suc, ◌+◌, ◌-◌, ◌*◌, ◌%◌, ◌^◌, ◌<◌, ◌≤◌, List, [], ◌∷◌, ◌++◌, length, take, drop, get_or, reverse, refl, ap}
+use Rattle.std.proofs.Common.{◌≡◌, ◌∙◌, ℕ, suc, ◌+◌, ◌-◌, ◌*◌, ◌%◌, ◌^◌, ◌<◌, ◌≤◌, List, [], ◌∷◌, ◌++◌, length, take, drop, get_or, reverse, ap}
 use Rattle.std.proofs.Common.{sym, arith, lit<, mul-add}
 use Rattle.std.proofs.lemmas.List.{drop_more, reverse-append, take_more, length-reverse}
 use Rattle.std.proofs.lemmas.Grind.{pow_more}
 use Rattle.std.proofs.lemmas.Nat.{pow-add, one_shl}
 use Rattle.std.proofs.Math.Nat.{pow-le-pow_right, mul-le-mul_left, mul_assoc, mul_comm, mul-one}
+use Rattle.ksv_expr_value.proofs.Binary.{byte_power}
 use Rattle.ksv_rule_meaning.specs.Integers.{sum_of_bytes}
 
 -- one more byte after those that were read from the front
@@ -40,14 +41,6 @@ room_for_byte value i small few =
 
 pub small_more : (value i byte : ℕ) → value < 256 ^ i → byte < 256 → value * 256 + byte < 256 ^ (i + 1)
 small_more value i byte small low = omega (arith, pow_more 256 i)
-
--- this many bytes have this many values
-pub byte_power : (n : ℕ) → 2 ^ (8 * n) ≡ 256 ^ n
-byte_power zero = refl
-byte_power (suc n) =
-    let more : 8 * suc n ≡ 8 * n + 8 = omega arith in
-    let one : suc n ≡ n + 1 = omega arith in
-    ap (λ k. 2 ^ k) more ∙ pow-add 2 (8 * n) 8 ∙ ap (λ x. x * 256) (byte_power n) ∙ sym (pow_more 256 n) ∙ ap (λ k. 256 ^ k) (sym one)
 
 -- the same as a shift
 pub byte_unit : (n : ℕ) → n ≤ 8 → 1 * 2 ^ (8 * n) % 340282366920938463463374607431768211456 ≡ 256 ^ n

@@ -1,6 +1,6 @@
 -- The case that a switch chooses: the first in written order whose value equals that of `switch-on`, as the Kaitai Struct User
 -- Guide has it; a value of another kind equals none. Where none does it is the case `_`, wherever it is written.
-use Rattle.std.specs.Prelude.{ℕ, ◌+◌, ◌==◌, Bool, true, false, ◌&&◌, pos, neg_ℤ, List, [], ◌∷◌, Option, Some, None, slice_get, if◌then◌else◌}
+use Rattle.std.specs.Prelude.{ℕ, ◌+◌, ◌==◌, Bool, true, false, ◌&&◌, pos, neg_ℤ, List, [], ◌∷◌, Option, Some, None, if◌then◌else◌}
 use Rattle.std.specs.Option.{option_map_or}
 use Rattle.std.specs.Ordering.{int_eq}
 use Rattle.std.specs.Str.{bytes_eq}
@@ -12,8 +12,7 @@ use Rattle.ksv_expr_value.specs.declared.fault.FaultKind.TheVariants as kinds
 use Rattle.ksv_expr_value.specs.declared.value.Value.{Value}
 use Rattle.ksv_expr_value.specs.declared.value.Value.TheVariants as values
 use Rattle.ksv_expr_meaning.specs.Operators.{same_truth}
-use Rattle.ksv_desc.specs.Description.{Content, CaseValue, Literal, Negated, EnumValue, Case, Choice, Always, Switch}
-use Rattle.ksv_desc.specs.Description as contents
+use Rattle.ksv_desc.specs.Description.{Content, CaseValue, Literal, Negated, EnumValue, Case, Choice, Always, Switch, content_by}
 use Rattle.ksv_nodes.specs.Rule.{Rule, raise}
 use Rattle.ksv_rule_meaning.specs.Wanted.{expression}
 
@@ -82,14 +81,9 @@ choose at (Switch on cases) = switched at on cases
 
 -- What was read, by the case that was chosen: where none was, it is bytes. That a switch has the case is so for each head that
 -- is answered (`HeadsAreRead` of Laws).
-abbrev pub in_case : Option Case → Rule Content
-in_case None = raise kinds.NoSuch
-in_case (Some c) = Answer c.content
-
-abbrev pub in_cases : List Case → Option ℕ → Rule Content
-in_cases cases None = Answer contents.Bytes
-in_cases cases (Some i) = in_case (slice_get cases i)
+abbrev pub in_content : Option Content → Rule Content
+in_content None = raise kinds.NoSuch
+in_content (Some c) = Answer c
 
 unfoldable pub content_of : Choice → Option ℕ → Rule Content
-content_of (Always c) case = Answer c
-content_of (Switch on cases) case = in_cases cases case
+content_of choice case = in_content (content_by choice case)

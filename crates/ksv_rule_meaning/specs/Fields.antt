@@ -1,9 +1,9 @@
 -- What a description says of the members of its types.
 use Rattle.std.specs.Prelude.{ℕ, zero, suc, ◌+◌, ◌==◌, Bool, true, false, List, [], ◌∷◌, Option, Some, None, slice_get, if◌then◌else◌}
 use Rattle.std.specs.Option.{option_map_or}
-use Rattle.ksv_basics.specs.Plan.{Answer, ◌>>=◌}
+use Rattle.ksv_basics.specs.Plan.{Answer}
 use Rattle.ksv_expr_value.specs.declared.fault.FaultKind.TheVariants as kinds
-use Rattle.ksv_desc.specs.Description.{Description, MemberOfType, Field, MemberKind, Parameter, Attribute, ParseInstance, ValueInstance}
+use Rattle.ksv_desc.specs.Description.{Description, MemberOfType, Field, MemberKind, Parameter, Attribute, ParseInstance, ValueInstance, field_at}
 use Rattle.ksv_nodes.specs.declared.given.MemberRef.{MemberRef}
 use Rattle.ksv_nodes.specs.Rule.{Rule, raise}
 
@@ -44,12 +44,6 @@ abbrev pub last_attribute : Option ℕ → List MemberOfType → Option ℕ
 last_attribute before [] = before
 last_attribute before (m ∷ ms) = last_attribute (behind before m) ms
 
--- how a member reads, where it is one that reads
-abbrev pub read_by : MemberKind → Rule Field
-read_by (Attribute f) = Answer f
-read_by (ParseInstance e io f) = Answer f
-read_by _ = raise kinds.NoSuch
-
 abbrev pub in_kind : Option MemberOfType → Rule MemberKind
 in_kind None = raise kinds.NoSuch
 in_kind (Some m) = Answer m.kind
@@ -58,11 +52,13 @@ in_kind (Some m) = Answer m.kind
 unfoldable pub kind_of : Description → MemberRef → Rule MemberKind
 kind_of d r = in_kind (slice_get (members_of d r.type_number) r.member)
 
+abbrev pub in_field : Option Field → Rule Field
+in_field None = raise kinds.NoSuch
+in_field (Some f) = Answer f
+
 -- how it reads; that of a true head does
 unfoldable pub field_of : Description → MemberRef → Rule Field
-field_of d r = do
-  k ← kind_of d r
-  read_by k
+field_of d r = in_field (field_at d r.type_number r.member)
 
 -- ---- parameters
 

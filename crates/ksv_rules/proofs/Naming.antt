@@ -4,7 +4,6 @@ use mathlib.Core.Path.{fun_ext}
 use Rattle.ksv_basics.specs.Plan.{Answer, Ask, bind, translate}
 use Rattle.ksv_expr_tree.specs.Tree.{Tree, view, view_layer, named, name_of}
 use Rattle.ksv_expr_tree.specs.declared.tree.Expr as opened
-use Rattle.ksv_expr_tree.specs.declared.tree.Expr.{Expr}
 use Rattle.ksv_expr_tree.specs.declared.tree.Expr.TheVariants as exprs
 use Rattle.ksv_expr_tree.specs.declared.tree.Expr.TheFolds.{fold_out-Expr}
 use Rattle.ksv_expr_tree.specs.declared.tree.Name.{Name}
@@ -16,16 +15,13 @@ use Rattle.ksv_expr_meaning.specs.Asked as asked
 use Rattle.ksv_expr_meaning.specs.Heard.{Valued}
 use Rattle.ksv_expr_meaning.specs.Meaning as meaning
 use Rattle.ksv_expr_meaning.specs.declared.want.Want.TheVariants as wants
-use Rattle.ksv_nodes.specs.Rule.{Rule, Here, Of, ask_value, in_path, in_value, value_node}
+use Rattle.ksv_nodes.specs.Rule.{Here, Of, ask_value, in_path, in_value, value_node}
 use Rattle.ksv_nodes.specs.declared.given.Given.{Given}
 use Rattle.ksv_nodes.specs.declared.given.Given.TheVariants as givens
 use Rattle.ksv_rule_meaning.specs.Wanted.{wanted, expression}
 use Rattle.ksv_rules.specs.Code.{value_of_name}
 
 module _ (s : Setting) where
-  translated : asked.Eval Value → Rule Value
-  translated = translate (wanted s) Here
-
   -- an answer, as a value that is heard, is the value
   by_given : (g : Given) → bind (bind (in_value g) (λ v. Answer (Valued v))) (λ r. translate (wanted s) Here (asked.in_value r)) ≡ in_value g
   unfolding bind

@@ -7,10 +7,9 @@ ghost use Rattle.ksv_rules.specs.Code.{ask_opened, ask_valued};
 ghost use Rattle.ksv_rule_meaning.specs.Wanted.{wanted};
 
 use crate::wanted::in_object;
-use ksv_expr_eval::{
-    Answer, Answers, Ctx, Fault, FaultKind, Halt as Stop, Opened, Parts, Path, Stream, StreamEnd,
-    Want,
-};
+use ksv_expr_eval::{Answer, Answers, Halt as Stop};
+use ksv_expr_meaning::{Opened, Want};
+use ksv_expr_value::{Ctx, Fault, FaultKind, Parts, Path, Stream, StreamEnd};
 use ksv_nodes::{Halt, Node, Turn};
 use std::alloc::{AllocError, Global};
 

@@ -16,7 +16,8 @@ use crate::choosing::content_of;
 use crate::evaluation::value_of_expression;
 use crate::fields::{field_of, kind_of, members_of, parameters_before};
 use ksv_desc::{Content, Desc, MemberKind};
-use ksv_expr_eval::{Ctx, Expr, FaultKind, Path, Place, Step, Value};
+use ksv_expr_tree::Expr;
+use ksv_expr_value::{Ctx, FaultKind, Path, Place, Step, Value};
 use ksv_nodes::{Calc, Halt, MemberRef, Object, Origin, Turn};
 
 /// No member's value is a stream.

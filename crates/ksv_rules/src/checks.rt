@@ -13,7 +13,8 @@ ghost use Rattle.ksv_rule_meaning.specs.Heads.{member_setting};
 use crate::fields::kind_of;
 use crate::wanted::truth_of;
 use ksv_desc::{Desc, Valid};
-use ksv_expr_eval::{Ctx, Expr, FaultKind, Path, Place, Step, Value};
+use ksv_expr_tree::Expr;
+use ksv_expr_value::{Ctx, FaultKind, Path, Place, Step, Value};
 use ksv_nodes::{Calc, Halt, Head, MemberRef, Object, Origin, Turn};
 
 /// Whether one of some conditions is true: they are evaluated in their order, up to the first that is.

@@ -7,14 +7,14 @@ ghost use Rattle.ksv_expr_tree.specs.Tree.{view, literal_of};
 ghost use Rattle.ksv_desc.specs.Description.{Bytes};
 ghost use Rattle.ksv_desc.specs.Pieces.{plain_case, plain_choice, plain_content, plain_value};
 ghost use Rattle.ksv_nodes.specs.Turning.{Runs};
-ghost use Rattle.ksv_rule_meaning.specs.Choosing.{is_constant, is_negative, is_enum_member, is_equal, is_case_of, is_default, first_case, case_for, switched, choose, in_cases, content_of};
+ghost use Rattle.ksv_rule_meaning.specs.Choosing.{is_constant, is_negative, is_enum_member, is_equal, is_case_of, is_default, first_case, case_for, switched, choose, content_of};
 ghost use Rattle.ksv_rules.specs.Members.{plain_chosen};
 
 use crate::evaluation::value_of_expression;
 use crate::fields::number_of;
 use ksv_desc::{Case, CaseValue, Choice, Content};
-use ksv_expr_eval::{Ctx, Expr, FaultKind, Value};
-use ksv_expr_tree::{EnumMember, Literal};
+use ksv_expr_tree::{EnumMember, Expr, Literal};
+use ksv_expr_value::{Ctx, FaultKind, Value};
 use ksv_nodes::{Halt, Turn};
 use std::alloc::AllocError;
 
@@ -161,25 +161,9 @@ pub(crate) fn choose<'d>(
     }
 }
 
-/// What was read, by the case that was chosen; none is bytes.
-fn in_cases<'d>(
-    turn: &mut Turn,
-    cases: &'d [Case],
-    case: Option<u32>,
-) -> Result<Option<&'d Content>, Halt>
-    ensures { Runs (in_cases (map plain_case cases.now) case) (λ content. option_map_or (λ c. plain_content c.now) content Bytes) turn.old turn.new result }
-{
-    match case {
-        None => Ok(None),
-        Some(place) => match cases.get(place as usize) {
-            None => turn.raise(FaultKind::NoSuch),
-            Some(case) => Ok(Some(&case.content)),
-        },
-    }
-}
-
 /// What was read by a choice; none is bytes, which a switch without a case for its value reads.
 #[tactic(auto, unfolding(ksv_rule_meaning::specs::Choosing::content_of))]
+#[inline(always)]
 pub(crate) fn content_of<'d>(
     turn: &mut Turn,
     choice: &'d Choice,
@@ -187,8 +171,8 @@ pub(crate) fn content_of<'d>(
 ) -> Result<Option<&'d Content>, Halt>
     ensures { Runs (content_of (plain_choice choice.now) case) (λ content. option_map_or (λ c. plain_content c.now) content Bytes) turn.old turn.new result }
 {
-    match choice {
-        Choice::Always(content) => Ok(Some(content)),
-        Choice::Switch { cases, .. } => in_cases(turn, cases, case),
+    match choice.content(case) {
+        Some(content) => Ok(content),
+        None => turn.raise(FaultKind::NoSuch),
     }
 }

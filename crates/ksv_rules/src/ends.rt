@@ -14,7 +14,8 @@ use crate::fields::{field_of, last_attribute, members_of};
 use crate::parts::{in_list_above, part_end};
 use crate::wanted::{missing, truth_of};
 use ksv_desc::{Desc, Repeat};
-use ksv_expr_eval::{Ctx, Expr, FaultKind, Path, Place, Step, Stream};
+use ksv_expr_tree::Expr;
+use ksv_expr_value::{Ctx, FaultKind, Path, Place, Step, Stream};
 use ksv_nodes::{ELEMENT_LIMIT, Ended, Halt, Head, List, Object, ObjectEnd, Rested, Turn};
 
 /// The end of an object that ends with its last attribute: the next byte; without one it ends where it begins.

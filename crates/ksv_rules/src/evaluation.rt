@@ -5,8 +5,9 @@ ghost use Rattle.ksv_nodes.specs.Turning.{Runs};
 ghost use Rattle.ksv_rules.specs.Code.{value_of_name};
 ghost use Rattle.ksv_rule_meaning.specs.Wanted.{expression};
 
-use ksv_expr_eval::{Ctx, Expr, FaultKind, Halt as Stop, Path, Step, Value, evaluate};
-use ksv_expr_tree::Name;
+use ksv_expr_eval::{Halt as Stop, evaluate};
+use ksv_expr_tree::{Expr, Name};
+use ksv_expr_value::{Ctx, FaultKind, Path, Step, Value};
 use ksv_nodes::{Halt, Turn};
 
 /// The value of an expression, whose wants the turn answers. Its own faults are at the path of the node.

@@ -5,11 +5,11 @@ ghost use Rattle.std.specs.Prelude.{◌≡◌, ◌≤◌, IfOk, None, OnErr, map
 ghost use Rattle.ksv_desc.specs.Pieces.{plain_member, plain_field, plain_kind};
 ghost use Rattle.ksv_desc.specs.Whole.{plain_pieces};
 ghost use Rattle.ksv_nodes.specs.Turning.{Runs};
-ghost use Rattle.ksv_rule_meaning.specs.Fields.{members_of, behind, sought, member_named, last_attribute, read_by, kind_of, field_of, is_parameter, parameters_before};
+ghost use Rattle.ksv_rule_meaning.specs.Fields.{members_of, behind, sought, member_named, last_attribute, kind_of, field_of, is_parameter, parameters_before};
 ghost use Rattle.ksv_rules.specs.Members.{plain_sought};
 
 use ksv_desc::{Desc, Field, MemberDesc, MemberKind};
-use ksv_expr_eval::FaultKind;
+use ksv_expr_value::FaultKind;
 use ksv_nodes::{Halt, MemberRef, Turn};
 use std::alloc::AllocError;
 
@@ -106,18 +106,6 @@ pub(crate) fn last_attribute(members: &[MemberDesc]) -> Option<u32>
     last
 }
 
-/// How a member reads, where it is one that reads.
-#[inline(always)]
-fn read_by<'d>(turn: &mut Turn, kind: &'d MemberKind) -> Result<&'d Field, Halt>
-    ensures { Runs (read_by (plain_kind kind.now)) (λ field. plain_field field.now) turn.old turn.new result }
-{
-    match kind {
-        MemberKind::Attribute(field) => Ok(field),
-        MemberKind::ParseInstance { field, .. } => Ok(field),
-        _ => turn.raise(FaultKind::NoSuch),
-    }
-}
-
 /// What the member at a place of a type's members is.
 #[tactic(auto, unfolding(ksv_rule_meaning::specs::Fields::kind_of))]
 #[inline(always)]
@@ -135,7 +123,7 @@ pub(crate) fn kind_of<'d>(
 }
 
 /// How the attribute or parse instance at a place of a type's members reads.
-#[tactic(auto, using(ksv_basics::proofs::Running::run_bind), unfolding(ksv_rule_meaning::specs::Fields::field_of))]
+#[tactic(auto, unfolding(ksv_rule_meaning::specs::Fields::field_of))]
 #[inline(always)]
 pub(crate) fn field_of<'d>(
     turn: &mut Turn,
@@ -144,8 +132,10 @@ pub(crate) fn field_of<'d>(
 ) -> Result<&'d Field, Halt>
     ensures { Runs (field_of (plain_pieces desc.now) member) (λ field. plain_field field.now) turn.old turn.new result }
 {
-    let kind = kind_of(turn, desc, member)?;
-    read_by(turn, kind)
+    match desc.field(member.type_number, member.member) {
+        Some(field) => Ok(field),
+        None => turn.raise(FaultKind::NoSuch),
+    }
 }
 
 /// Whether it is a parameter.

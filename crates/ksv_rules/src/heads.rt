@@ -15,7 +15,8 @@ use crate::parts::{end_beside, in_list_above};
 use crate::shapes::shape_at;
 use crate::wanted::{holds, in_object_above, size_of, stream_for};
 use ksv_desc::{Choice, Content, Desc, Field, MemberKind, Repeat};
-use ksv_expr_eval::{Ctx, Expr, FaultKind, Path, Place, Step, Stream, StreamEnd};
+use ksv_expr_tree::Expr;
+use ksv_expr_value::{Ctx, FaultKind, Path, Place, Step, Stream, StreamEnd};
 use ksv_nodes::{
     Calc, CaseNumber, ELEMENT_LIMIT, ElementCount, Ended, Halt, Head, Holder, List, MemberRef,
     Object, ObjectEnd, ObjectOrigin, Origin, Turn,

@@ -6,7 +6,7 @@ ghost use Rattle.ksv_rule_meaning.specs.Integers.{integer_value, unsigned_value,
 
 use crate::lent::len_of;
 use ksv_desc::ByteOrder;
-use ksv_expr_eval::Parts;
+use ksv_expr_value::Parts;
 
 /// The number that bytes write, the most significant first.
 fn big_endian(bytes: &[u8]) -> u64

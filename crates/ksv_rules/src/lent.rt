@@ -4,7 +4,7 @@ ghost use Rattle.std.specs.Prelude.{◌≡◌, ◌<◌, length, take};
 ghost use Rattle.std.specs.Str.{bytes_eq};
 ghost use Rattle.ksv_expr_value.specs.Bytes.{content};
 
-use ksv_expr_eval::Parts;
+use ksv_expr_value::Parts;
 
 /// How many bytes there are.
 pub(crate) fn len_of(parts: Parts) -> usize

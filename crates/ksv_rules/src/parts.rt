@@ -6,7 +6,7 @@ ghost use Rattle.ksv_nodes.specs.Turning.{Runs};
 ghost use Rattle.ksv_rule_meaning.specs.Heads.{part_end, in_list};
 
 use crate::wanted::missing_above;
-use ksv_expr_eval::{Path, Step};
+use ksv_expr_value::{Path, Step};
 use ksv_nodes::{Ended, Halt, Head, List, Turn};
 
 /// Where a part of what is at a path ends.

@@ -15,7 +15,8 @@ ghost use Rattle.ksv_rules.specs.Members.{plain_chosen};
 use crate::choosing::{Chosen, choose};
 use crate::wanted::size_of;
 use ksv_desc::{Content, Extent, Field, Terminator};
-use ksv_expr_eval::{Ctx, Expr, FaultKind, Place, Stream, StreamEnd};
+use ksv_expr_tree::Expr;
+use ksv_expr_value::{Ctx, FaultKind, Place, Stream, StreamEnd};
 use ksv_nodes::{
     CaseNumber, Found, Halt, Head, Leaf, Object, ObjectEnd, ObjectOrigin, Origin, Turn,
 };

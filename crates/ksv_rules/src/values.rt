@@ -19,7 +19,7 @@ use crate::fields::field_of;
 use crate::integer::integer_value;
 use crate::lent::{are, cut, len_of};
 use ksv_desc::{ByteOrder, Content, Desc, Extent, Field, Terminator, is_truth};
-use ksv_expr_eval::{Encoding, FaultKind, Integer, Parts, Path, Text, Value};
+use ksv_expr_value::{Encoding, FaultKind, Integer, Parts, Path, Text, Value};
 use ksv_nodes::{Halt, Head, Leaf, Turn, first_in_parts};
 
 /// The bytes from one of a number on and before another.

@@ -10,7 +10,8 @@ ghost use Rattle.ksv_nodes.specs.Turning.{Runs};
 ghost use Rattle.ksv_rule_meaning.specs.Wanted.{missing, in_object, in_integer, in_truth, integer_of, truth_of, holds, in_size, size_of, in_stream, stream_for};
 
 use crate::evaluation::value_of_expression;
-use ksv_expr_eval::{Ctx, Expr, Fault, FaultKind, Integer, Path, Stream, Value};
+use ksv_expr_tree::Expr;
+use ksv_expr_value::{Ctx, Fault, FaultKind, Integer, Path, Stream, Value};
 use ksv_nodes::{Halt, Head, Object, Turn};
 
 /// A fault of a kind at a path.

@@ -1,6 +1,6 @@
 -- How many nodes a rule asks: no more than the expressions of its attribute want, and four besides. So an engine that has so
 -- many replies for a node needs no further one.
-use Rattle.std.specs.Prelude.{ℕ, zero, suc, ◌+◌, ◌-◌, ◌==◌, ◌≤◌, nat_lt, nat_le, Bool, true, false, ◌||◌, ℤ, pos, negsuc, List, [], ◌∷◌, length, slice_get, Option, Some, None, Result, if◌then◌else◌}
+use Rattle.std.specs.Prelude.{ℕ, zero, suc, ◌+◌, ◌-◌, ◌==◌, ◌≤◌, nat_lt, nat_le, Bool, true, false, ◌||◌, ℤ, pos, negsuc, List, [], ◌∷◌, length, slice_get, Option, Some, None, option_map, option_and_then, Result, if◌then◌else◌}
 use Rattle.std.specs.List.{sum_by}
 use Rattle.std.specs.Option.{option_map_or}
 use Rattle.std.specs.Str.{bytes_eq}
@@ -28,7 +28,7 @@ use Rattle.ksv_expr_value.specs.declared.value.Value.{Value}
 use Rattle.ksv_expr_value.specs.declared.value.Value.TheVariants as values
 use Rattle.ksv_expr_meaning.specs.declared.want.Want.{Want}
 use Rattle.ksv_expr_meaning.specs.declared.want.Want.TheVariants as wants
-use Rattle.ksv_desc.specs.Description.{Description, is_truth, TypeOfObjects, MemberOfType, MemberKind, Parameter, Attribute, ParseInstance, ValueInstance, Field, Content, Case, Choice, Always, Switch, Extent, Sized, SizeEos, ByItself, Repeat, Once, Eos, Expr, Until, Terminator, Valid, AnyOf, AllOf, valid_of}
+use Rattle.ksv_desc.specs.Description.{Description, is_truth, TypeOfObjects, MemberOfType, MemberKind, Parameter, Attribute, ParseInstance, ValueInstance, Field, Content, Case, Choice, Always, Switch, Extent, Sized, SizeEos, ByItself, Repeat, Once, Eos, Expr, Until, Terminator, Valid, AnyOf, AllOf, valid_of, field_in}
 use Rattle.ksv_desc.specs.Description as contents
 use Rattle.ksv_nodes.proofs.Bounds.{nodes_more, nodes_join, nodes_if, nodes_translate, enough, head_nodes, value_nodes, end_nodes, rest_nodes, part_nodes}
 use Rattle.ksv_nodes.specs.Bounds.{NodesAtMost}
@@ -53,9 +53,9 @@ use Rattle.ksv_nodes.specs.declared.turn.readings.Found.{Found}
 use Rattle.ksv_nodes.specs.declared.turn.readings.Found.TheVariants as founds
 use Rattle.ksv_nodes.specs.Rule.{Rule, Here, finish, done, reach, peek, find}
 use Rattle.ksv_rule_meaning.specs.Described.{condition_wants, repeat_wants, extent_wants, arguments_wants, content_wants, choice_wants, field_wants, kind_wants, type_wants, valid_wants, type_checks, most_asks, resumed, step_of}
-use Rattle.ksv_rule_meaning.specs.Fields.{members_of, behind, Sought, sought, in_sought, member_named, last_attribute, read_by, in_kind, kind_of, field_of, parameters_before}
+use Rattle.ksv_rule_meaning.specs.Fields.{members_of, behind, Sought, sought, in_sought, member_named, last_attribute, in_field, in_kind, kind_of, field_of, parameters_before}
 use Rattle.ksv_rule_meaning.specs.Checks.{meets_one, meets_each, meets, with_value, checked, checked_if, member_checked, object_checked, value_checked}
-use Rattle.ksv_rule_meaning.specs.Choosing.{Chosen, switched, choose, in_case, content_of}
+use Rattle.ksv_rule_meaning.specs.Choosing.{Chosen, switched, choose, in_content, content_of}
 use Rattle.ksv_rule_meaning.specs.Wanted.{whole, in_object, wanted, expression, in_integer, in_truth, integer_of, truth_of, holds, in_size, size_of, in_stream, stream_for}
 use Rattle.ksv_rule_meaning.specs.Integers.{integer_value}
 use Rattle.ksv_rule_meaning.specs.Values.{in_number, number_in, number_value, of_bits, bits_value, fixed_value, is_cut, cut_bytes, bytes_value, in_text, cut_text, text_value, content_value, leaf_value, in_no_stream, in_enum, instance_value, given_by, arguments_for, argument_at, argument_setting, plain_value, argument_value, parameter_value, calc_value, calculated, value_at, value_of}
@@ -145,18 +145,28 @@ kind_gives d r =
     let all = members_wants d r.type_number in
     in_kind_gives (all_wants d) (slice_get ms r.member) (omega (arith, part, all))
 
-read_gives : (n : ℕ) (k : MemberKind) → kind_wants k ≤ n → Gives (λ f. field_wants f ≤ n) (read_by k)
-read_gives n (Attribute f) h = h
-read_gives n (ParseInstance e io f) h = omega arith
-read_gives n Parameter h = tt
-read_gives n (ValueInstance v) h = tt
+in_field_gives : (n : ℕ) (o : Option MemberOfType) → option_map_or member_wants o 0 ≤ n
+    → Gives (λ f. field_wants f ≤ n) (in_field (option_and_then (λ m. field_in m.kind) o))
+in_field_gives n None h = tt
+in_field_gives n (Some m) h = by m.kind h
+  where
+    by : (k : MemberKind) → kind_wants k ≤ n → Gives (λ f. field_wants f ≤ n) (in_field (field_in k))
+    by (Attribute f) h = h
+    by (ParseInstance e io f) h = omega arith
+    by Parameter h = tt
+    by (ValueInstance v) h = tt
 
 field_gives : (d : Description) (r : MemberRef) → Gives (λ f. field_wants f ≤ all_wants d) (field_of d r)
-unfolding field_of
-field_gives d r = gives_on (λ k. kind_wants k ≤ all_wants d) (λ f. field_wants f ≤ all_wants d) (kind_of d r) (λ k. read_by k) (kind_gives d r) (λ k h. read_gives (all_wants d) k h)
+unfolding field_of members_of
+field_gives d r =
+    let ms = members_of d r.type_number in
+    let part = part_of_sum member_wants ms r.member in
+    let all = members_wants d r.type_number in
+    in_field_gives (all_wants d) (slice_get ms r.member) (omega (arith, part, all))
 
 -- what is read by a case, and the arguments in it
-in_case_gives : (n : ℕ) (o : Option Case) → option_map_or (λ c. content_wants c.content) o 0 ≤ n → Gives (λ k. content_wants k ≤ n) (in_case o)
+in_case_gives : (n : ℕ) (o : Option Case) → option_map_or (λ c. content_wants c.content) o 0 ≤ n
+    → Gives (λ k. content_wants k ≤ n) (in_content (option_map (λ c. c.content) o))
 in_case_gives n None h = tt
 in_case_gives n (Some c) h = h
 
@@ -164,7 +174,8 @@ content_gives : (c : Choice) (case : Option ℕ) → Gives (λ k. content_wants 
 unfolding content_of
 content_gives (Always k) case = omega arith
 content_gives (Switch on cases) None = omega arith
-content_gives (Switch on cases) (Some i) = in_case_gives (choice_wants (Switch on cases)) (slice_get cases i) (omega (arith, part_of_sum (λ c. content_wants c.content) cases i))
+content_gives (Switch on cases) (Some i) =
+    in_case_gives (choice_wants (Switch on cases)) (slice_get cases i) (omega (arith, part_of_sum (λ c. content_wants c.content) cases i))
 
 given_gives : (n : ℕ) (k : Content) → content_wants k ≤ n → Gives (λ es. arguments_wants es ≤ n) (given_by k)
 given_gives n (contents.Object t given) h = h
