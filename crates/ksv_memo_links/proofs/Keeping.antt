@@ -183,7 +183,8 @@ module _ (p q r : Parts) (slot : ℕ) (asks : List ℕ) (us : List Use) (w : IsW
   uses_fill = ap (λ u. u.rows) uses ∙ f.uses
 
   at : IsSetAt p r slot asks us
-  at = set_at p r slot asks us w inside asked_fill uses_fill (ap (λ b. length b.lists) linked ∙ f.ask_lists) (ap length kept ∙ length-set p.marks.kept slot true)
+  at = set_at p r slot asks us w inside asked_fill uses_fill (ap (λ b. length b.lists) linked ∙ f.ask_lists)
+      (ap length kept ∙ length-set p.marks.kept slot true)
 
   kept_other : (s : ℕ) → s ≢ slot → is_kept r.marks.kept s ≡ is_kept p.marks.kept s
   kept_other s ne = ap (λ ks. is_kept ks s) kept ∙ get_or-set_other p.marks.kept slot s true false ne
