@@ -182,8 +182,8 @@ module _ (p q r : Parts) (slot : ℕ) (asks : List ℕ) (us : List Use) (w : IsW
   uses_fill : r.uses.rows ≡ set p.uses.rows slot us
   uses_fill = ap (λ u. u.rows) uses ∙ f.uses
 
-  at : IsSetAt p r slot asks us
-  at = set_at p r slot asks us w inside asked_fill uses_fill (ap (λ b. length b.lists) linked ∙ f.ask_lists)
+  filled : IsSetAt p r slot asks us
+  filled = set_at p r slot asks us w inside asked_fill uses_fill (ap (λ b. length b.lists) linked ∙ f.ask_lists)
       (ap length kept ∙ length-set p.marks.kept slot true)
 
   kept_other : (s : ℕ) → s ≢ slot → is_kept r.marks.kept s ≡ is_kept p.marks.kept s
@@ -209,10 +209,10 @@ module _ (p q r : Parts) (slot : ℕ) (asks : List ℕ) (us : List Use) (w : IsW
       asked : (s k : ℕ) → is_kept r.marks.kept s ≡ true → k < length (row r.asks.named s)
           → ((eqb s slot ≡ true) × (s ≡ slot)) ⊎ ((eqb s slot ≡ false) × (s ≢ slot)) → is_kept r.marks.kept (get_or (row r.asks.named s) k 0) ≡ true
       asked s k e lt (inl q) =
-          let o : row r.asks.named s ≡ asks = ap (λ n. row r.asks.named n) q.1 ∙ at.asked_here in
+          let o : row r.asks.named s ≡ asks = ap (λ n. row r.asks.named n) q.1 ∙ filled.asked_here in
           ap (λ (ns : List ℕ). is_kept r.marks.kept (get_or ns k 0)) o ∙ now (get_or asks k 0) (asks_kept k 0 (subst (λ (ns : List ℕ). k < length ns) o lt))
       asked s k e lt (inr q) =
-          let o = at.asked_other s q.1 in
+          let o = filled.asked_other s q.1 in
           ap (λ (ns : List ℕ). is_kept r.marks.kept (get_or ns k 0)) o
           ∙ now (get_or (row p.asks.named s) k 0) (w.asked_kept s k (sym (kept_other s q.1) ∙ e) (subst (λ (ns : List ℕ). k < length ns) o lt))
 
@@ -221,10 +221,10 @@ module _ (p q r : Parts) (slot : ℕ) (asks : List ℕ) (us : List Use) (w : IsW
       vacant s e (inl q) =
           absurd (true≢false (sym
           (ap (λ n. is_kept r.marks.kept n) q.1 ∙ ap (λ ks. is_kept ks slot) kept ∙ get_or-set_same p.marks.kept slot true false inside) ∙ e))
-      vacant s e (inr q) = let v = w.vacant s (sym (kept_other s q.1) ∙ e) (none_waited s) in (at.asked_other s q.1 ∙ v.0, at.uses_other s q.1 ∙ v.1)
+      vacant s e (inr q) = let v = w.vacant s (sym (kept_other s q.1) ∙ e) (none_waited s) in (filled.asked_other s q.1 ∙ v.0, filled.uses_other s q.1 ∙ v.1)
 
   pub filled_whole : IsWhole r
-  filled_whole = whole r at.shaped filled_sound
+  filled_whole = whole r filled.shaped filled_sound
 
 -- a row that was empty is so again
 pub undone : {X : Type 0} (before now then : List (List X)) (o : ℕ) (xs : List X) → row before o ≡ [] → now ≡ set before o xs → then ≡ set now o []
