@@ -3,7 +3,7 @@ use Rattle.std.proofs.Common.{◌≡◌, ◌≢◌, ℕ, zero, suc, ◌+◌, ◌
 use Rattle.std.proofs.Common.{None, is_some, refl, sym, ◌∙◌, ap, subst, Result, slice_get, slice_set, ◌⊎◌, inl, inr, arith, length-append}
 use Rattle.std.specs.Option.{option_map}
 use Rattle.std.specs.List.{AllByRecursion}
-use Rattle.std.proofs.lemmas.List.{length-set, get_or-set_same, get_or-set_other, take-append-le, drop-append-le, length-take-le, reverse-append, append-nil}
+use Rattle.std.proofs.lemmas.List.{length-set, get_or-set_same, get_or-set_other, take-append-le, drop-append-le, length-take-le, reverse-append}
 use Rattle.std.proofs.Math.Seq.{take-length, drop-length}
 use Rattle.std.proofs.lemmas.Option.{slice_get-map, slice_get_within}
 use Rattle.ksv_bytes.specs.declared.uses.Use.{Use}
@@ -22,7 +22,7 @@ use Rattle.ksv_memo.specs.Layout.{opens_in, opens_of, AreNested, AreLinked, AreF
 use Rattle.ksv_memo.specs.Moves.{with_slot, IsVacant, Heard, Popped, Framed}
 use Rattle.ksv_memo_rules.proofs.Lists.{All-map, All-both, All-++}
 use Rattle.ksv_memo.proofs.Finding.{slot_there, node_there, answer_there}
-use Rattle.ksv_memo.proofs.Laying.{All-take, same_or, nodes_at-append, answers_at-append, Keeps, IsUsed, HasNode, slot_has_node, stays_kept, same_nodes}
+use Rattle.ksv_memo.proofs.Laying.{++-nil, All-take, same_or, nodes_at-append, answers_at-append, Keeps, IsUsed, HasNode, slot_has_node, stays_kept, same_nodes}
 use Rattle.ksv_memo.proofs.Laying.{same_entry, same_opens, no_entry_at, entries_at-append, entries_at-same, All-numbers, numbers-split}
 
 -- an entry was put somewhere among others
@@ -199,7 +199,7 @@ module _ {N V F : Type 0} where
         ∙ entries_at-append qs l (numbers_from 0 (length ps)) (numbers_from (0 + length ps) more)
         ∙ (let e : 0 + length ps ≡ length ps = omega arith in ap (λ k. entries_at qs l (numbers_from 0 (length ps)) ++ entries_at qs l (numbers_from k more)) e)
         ∙ ap (λ xs. entries_at qs l (numbers_from 0 (length ps)) ++ xs) (nothing (numbers_from (length ps) more) new)
-        ∙ append-nil (entries_at qs l (numbers_from 0 (length ps)))
+        ∙ ++-nil (entries_at qs l (numbers_from 0 (length ps)))
         ∙ entries_at-same ps qs l l (numbers_from 0 (length ps))
         (All-numbers (λ j. entry_at qs l j ≡ entry_at ps l j) 0 (length ps) (λ j le lt. same_at l h empty j (same_or j i)))
       where

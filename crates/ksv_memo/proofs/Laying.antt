@@ -13,8 +13,13 @@ use Rattle.ksv_memo_rules.specs.declared.replies.Slot.TheVariants.{Open as opene
 use Rattle.ksv_memo.specs.declared.frames.Frame.{Frame}
 use Rattle.ksv_memo_rules.specs.Slots.{answer_of, answer_at, answers_at, with_first}
 use Rattle.ksv_memo_rules.specs.Entry.{Entry}
-use Rattle.ksv_memo.specs.Layout.{IsOneOf, slots_of, node_at, nodes_at, IsOpen, IsKept, entry_with, entry_at, entries_at, open_before, opens_in}
+use Rattle.ksv_memo.specs.Layout.{IsOneOf, AllDiffer, slots_of, node_at, nodes_at, IsOpen, IsKept, entry_with, entry_at, entries_at, open_before, opens_in}
 use Rattle.ksv_memo_rules.proofs.Evals.{eqb_true}
+use Rattle.ksv_memo_rules.proofs.Lists.{All-++}
+
+pub ++-nil : {X : Type 0} (xs : List X) → xs ++ [] ≡ xs
+++-nil [] = refl
+++-nil (x ∷ xs) = ap (λ ys. x ∷ ys) (++-nil xs)
 
 pub All-take : {X : Type 0} (P : X → Type 0) (k : ℕ) (xs : List X) → AllByRecursion P xs → AllByRecursion P (take k xs)
 All-take P zero xs h = tt
@@ -26,6 +31,11 @@ All-drop P zero xs h = h
 All-drop P (suc k) [] h = tt
 All-drop P (suc k) (x ∷ xs) h = All-drop P k xs h.1
 
+pub get_append : {X : Type 0} (xs ys : List X) (i : ℕ) (x : X) → slice_get xs i ≡ Some x → slice_get (xs ++ ys) i ≡ Some x
+get_append [] ys i x e = absurd (cc)
+get_append (y ∷ xs) ys zero x e = e
+get_append (y ∷ xs) ys (suc i) x e = get_append xs ys i x e
+
 pub some-of : {X : Type 0} (o : Option X) → is_some o ≡ true → (x : X) × (o ≡ Some x)
 some-of None e = absurd (cc)
 some-of (Some x) e = (x, refl)
@@ -35,6 +45,29 @@ pub one_of-all : {X : Type 0} (P : X → Type 0) (xs : List X) → AllByRecursio
 one_of-all P [] h x m = absurd m
 one_of-all P (y ∷ xs) h x (inl e) = subst P e h.0
 one_of-all P (y ∷ xs) h x (inr m) = one_of-all P xs h.1 x m
+
+pub one_of-left : {X : Type 0} (xs ys : List X) (x : X) → IsOneOf xs x → IsOneOf (xs ++ ys) x
+one_of-left [] ys x m = absurd m
+one_of-left (y ∷ xs) ys x (inl e) = inl e
+one_of-left (y ∷ xs) ys x (inr m) = inr (one_of-left xs ys x m)
+
+pub one_of-right : {X : Type 0} (xs ys : List X) (x : X) → IsOneOf ys x → IsOneOf (xs ++ ys) x
+one_of-right [] ys x m = m
+one_of-right (y ∷ xs) ys x m = inr (one_of-right xs ys x m)
+
+pub one_of-push : {X : Type 0} (xs : List X) (y x : X) → IsOneOf (xs ++ y ∷ []) x → IsOneOf xs x ⊎ (y ≡ x)
+one_of-push [] y x (inl e) = inr e
+one_of-push [] y x (inr m) = absurd m
+one_of-push (z ∷ xs) y x (inl e) = inl (inl e)
+one_of-push (z ∷ xs) y x (inr m) = by (one_of-push xs y x m)
+  where
+    by : IsOneOf xs x ⊎ (y ≡ x) → IsOneOf (z ∷ xs) x ⊎ (y ≡ x)
+    by (inl k) = inl (inr k)
+    by (inr e) = inr e
+
+pub AllDiffer-push : (xs : List ℕ) (y : ℕ) → AllDiffer xs → AllByRecursion (λ x. x ≢ y) xs → AllDiffer (xs ++ y ∷ [])
+AllDiffer-push [] y h k = (tt, tt)
+AllDiffer-push (x ∷ xs) y h k = (All-++ (λ j. x ≢ j) xs (y ∷ []) h.0 (k.0, tt), AllDiffer-push xs y h.1 k.1)
 
 pub same_or : (j i : ℕ) → (j ≡ i) ⊎ (j ≢ i)
 same_or j i = by (nat_eq j i) refl

@@ -1,6 +1,6 @@
 -- What the moves of the table come to for a question.
 use Rattle.std.proofs.Common.{true≢false, ◌≡◌, ℕ, ◌+◌, ◌<◌, nat_lt, arith, Bool, true, false, List, [], ◌∷◌, length, Option, Some, None, refl, sym, ◌∙◌, ap}
-use Rattle.std.proofs.Common.{subst, inl, inr, Result, Ok, Err, IfOk, OnOk, OnErr}
+use Rattle.std.proofs.Common.{subst, inl, inr}
 use Rattle.std.proofs.lemmas.Bool.Decides.{Decides-ltb}
 use Rattle.std.specs.Cmp.{IsEquivalence}
 use Rattle.std.specs.List.{list_any}
@@ -8,8 +8,7 @@ use Rattle.ksv_memo_rules.specs.declared.rules.Next.{Next}
 use Rattle.ksv_memo_rules.specs.declared.rules.Next.TheVariants.{Need, Done}
 use Rattle.ksv_memo_rules.specs.declared.rules.Outcome.{Outcome}
 use Rattle.ksv_memo_rules.specs.declared.rules.Outcome.TheVariants.{Answered, Circle}
-use Rattle.ksv_memo_rules.specs.Meaning.{Meaning, IsLawful, Standing, IsSettled, on}
-use Rattle.ksv_memo_rules.proofs.Standing.{law_on}
+use Rattle.ksv_memo_rules.specs.Meaning.{Standing, IsSettled}
 use Rattle.ksv_memo_rules.specs.Evaluation.{is_among, tells, done, IsAnswered, answering}
 use Rattle.ksv_memo_rules.specs.Entry.{Entry}
 use Rattle.ksv_memo.specs.Open.{Open, newly, with_uses, with_answer}
@@ -23,25 +22,7 @@ use Rattle.ksv_memo.proofs.Laying.{one_of-all}
 use Rattle.ksv_memo.proofs.Turns.{any_entry, waits_among, need-replies, need-opens, need-ends, finish-goes, finish-ends, finish-left, left-same, turn-account}
 use Rattle.ksv_memo.proofs.Turns.{turn-steps, begins, comes, covers-begins, turns-begin, value-begins, counts-end, counts-step, covers-kept, none-owed}
 
--- rules over some bytes, and the equality of their nodes
-pub record Asked (N A : Type 0) : Type 0 where
-  pub rules : Standing N A
-  pub law : IsSettled rules
-  pub eq : N → N → Bool
-  pub laws : IsEquivalence eq
-  pub exact : (a b : N) → eq a b ≡ true → a ≡ b
-
-abbrev pub AskedBy : {N A : Type 0} → Meaning N A → Type 0
-AskedBy {N} {A} meaning = Asked N A
-
-abbrev pub asked_on : {N A : Type 0} (meaning : Meaning N A) → IsLawful meaning → (bytes : List ℕ) (eq : N → N → Bool) → IsEquivalence eq
-    → ((a b : N) → eq a b ≡ true → a ≡ b) → Asked N A
-asked_on meaning lawful bytes eq laws exact =
-    record { rules = on meaning bytes; law = law_on meaning lawful bytes; eq = eq; laws = laws; exact = exact }
-
-module _ {N A : Type 0} (asked : Asked N A) where
-  open asked use {rules as w, law, eq, laws, exact}
-
+module _ {N A : Type 0} (w : Standing N A) (law : IsSettled w) (eq : N → N → Bool) (laws : IsEquivalence eq) (exact : (a b : N) → eq a b ≡ true → a ≡ b) where
   -- ---- a kept node
   pub entry_in : (es : List (Entry N A)) (n : N) (e : Entry N A) → IsEntry eq es n e → IsIn w (nodes_of es) n
   entry_in es n e is = subst (IsIn w (nodes_of es)) (sym (exact n e.node is.passes))
@@ -137,38 +118,32 @@ module _ {N A : Type 0} (asked : Asked N A) where
   running es ks n [] h = absurd h
   running es ks n (o ∷ st) h = (h.stack, h.came)
 
-  -- what is kept where memory is refused in a question for a node
-  abbrev pub IsLeftBy : List (Entry N A) → N → List (Entry N A) → Type 0
-  IsLeftBy es n t = IsLeft w (to_keep w es (done w [] n)) es t
+  -- a call leaves what is kept
+  pub reached_on : (es ks kept : List (Entry N A)) (n : N) (st now : List (Open N A)) (s : Next N A) → HoldsWith w n es ks st → Steps w st now s → kept ≡ ks
+      → HasReached w kept now s
+  reached_on es ks kept n st now s h steps same = subst (λ xs. HasReached w xs now s) (sym same) (reached ks st now s (running es ks n st h) steps)
+
+  pub moves_on : (es ks kept : List (Entry N A)) (n : N) (st now : List (Open N A)) (s : Next N A) (t : Nodes N A) (out : Option (Outcome N A))
+      → HoldsWith w n es ks st → Steps w st now s → kept ≡ ks → AdvancesAt w kept now s t out → AdvancesFrom w ks st t out
+  moves_on es ks kept n st now s t out h steps same rest =
+      advances ks st now s t out (running es ks n st h) steps (subst (λ xs. AdvancesAt w xs now s t out) same rest)
 
   left_next : (es ks : List (Entry N A)) (n : N) (st : List (Open N A)) (t : List (Entry N A)) → HoldsWith w n es ks st → LeftFrom w ks st t
-      → IsLeftBy es n t
+      → IsLeft w (to_keep w es (done w [] n)) es t
   left_next es ks n [] t h left = absurd h
   left_next es ks n (o ∷ st) t h left =
       record { right = left.right; grown = λ x k. left.grown x (h.grown x k); within = λ x k. sym (h.all x) ∙ left.within x k }
 
   -- memory was refused: nothing more is kept, or what the rest of the turn keeps
   pub left_same : (es ks : List (Entry N A)) (n : N) (st : List (Open N A)) (t : List (Entry N A)) → HoldsWith w n es ks st → t ≡ ks
-      → IsLeftBy es n t
+      → IsLeft w (to_keep w es (done w [] n)) es t
   left_same es ks n [] t h same = absurd h
   left_same es ks n (o ∷ st) t h same = left_next es ks n (o ∷ st) t h (left-same w law ks t (rest_of w o st) h.stack.right same)
 
-  -- after a call: what it has reached, where the rest of the turn leads, and what is left where memory is refused in it
-  pub record HasTurned (es ks kept : List (Entry N A)) (n : N) (st now : List (Open N A)) (s : Next N A) : Type 0 where
-    pub reached : HasReached w kept now s
-    pub moves : (t : Nodes N A) (out : Option (Outcome N A)) → AdvancesAt w kept now s t out → AdvancesFrom w ks st t out
-    pub left : (t : List (Entry N A)) → LeftAt w kept now s t → IsLeftBy es n t
-
-  -- a call leaves what is kept
-  pub turned : (es ks kept : List (Entry N A)) (n : N) (st now : List (Open N A)) (s : Next N A) → HoldsWith w n es ks st → Steps w st now s
-      → kept ≡ ks → HasTurned es ks kept n st now s
-  turned es ks kept n st now s h steps same =
-      let runs = running es ks n st h in
-      record {
-        reached = subst (λ xs. HasReached w xs now s) (sym same) (reached ks st now s runs steps);
-        moves = λ t out rest. advances ks st now s t out runs steps (subst (λ xs. AdvancesAt w xs now s t out) same rest);
-        left = λ t rest. left_next es ks n st t h (leaves ks st now s t runs steps (subst (λ xs. LeftAt w xs now s t) same rest));
-      }
+  pub left_on : (es ks kept : List (Entry N A)) (n : N) (st now : List (Open N A)) (s : Next N A) (t : List (Entry N A)) → HoldsWith w n es ks st
+      → Steps w st now s → kept ≡ ks → LeftAt w kept now s t → IsLeft w (to_keep w es (done w [] n)) es t
+  left_on es ks kept n st now s t h steps same left =
+      left_next es ks n st t h (leaves ks st now s t (running es ks n st h) steps (subst (λ xs. LeftAt w xs now s t) same left))
 
   -- fewer turns are left
   pub fewer_next : (es ks : List (Entry N A)) (n : N) (st : List (Open N A)) (now : Nodes N A) → HoldsWith w n es ks st → AdvancesFrom w ks st now None
@@ -182,16 +157,15 @@ module _ {N A : Type 0} (asked : Asked N A) where
 
   -- ---- a question
   -- what the end of a question leaves
-  pub record HasEnd {E : Type 0} (n : N) (es : List (Entry N A)) (first after : Option ℕ) (now : List (Entry N A)) (r : Result (Outcome N A) E) : Type 0 where
-    pub outcome : IfOk r (λ out. out ≡ (tells w [] n).outcome)
+  pub record HasEnd (n : N) (es : List (Entry N A)) (first : Option ℕ) (after : Option ℕ) (now : List (Entry N A)) (out : Outcome N A) : Type 0 where
+    pub outcome : out ≡ (tells w [] n).outcome
     pub right : IsRight w now
-    pub kept : OnOk r (AreSame w (nodes_of now) (to_keep w es (done w [] n)))
-    pub left : OnErr r (IsLeftBy es n now)
-    pub turns : IfOk r (λ out. IsAnswered out → after ≡ counted (debt w es (done w [] n)) first)
+    pub kept : AreSame w (nodes_of now) (to_keep w es (done w [] n))
+    pub turns : IsAnswered out → after ≡ counted (debt w es (done w [] n)) first
 
   -- a node that is kept or open ends it at once
   pub ends_known : (n : N) (old now : Nodes N A) (out : Outcome N A) (turns : Option ℕ) → IsRight w old.kept → old.opened ≡ [] → Starts eq n old now (Some out)
-      → HasEnd {E = Unit {0}} n old.kept turns turns now.kept (Ok out)
+      → HasEnd n old.kept turns turns now.kept out
   ends_known n old now (Answered a) turns right none starts =
       let e : Entry N A = starts.0.0 in
       let is = starts.0.1 in
@@ -201,7 +175,6 @@ module _ {N A : Type 0} (asked : Asked N A) where
         right = subst (IsRight w) (sym same) right;
         kept = λ x. ap (λ es. is_among w.number (nodes_of es) x) same
             ∙ ap (λ ns. is_among w.number ns x) (covers-kept w law old.kept n right (entry_in old.kept n e is));
-        left = tt;
         turns = λ answered. none-owed w law old.kept n right (entry_in old.kept n e is) turns;
       }
   ends_known n old now (Circle m) turns right none circles =
@@ -249,16 +222,13 @@ module _ {N A : Type 0} (asked : Asked N A) where
       by qs [] g = absurd g
       by qs (p ∷ rest) g = counts-step first before after _ _ _ _ _ h g.calls e
 
-  pub has_ended : {E : Type 0} (es ks : List (Entry N A)) (n : N) (st : List (Open N A)) (now : Nodes N A) (r : Result (Outcome N A) E)
-      (first before after : Option ℕ) → HoldsWith w n es ks st → CountsWith w n es first ks st before → IfOk r (λ out. AdvancesFrom w ks st now (Some out))
-      → OnErr r (IsLeftBy es n now.kept) → after ≡ counted 1 before → HasEnd n es first after now.kept r
-  has_ended es ks n st now (Err e) first before after h c ends left more =
-      record { outcome = tt; right = left.right; kept = tt; left = left; turns = tt }
-  has_ended es ks n [] now (Ok out) first before after h c ends left more = absurd h
-  has_ended es ks n (o ∷ st) now (Ok out) first before after h c ends left more = record {
+  pub has_ended : (es ks : List (Entry N A)) (n : N) (st : List (Open N A)) (now : Nodes N A) (out : Outcome N A) (first before after : Option ℕ)
+      → HoldsWith w n es ks st → CountsWith w n es first ks st before → AdvancesFrom w ks st now (Some out) → after ≡ counted 1 before
+      → HasEnd n es first after now.kept out
+  has_ended es ks n [] now out first before after h c ends e = absurd h
+  has_ended es ks n (o ∷ st) now out first before after h c ends e = record {
     outcome = ends.value ∙ h.value;
     right = ends.right;
     kept = λ x. ends.all x ∙ h.all x;
-    left = tt;
-    turns = λ answered. counts-end first before after _ _ _ c (ends.calls answered) more;
+    turns = λ answered. counts-end first before after _ _ _ c (ends.calls answered) e;
   }

@@ -1,5 +1,5 @@
 -- The last open node: how it is run, kept and taken out.
-use Rattle.std.proofs.Common.{◌≡◌, ℕ, ◌+◌, ◌-◌, ◌≤◌, ◌<◌, true, false, All, List, [], ◌∷◌, ◌++◌, length, map, take, drop, reverse, Option, Some, None}
+use Rattle.std.proofs.Common.{◌≡◌, ℕ, suc, ◌+◌, ◌-◌, ◌≤◌, ◌<◌, true, false, All, List, [], ◌∷◌, ◌++◌, length, map, take, drop, reverse, Option, Some, None}
 use Rattle.std.proofs.Common.{IfOk, OnOk, OnErr, Ok, Err, length-append, is_some, refl, sym, ◌∙◌, ap, subst, Result, slice_get, inr, arith, ◌==◌}
 use Rattle.std.specs.Option.{option_map}
 use Rattle.std.specs.List.{AllByRecursion}
@@ -22,7 +22,7 @@ use Rattle.ksv_memo_rules.specs.declared.rules.Next.{Next}
 use Rattle.ksv_memo_rules.specs.Right.{HasEachOnce}
 use Rattle.ksv_memo.specs.Layout.{IsOneOf, AllDiffer, slots_of, node_at, nodes_at, IsOpen, IsKept, entries_of, open_before, opens_in, opens_of, AreNested}
 use Rattle.ksv_memo.specs.Layout.{AreLinked, AreFrames, IsLaidOut}
-use Rattle.ksv_memo.specs.Moves.{EndsWith, SameFrames, IsPart, Framed, Popped, Heard}
+use Rattle.ksv_memo.specs.Moves.{EndsWith, SameFrames, IsPart, IsNewFrame, Framed, Popped, Heard}
 use Rattle.ksv_memo.specs.Nodes.{Keeps, Closes, MayKeep, TakesFirst}
 use Rattle.std.proofs.lemmas.List.Elements.{All-from_recursion}
 use Rattle.ksv_memo_rules.proofs.Lists.{All-map}
@@ -43,6 +43,16 @@ parted i j n old new p f is node slot asks used same pushed asked uses =
       asked = asked;
       uses = uses;
     }
+
+-- the last of a list that isn't empty
+pub last-front : {X : Type 0} (xs : List X) (x : X) → slice_get xs (length xs - 1) ≡ Some x → EndsWith x xs
+last-front [] x e = absurd (cc)
+last-front (y ∷ []) x e = let same : y ≡ x = cc in ([], ap (λ z. z ∷ []) same)
+last-front (y ∷ z ∷ ys) x e =
+    let here : length (y ∷ z ∷ ys) - 1 ≡ suc (length ys) = omega arith in
+    let there : length (z ∷ ys) - 1 ≡ length ys = omega arith in
+    let rest = last-front (z ∷ ys) x (ap (slice_get (z ∷ ys)) there ∙ ap (slice_get (y ∷ z ∷ ys)) (sym here) ∙ e) in
+    (y ∷ rest.0, ap (λ zs. y ∷ zs) rest.1)
 
 pub no-items : {N : Type 0} (fs : List (Frame N)) → (length fs == 0) ≡ true → fs ≡ []
 no-items [] e = refl

@@ -1,5 +1,6 @@
 -- Nodes beside their slots.
 use Rattle.std.proofs.Common.{◌≡◌, ℕ, zero, suc, Bool, ◌||◌, List, [], ◌∷◌, ◌++◌, length, map, slice_set, get_or, Some, refl, ◌∙◌, ap, arith, slice_get}
+use Rattle.std.specs.Option.{option_map}
 use Rattle.std.specs.List.{zip, list_any}
 use Rattle.std.proofs.lemmas.Option.{slice_get_read, slice_get_within}
 use Rattle.std.proofs.lemmas.Slice.Zip.{length-zip}
@@ -14,6 +15,12 @@ module _ {N X : Type 0} where
 
   pub count-zip : (ns : List N) (ss : List X) → length ss ≡ length ns → length (zip ns ss) ≡ length ns
   count-zip ns ss e = let n = length-zip ns ss in omega arith
+
+  pub node-zip : (ns : List N) (ss : List X) → length ss ≡ length ns → (i : ℕ) → option_map (λ (p : N × X). p.0) (slice_get (zip ns ss) i) ≡ slice_get ns i
+  node-zip [] ss e i = refl
+  node-zip (n ∷ ns) [] e i = absurd (omega arith)
+  node-zip (n ∷ ns) (s ∷ ss) e zero = refl
+  node-zip (n ∷ ns) (s ∷ ss) e (suc i) = node-zip ns ss (omega arith) i
 
   there-zip : (ns : List N) (ss : List X) (i : ℕ) (n : N) (s : X) → slice_get ns i ≡ Some n → slice_get ss i ≡ Some s → slice_get (zip ns ss) i ≡ Some (n, s)
   there-zip [] ss i n s e f = absurd (cc)
