@@ -60,7 +60,7 @@ fn unsigned_value(order: ByteOrder, parts: Parts) -> u64
 }
 
 /// How many values an integer of a number of bytes can have.
-#[tactic(auto, using(ksv_rule_meaning::proofs::Integers::byte_unit, ksv_rule_meaning::proofs::Integers::byte_power, ksv_rule_meaning::proofs::Integers::power_small))]
+#[tactic(auto, using(ksv_rule_meaning::proofs::Integers::byte_unit, ksv_expr_value::proofs::Binary::byte_power, ksv_rule_meaning::proofs::Integers::power_small))]
 fn value_count(count: usize) -> i128
     requires { count ≤ 8 }
     ensures value { result ≡ pos (2 ^ (8 * count)) }
