@@ -24,12 +24,6 @@ module _ {Q P H F E : Type 0} (raise : P → F → E) (here : P) (met : Q → Re
   answer_bind (Fail e) f = refl
   answer_bind (Ask q k) f = bind_behind k f (λ h. answer_bind (k h) f) (met q)
 
-  -- the answer of one of two plans
-  pub answer_if : {A : Type 0} (b : Bool) (p q : Plan Q (λ _. H) F A)
-      → answer_of (raise here) met (if b then p else q) ≡ (if b then answer_of (raise here) met p else answer_of (raise here) met q)
-  answer_if true p q = refl
-  answer_if false p q = refl
-
   -- with all the replies it ends with the answer, and what comes after them is left
   abbrev pub Ends : {A : Type 0} → Plan Q (λ _. H) F A → Type 0
   Ends p = (more : List (Result H E)) → run (by_replies raise) p (at (map met (asks_of met p) ++ more)) ≡ ended (answer_of (raise here) met p) (at more)

@@ -41,8 +41,3 @@ halves [] b c d h = refl
 halves (x ∷ a) b [] d h = absurd (omega arith)
 halves (x ∷ a) b (y ∷ c) d h = ap (λ r. nat_eq x y && r) (halves a b c d (omega arith))
     ∙ sym (and_assoc (nat_eq x y) (bytes_eq a (take (length a) c)) (bytes_eq b (drop (length a) c ++ d)))
-
--- the same where the second is no longer
-pub turned_halves : (a b c d : List ℕ) → length c ≤ length a
-    → bytes_eq (a ++ b) (c ++ d) ≡ (bytes_eq c (take (length c) a) && bytes_eq d (drop (length c) a ++ b))
-turned_halves a b c d h = turned (a ++ b) (c ++ d) ∙ halves c d a b h

@@ -7,10 +7,6 @@ pub byte_of_byte : (n : ℕ) → byte_of (at_byte n) ≡ n
 unfolding byte_of at_byte
 byte_of_byte n = omega arith
 
-pub byte_in_byte : (n : ℕ) → byte_in (at_byte n) ≡ n
-unfolding byte_in at_byte
-byte_in_byte n = omega arith
-
 pub of_aligned : (p : Place) → byte_of (aligned p) ≡ byte_of p
 of_aligned p = byte_of_byte (byte_of p)
 

@@ -22,14 +22,14 @@ use Rattle.ksv_memo_rules.specs.declared.rules.Next.{Next}
 use Rattle.ksv_memo_rules.specs.Right.{HasEachOnce}
 use Rattle.ksv_memo.specs.Layout.{IsOneOf, AllDiffer, slots_of, node_at, nodes_at, IsOpen, IsKept, entries_of, open_before, opens_in, opens_of, AreNested}
 use Rattle.ksv_memo.specs.Layout.{AreLinked, AreFrames, IsLaidOut}
-use Rattle.ksv_memo.specs.Moves.{EndsWith, SameFrames, IsPart, IsNewFrame, Framed, Popped, Heard}
+use Rattle.ksv_memo.specs.Moves.{EndsWith, with_slot, SameFrames, IsPart, Framed, Popped, Heard}
 use Rattle.ksv_memo.specs.Nodes.{Keeps, Closes, MayKeep, TakesFirst}
 use Rattle.std.proofs.lemmas.List.Elements.{All-from_recursion}
 use Rattle.ksv_memo_rules.proofs.Lists.{All-map}
 use Rattle.ksv_memo_rules.proofs.Evals.{eqb_true}
 use Rattle.ksv_memo.proofs.Finding.{node_there, answer_there}
 use Rattle.ksv_memo.proofs.Laying.{All-drop}
-use Rattle.ksv_memo.proofs.Changing.{ChangesAt, grown, links-stay, links-keep, entries-stay, entries-keep, frames-pop, frames-hear, opens-pop, opens-hear}
+use Rattle.ksv_memo.proofs.Changing.{ChangesAt, set_at, set_count, grown, links-stay, links-keep, entries-stay, entries-keep, frames-pop, frames-hear, opens-pop, opens-hear}
 
 -- the frame of a part is that of a node that is opened now
 pub parted : {N : Type 0} (i j : ℕ) (n : N) (old new : Frames N) (p : Part) (f : Frame N) → IsPart j old p → f.node ≡ n → f.slot ≡ p.slot → f.asked ≡ p.asked
@@ -174,90 +174,116 @@ module _ {N V F : Type 0} (ps : List (N × Slot V F)) where
             (subst (λ us. P new.asked.items us) (sym same.uses) (subst (λ xs. P xs old.uses.items) (sym same.asked) h.nested));
       }
 
-  -- ---- the last open node is taken out
-  module _ (l : Linked) (frames new : Frames N) (f : Frame N) (laid : IsLaidOut ps l frames) (popped : Popped f frames new) (t : IsTop frames f)
-      (qs : List (N × Slot V F)) where
-    top_none : answer_at (slots_of ps) f.slot ≡ None
-    top_none = answer_there ps f.slot f.node opened t.there
+  -- ---- the last open node is taken out, which leaves these slots
+  pub record IsPopped (l : Linked) (frames new : Frames N) (f : Frame N) (qs : List (N × Slot V F)) (s : Slot V F) : Type 0 where
+    pub laid : IsLaidOut ps l frames
+    pub popped : Popped f frames new
+    pub top : IsTop frames f
+    pub changes : ChangesAt ps qs f.slot f.node s
+    pub count : length qs ≡ length ps
 
-    same_front : reverse new.frames.items ≡ reverse t.front
-    same_front = tail-same (reverse new.frames.items) (reverse t.front) (sym (ap reverse popped.frames ∙ reverse-append new.frames.items (f ∷ [])) ∙ t.turned)
+  pub pops : (l : Linked) (frames new : Frames N) (f : Frame N) (qs : List (N × Slot V F)) (s : Slot V F) → IsLaidOut ps l frames
+      → EndsWith f frames.frames.items → Popped f frames new → qs ≡ with_slot ps f.slot s → IsPopped l frames new f qs s
+  pops l frames new f qs s laid ends popped set =
+      let t = top frames f laid.waits ends in
+      let changes = set_at ps qs f.slot f.node opened s t.there set in
+      record { laid = laid; popped = popped; top = t; changes = changes; count = set_count ps f.slot s qs set }
+
+  module _ {l : Linked} {frames new : Frames N} {f : Frame N} {qs : List (N × Slot V F)} {s : Slot V F} (p : IsPopped l frames new f qs s) where
+    top_none : answer_at (slots_of ps) f.slot ≡ None
+    top_none = answer_there ps f.slot f.node opened p.top.there
+
+    same_front : reverse new.frames.items ≡ reverse p.top.front
+    same_front = tail-same (reverse new.frames.items) (reverse p.top.front)
+        (sym (ap reverse p.popped.frames ∙ reverse-append new.frames.items (f ∷ [])) ∙ p.top.turned)
       where
         tail-same : (xs ys : List (Frame N)) → f ∷ xs ≡ f ∷ ys → xs ≡ ys
         tail-same xs ys e = let same : xs ≡ ys = cc in same
 
-    pub pops-opens : (s : Slot V F) → ChangesAt ps qs f.slot f.node s → opens_of qs new ≡ below frames f t.front
-    pops-opens s changes = opens-pop ps qs f.slot f.node s changes top_none f frames new laid.waits popped
+    pops-opens : opens_of qs new ≡ below frames f p.top.front
+    pops-opens = opens-pop ps qs f.slot f.node s p.changes top_none f frames new p.laid.waits p.popped
         ∙ ap (λ fs. opens_in ps fs (take f.asked frames.asked.items) (take f.uses frames.uses.items)) same_front
 
-    pub abandons-laid : ChangesAt ps qs f.slot f.node emptied → length qs ≡ length ps → IsLaidOut qs l new
-    abandons-laid changes count = record {
-      kept = links-stay ps qs f.slot f.node emptied changes top_none refl l laid.kept (let h = laid.kept.slots in omega arith);
-      waits = frames-pop ps qs f.slot f.node emptied changes top_none (λ e. cc) f refl frames new laid.waits popped;
+  module _ {l : Linked} {frames new : Frames N} {f : Frame N} {qs : List (N × Slot V F)} (p : IsPopped l frames new f qs emptied) where
+    pub abandons-laid : IsLaidOut qs l new
+    abandons-laid = record {
+      kept = links-stay ps qs f.slot f.node emptied p.changes (top_none p) refl l p.laid.kept (let h = p.laid.kept.slots in let n = p.count in omega arith);
+      waits = frames-pop ps qs f.slot f.node emptied p.changes (top_none p) (λ e. cc) f refl frames new p.laid.waits p.popped;
     }
 
-    pub abandons-kept : ChangesAt ps qs f.slot f.node emptied → length qs ≡ length ps → entries_of qs l ≡ entries_of ps l
-    abandons-kept changes count = entries-stay ps qs f.slot f.node emptied changes top_none refl l laid.kept 0
-        (let e : length ps ≡ length ps + 0 = omega arith in count ∙ e) tt
+    pub abandons-kept : entries_of qs l ≡ entries_of ps l
+    abandons-kept = entries-stay ps qs f.slot f.node emptied p.changes (top_none p) refl l p.laid.kept 0
+        (let e : length ps ≡ length ps + 0 = omega arith in p.count ∙ e) tt
 
-    pub abandons-rest : ChangesAt ps qs f.slot f.node emptied → TakesFirst true (opens_of ps frames) (opens_of qs new)
-    abandons-rest changes = (top_of frames f f.node, top-opens frames f t ∙ ap (λ st. top_of frames f f.node ∷ st) (sym (pops-opens emptied changes)))
+    pub abandons-rest : TakesFirst true (opens_of ps frames) (opens_of qs new)
+    abandons-rest = (top_of frames f f.node, top-opens frames f p.top ∙ ap (λ st. top_of frames f f.node ∷ st) (sym (pops-opens p)))
 
-    -- ---- it is kept
-    module _ (s : Slot V F) (a : Result V F) (is : answer_in s ≡ Some a) (changes : ChangesAt ps qs f.slot f.node s) (count : length qs ≡ length ps)
-        (all : Linked) (once : List Use) (each : HasEachOnce once (drop f.uses frames.uses.items)) (in_asked : f.slot < length l.asked)
-        (in_uses : f.slot < length l.uses) (kept : LinksKeep l all f.slot (drop f.asked frames.asked.items) once) where
-      not_open : s ≡ opened → ⊥
-      not_open e = let none : answer_in s ≡ None = ap answer_in e in cc
+  -- ---- it is kept with its answer
+  pub record IsClosed (l : Linked) (frames new : Frames N) (f : Frame N) (qs : List (N × Slot V F)) (s : Slot V F) (a : Result V F) (all : Linked)
+      : Type 0 where
+    pub pops : IsPopped l frames new f qs s
+    pub is : answer_in s ≡ Some a
+    pub once : List Use
+    pub each : HasEachOnce once (drop f.uses frames.uses.items)
+    pub in_asked : f.slot < length l.asked
+    pub in_uses : f.slot < length l.uses
+    pub kept : LinksKeep l all f.slot (drop f.asked frames.asked.items) once
 
-      part_kept : AllByRecursion (IsKept ps) (drop f.asked frames.asked.items)
-      part_kept = All-drop (IsKept ps) f.asked frames.asked.items laid.waits.asked
+  module _ {l : Linked} {frames new : Frames N} {f : Frame N} {qs : List (N × Slot V F)} {s : Slot V F} {a : Result V F} {all : Linked}
+      (h : IsClosed l frames new f qs s a all) where
+    not_open : s ≡ opened → ⊥
+    not_open e = let none : answer_in s ≡ None = ap answer_in e in let is = h.is in cc
 
-      slot_in : f.slot < length ps
-      slot_in = slice_get_within ps f.slot (f.node, opened) t.there
+    part_kept : AllByRecursion (IsKept ps) (drop f.asked frames.asked.items)
+    part_kept = All-drop (IsKept ps) f.asked frames.asked.items h.pops.laid.waits.asked
 
-      pub closes-laid : IsLaidOut qs all new
-      closes-laid = record {
-        kept = links-keep ps qs f.slot f.node s changes top_none a is l all (drop f.asked frames.asked.items) once laid.kept part_kept
-            (let h = laid.kept.slots in let k = slot_in in omega arith) in_asked (let h = laid.kept.slots in omega arith) kept;
-        waits = frames-pop ps qs f.slot f.node s changes top_none not_open f refl frames new laid.waits popped;
-      }
+    slot_in : f.slot < length ps
+    slot_in = slice_get_within ps f.slot (f.node, opened) h.pops.top.there
 
-      pub closes-kept : Keeps (top_of frames f f.node) a (entries_of ps l) (entries_of qs all)
-      closes-kept =
-          let p = entries-keep ps qs f.slot f.node s changes top_none a is l all (drop f.asked frames.asked.items) once laid.kept part_kept in_asked in_uses
-          slot_in count kept in
-          record { once = once; each = each; front = p.front; back = p.back; was = p.was; kept = p.now }
+    pub closes-laid : IsLaidOut qs all new
+    closes-laid = record {
+      kept = links-keep ps qs f.slot f.node s h.pops.changes (top_none h.pops) a h.is l all (drop f.asked frames.asked.items) h.once h.pops.laid.kept part_kept
+          (let le = h.pops.laid.kept.slots in let lt = slot_in in omega arith) h.in_asked
+          (let le = h.pops.laid.kept.slots in let n = h.pops.count in omega arith) h.kept;
+      waits = frames-pop ps qs f.slot f.node s h.pops.changes (top_none h.pops) not_open f refl frames new h.pops.laid.waits h.pops.popped;
+    }
 
-      -- no node is below it
-      pub closes-last : new.frames.items ≡ [] → Closes a (opens_of ps frames) (record { kept = entries_of ps l; opened = opens_of ps frames })
-          (record { kept = entries_of qs all; opened = opens_of qs new })
-      closes-last none =
-          let empty : below frames f t.front ≡ [] = sym (pops-opens s changes) ∙ ap (λ fs. opens_in qs (reverse fs) new.asked.items new.uses.items) none in
-          let C : List (Open N (Result V F)) → Type 0 = λ st. Closes a st (record { kept = entries_of ps l; opened = opens_of ps frames })
-          (record { kept = entries_of qs all; opened = opens_of qs new }) in
-          subst C (sym (top-opens frames f t ∙ ap (λ st. top_of frames f f.node ∷ st) empty)) (closes-kept, pops-opens s changes ∙ empty)
+    closes-kept : Keeps (top_of frames f f.node) a (entries_of ps l) (entries_of qs all)
+    closes-kept =
+        let p = entries-keep ps qs f.slot f.node s h.pops.changes (top_none h.pops) a h.is l all (drop f.asked frames.asked.items) h.once h.pops.laid.kept
+        part_kept h.in_asked h.in_uses slot_in h.pops.count h.kept in
+        record { once = h.once; each = h.each; front = p.front; back = p.back; was = p.was; kept = p.now }
 
-      -- the one below gets its answer
-      kept_now : IsKept qs f.slot
-      kept_now = ap is_some (answer_there qs f.slot f.node s changes.here ∙ is)
+    -- no node is below it
+    pub closes-last : new.frames.items ≡ [] → Closes a (opens_of ps frames) (record { kept = entries_of ps l; opened = opens_of ps frames })
+        (record { kept = entries_of qs all; opened = opens_of qs new })
+    closes-last none =
+        let empty : below frames f h.pops.top.front ≡ [] =
+        sym (pops-opens h.pops) ∙ ap (λ fs. opens_in qs (reverse fs) new.asked.items new.uses.items) none in
+        let C : List (Open N (Result V F)) → Type 0 = λ st. Closes a st (record { kept = entries_of ps l; opened = opens_of ps frames })
+        (record { kept = entries_of qs all; opened = opens_of qs new }) in
+        subst C (sym (top-opens frames f h.pops.top ∙ ap (λ st. top_of frames f f.node ∷ st) empty)) (closes-kept, pops-opens h.pops ∙ empty)
 
-      pub hears-laid : (last : Frames N) → Heard f.slot new last → IsLaidOut qs all last
-      hears-laid last h = record { kept = closes-laid.kept; waits = frames-hear qs f.slot kept_now new last closes-laid.waits h }
+    -- the one below gets its answer
+    kept_now : IsKept qs f.slot
+    kept_now = ap is_some (answer_there qs f.slot f.node s h.pops.changes.here ∙ h.is)
 
-      pub closes-more : (last : Frames N) → Heard f.slot new last
-          → Closes a (opens_of ps frames) (record { kept = entries_of ps l; opened = opens_of ps frames })
-          (record { kept = entries_of qs all; opened = opens_of qs last })
-      closes-more last h =
-          let opens : opens_of qs last ≡ heard f.node a (below frames f t.front) =
-          opens-hear qs f.slot f.node a (node_there qs f.slot f.node s changes.here) (answer_there qs f.slot f.node s changes.here ∙ is) new last
-          closes-laid.waits h ∙ ap (heard f.node a) (pops-opens s changes) in
-          let C : List (Open N (Result V F)) → Type 0 = λ st. Closes a st (record { kept = entries_of ps l; opened = opens_of ps frames })
-          (record { kept = entries_of qs all; opened = opens_of qs last }) in
-          subst C (sym (top-opens frames f t)) (closes-kept, opens)
+    pub hears-laid : (last : Frames N) → Heard f.slot new last → IsLaidOut qs all last
+    hears-laid last heard = record { kept = closes-laid.kept; waits = frames-hear qs f.slot kept_now new last closes-laid.waits heard }
 
-      pub may-keep : MayKeep a (opens_of ps frames) (entries_of ps l) (entries_of qs all)
-      may-keep = subst (λ st. MayKeep a st (entries_of ps l) (entries_of qs all)) (sym (top-opens frames f t)) (inr closes-kept)
+    pub closes-more : (last : Frames N) → Heard f.slot new last
+        → Closes a (opens_of ps frames) (record { kept = entries_of ps l; opened = opens_of ps frames })
+        (record { kept = entries_of qs all; opened = opens_of qs last })
+    closes-more last hears =
+        let opens : opens_of qs last ≡ heard f.node a (below frames f h.pops.top.front) =
+        opens-hear qs f.slot f.node a (node_there qs f.slot f.node s h.pops.changes.here) (answer_there qs f.slot f.node s h.pops.changes.here ∙ h.is) new last
+        closes-laid.waits hears ∙ ap (heard f.node a) (pops-opens h.pops) in
+        let C : List (Open N (Result V F)) → Type 0 = λ st. Closes a st (record { kept = entries_of ps l; opened = opens_of ps frames })
+        (record { kept = entries_of qs all; opened = opens_of qs last }) in
+        subst C (sym (top-opens frames f h.pops.top)) (closes-kept, opens)
+
+    pub may-keep : MayKeep a (opens_of ps frames) (entries_of ps l) (entries_of qs all)
+    may-keep = subst (λ st. MayKeep a st (entries_of ps l) (entries_of qs all)) (sym (top-opens frames f h.pops.top)) (inr closes-kept)
 
   -- ---- what keeping it requires
   pub keep-in : (l : Linked) (frames : Frames N) (f : Frame N) → AreLinked ps l → IsTop frames f → f.slot < length l.kept

@@ -16,11 +16,6 @@ abbrev pub or_behind : ℕ → Option ℕ → Option ℕ → Option ℕ
 or_behind n (Some i) o = Some i
 or_behind n None o = moved_on n o
 
--- after one byte more
-pub moved_on_suc : (n : ℕ) (o : Option ℕ) → moved_on n (option_map suc o) ≡ moved_on (n + 1) o
-moved_on_suc n None = refl
-moved_on_suc n (Some k) = let e : n + suc k ≡ n + 1 + k = omega arith in ap Some e
-
 or_behind_suc : (n : ℕ) (o p : Option ℕ) → option_map suc (or_behind n o p) ≡ or_behind (suc n) (option_map suc o) p
 or_behind_suc n (Some i) p = refl
 or_behind_suc n None None = refl

@@ -1,15 +1,12 @@
 -- Bits that are written: they are read as their number, and no other bit changes.
 use Rattle.std.proofs.Common.{◌≡◌, ◌∙◌, ℕ, zero, suc, ◌+◌, ◌-◌, ◌*◌, ◌/◌, ◌%◌, ◌^◌, ◌<◌, ◌≤◌, ◌&&◌, ◌==◌, Bool, true, false, if◌then◌else◌, List, [], ◌∷◌, ◌++◌}
-use Rattle.std.proofs.Common.{length, take, drop, reverse, Option, Some, None, Result, Ok, Err, ℤ, refl, ap, sym, subst, arith, append_assoc, length-append}
+use Rattle.std.proofs.Common.{length, take, drop, reverse, Some, None, Ok, Err, ℤ, refl, ap, sym, subst, arith, append_assoc, length-append}
 use Rattle.std.specs.Prelude.{nat_le, nat_lt, slice_range}
-use Rattle.std.specs.List.{AllByRecursion}
-use Rattle.std.specs.Cmp.{first_so, second_so}
 use Rattle.std.proofs.lemmas.Bool.{leb-true}
 use Rattle.std.proofs.lemmas.List.{drop-drop, length-drop, length-reverse, length-take, reverse-append, take-append-drop}
 use Rattle.std.proofs.lemmas.Grind.{pow_more}
-use Rattle.std.proofs.lemmas.Nat.{pow-add}
 use Rattle.std.proofs.Math.Seq.{drop-append-add, drop-append_seam, take-append-add, take-append_seam}
-use Rattle.ksv_basics.specs.Plan.{Plan, Answer, Fail}
+use Rattle.ksv_basics.specs.Plan.{Answer, Fail}
 use Rattle.ksv_bytes.specs.Edits.{overwrite}
 use Rattle.ksv_bytes.specs.declared.edit.EditRefusal.TheVariants.{NothingToDo, Outside}
 use Rattle.ksv_texts.specs.declared.refusal.Refusal.TheVariants.{OutOfRange}

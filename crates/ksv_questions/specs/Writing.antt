@@ -1,10 +1,10 @@
 -- What `put P N` asks, and the bytes that it writes: those of an integer of P's width and byte order, or those that P's bits meet, in which
 -- all other bits are as they were. Only integers are written.
-use Rattle.std.specs.Prelude.{◌≡◌, ◌+◌, ◌&&◌, true, nat_le, ℕ, ℤ, List, ◌++◌, length, take, drop, slice_range, Option, Some, None, Result, Ok, if◌then◌else◌}
+use Rattle.std.specs.Prelude.{◌≡◌, ◌+◌, ◌&&◌, true, nat_le, ℕ, ℤ, List, length, take, drop, slice_range, Option, Some, None, Ok, if◌then◌else◌}
 use Rattle.ksv_basics.specs.Plan.{Answer, Fail, ◌>>=◌}
 use Rattle.ksv_desc.specs.Description.{Description}
-use Rattle.ksv_expr_value.specs.Bits.{number_of, bits_of, bits_of_number, bits_from}
-use Rattle.ksv_expr_value.specs.Places.{byte_of, byte_in, bits_between}
+use Rattle.ksv_expr_value.specs.Bits.{number_of, bits_of, bits_from}
+use Rattle.ksv_expr_value.specs.Places.{byte_of, byte_in}
 use Rattle.ksv_bytes.specs.Edits.{overwrite}
 use Rattle.ksv_expr_value.specs.Trail.{Trail}
 use Rattle.ksv_nodes.specs.declared.given.Head.{Head}

@@ -1,6 +1,6 @@
 use Rattle.std.proofs.lemmas.List.{length_push, length-set}
 use Rattle.std.proofs.lemmas.Option.{slice_get_within}
-use Rattle.std.proofs.Common.{◌≡◌, ◌+◌, ◌∙◌, ap, subst, refl, sym, length, arith}
+use Rattle.std.proofs.Common.{rules, ◌≡◌, ◌+◌, ◌∙◌, ap, subst, refl, sym, length, arith}
 use Rattle.ksv_memo_rules.specs.declared.replies.Slot.TheVariants.{Empty, Open}
 use Rattle.ksv_memo.specs.Layout.{IsLaidOut, entries_of, opens_of}
 use Rattle.ksv_memo.specs.Moves.{IsVacant, Knows}
@@ -23,38 +23,15 @@ open_in-requires-clause-place_in g c =
     subst (λ es. IsVacant es c.in-Some.place) (sym c.vacant.ensures.entries) c.in-Some.ensures.some in
     slice_get_within c.vacant.new.slots.entries c.in-Some.place (at.0, Empty) at.1
 
-pub returns-in_ok-open_in-in-Some-clause-laid : goal.returns-in_ok-open_in-in-Some-clause-laid
-returns-in_ok-open_in-in-Some-clause-laid g c =
-    let slots = c.args.slots.now in
+pub returns-in_ok-open_in-in-Some : goal.returns-in_ok-open_in-in-Some
+returns-in_ok-open_in-in-Some g c =
     let links = c.args.links.now in
     let frames = c.args.frames.now in
     let ps = c.vacant.new.slots.entries in
     let same = c.vacant.ensures.entries in
-    let laid0 = looked-laid slots.entries ps links frames same c.requires.laid in
+    let laid0 = looked-laid c.args.slots.now.entries ps links frames same c.requires.laid in
     let eq = g.N.PartialEq.eq in
     let node = c.args.node in
-    let qs = c.open_in.new.slots.entries in
-    let place = c.in-Some.place in
-    let at : IsVacant ps place = subst (λ es. IsVacant es place) (sym same) c.in-Some.ensures.some in
-    let given_it = c.in_ok-open_in-in-Some.ensures.slots in
-    let changes = given ps qs place node Open at given_it in
-    let count : length qs ≡ length ps = ap length given_it ∙ length-set ps place (node, Open) in
-    let none = vacant_none eq ps links frames laid0 node place at in
-    let closed = vacant_closed eq ps links frames laid0 node place at in
-    opens-laid eq ps links frames laid0 node qs place node changes none closed c.open_in.new.frames c.in_ok-open_in-in-Some.ensures.frames
-    (let h = laid0.kept.slots in omega arith)
-
-pub returns-in_ok-open_in-in-Some-clause-ok : goal.returns-in_ok-open_in-in-Some-clause-ok
-returns-in_ok-open_in-in-Some-clause-ok g c =
-    let slots = c.args.slots.now in
-    let links = c.args.links.now in
-    let frames = c.args.frames.now in
-    let ps = c.vacant.new.slots.entries in
-    let same = c.vacant.ensures.entries in
-    let laid0 = looked-laid slots.entries ps links frames same c.requires.laid in
-    let eq = g.N.PartialEq.eq in
-    let node = c.args.node in
-    let view = looked-view slots.entries ps links frames _ same refl in
     let knows : Knows eq ps node New = subst (λ es. Knows eq es node New) (sym same) c.requires.none in
     let qs = c.open_in.new.slots.entries in
     let place = c.in-Some.place in
@@ -65,52 +42,31 @@ returns-in_ok-open_in-in-Some-clause-ok g c =
     let none = vacant_none eq ps links frames laid0 node place at in
     let closed = vacant_closed eq ps links frames laid0 node place at in
     let more : length qs ≡ length ps + 0 = omega arith in
-    subst (λ v. Opens eq node v (record { kept = entries_of qs links; opened = opens_of qs c.open_in.new.frames })) view
-    (opens-more eq ps links frames laid0 node qs place node changes none closed c.open_in.new.frames c.in_ok-open_in-in-Some.ensures.frames 0 more tt
-    (g.met.N.Eq.laws.refl node)
-    (new_out eq ps links frames laid0.kept laid0.waits node knows)
-    (new_free eq ps links frames laid0.kept laid0.waits node knows))
+    record {
+      laid = opens-laid eq ps links frames laid0 node qs place node changes none closed c.open_in.new.frames c.in_ok-open_in-in-Some.ensures.frames
+          (let h = laid0.kept.slots in omega arith);
+      ok = subst (λ v. Opens eq node v (record { kept = entries_of qs links; opened = opens_of qs c.open_in.new.frames }))
+          (looked-view c.args.slots.now.entries ps links frames _ same refl)
+          (opens-more eq ps links frames laid0 node qs place node changes none closed c.open_in.new.frames c.in_ok-open_in-in-Some.ensures.frames 0 more tt
+          (g.met.N.Eq.laws.refl node) (new_out eq ps links frames laid0.kept laid0.waits node knows)
+          (new_free eq ps links frames laid0.kept laid0.waits node knows));
+      err = search rules;
+      grows = search rules;
+    }
 
 -- there is a new slot
 pub open_new-requires-clause-none : goal.open_new-requires-clause-none
 open_new-requires-clause-none g c = subst (λ es. Knows g.N.PartialEq.eq es c.args.node New) (sym c.vacant.ensures.entries) c.requires.none
 
-pub returns-in_ok-open_new-in-None-clause-laid : goal.returns-in_ok-open_new-in-None-clause-laid
-returns-in_ok-open_new-in-None-clause-laid g c =
-    let slots = c.args.slots.now in
+pub returns-in_ok-open_new-in-None : goal.returns-in_ok-open_new-in-None
+returns-in_ok-open_new-in-None g c =
     let links = c.args.links.now in
     let frames = c.args.frames.now in
     let ps = c.vacant.new.slots.entries in
     let same = c.vacant.ensures.entries in
-    let laid0 = looked-laid slots.entries ps links frames same c.requires.laid in
+    let laid0 = looked-laid c.args.slots.now.entries ps links frames same c.requires.laid in
     let eq = g.N.PartialEq.eq in
     let node = c.args.node in
-    let qs = c.open_new.new.slots.entries in
-    let m = c.reach.new.self in
-    let laid : IsLaidOut ps m frames = record { kept = grown-links ps links m laid0.kept c.reach.ensures.same; waits = laid0.waits } in
-    let added = c.in_ok-open_new-in-None.ensures.slots in
-    let changes = appended ps qs node Open added in
-    let count : length qs ≡ length ps + 1 = ap length added ∙ length_push ps (node, Open) in
-    let none = past_none eq ps m frames laid node in
-    let closed = past_closed eq ps m frames laid node in
-    let a = c.in_ok-reach-in-None.ensures.ok in
-    let b = c.in_ok-number-in-None.ensures in
-    let d = c.saturating_add.ensures in
-    let e = c.len.ensures.len in
-    let f = c.len.ensures.small in
-    opens-laid eq ps m frames laid node qs (length ps) node changes none closed c.open_new.new.frames c.in_ok-open_new-in-None.ensures.frames (omega arith)
-
-pub returns-in_ok-open_new-in-None-clause-ok : goal.returns-in_ok-open_new-in-None-clause-ok
-returns-in_ok-open_new-in-None-clause-ok g c =
-    let slots = c.args.slots.now in
-    let links = c.args.links.now in
-    let frames = c.args.frames.now in
-    let ps = c.vacant.new.slots.entries in
-    let same = c.vacant.ensures.entries in
-    let laid0 = looked-laid slots.entries ps links frames same c.requires.laid in
-    let eq = g.N.PartialEq.eq in
-    let node = c.args.node in
-    let view = looked-view slots.entries ps links frames _ same refl in
     let knows : Knows eq ps node New = subst (λ es. Knows eq es node New) (sym same) c.requires.none in
     let qs = c.open_new.new.slots.entries in
     let m = c.reach.new.self in
@@ -122,10 +78,17 @@ returns-in_ok-open_new-in-None-clause-ok g c =
     let closed = past_closed eq ps m frames laid node in
     let new_one = no_entry_at qs m (length ps) (answer_there qs (length ps) node Open changes.here) in
     let opens = opens-more eq ps m frames laid node qs (length ps) node changes none closed c.open_new.new.frames c.in_ok-open_new-in-None.ensures.frames 1
-    count (new_one, tt)
-    (g.met.N.Eq.laws.refl node)
-    (new_out eq ps m frames laid.kept laid.waits node knows)
+    count (new_one, tt) (g.met.N.Eq.laws.refl node) (new_out eq ps m frames laid.kept laid.waits node knows)
     (new_free eq ps m frames laid.kept laid.waits node knows) in
-    subst (λ v. Opens eq node v (record { kept = entries_of qs m; opened = opens_of qs c.open_new.new.frames })) view
-    (subst (λ es. Opens eq node (record { kept = es; opened = opens_of ps frames })
-    (record { kept = entries_of qs m; opened = opens_of qs c.open_new.new.frames })) (grown-entries ps links m laid0.kept c.reach.ensures.same) opens)
+    record {
+      laid = (let a = c.in_ok-reach-in-None.ensures.ok in let b = c.in_ok-number-in-None.ensures in let d = c.saturating_add.ensures in
+          let e = c.len.ensures.len in let f = c.len.ensures.small in
+          opens-laid eq ps m frames laid node qs (length ps) node changes none closed c.open_new.new.frames c.in_ok-open_new-in-None.ensures.frames
+          (omega arith));
+      ok = subst (λ v. Opens eq node v (record { kept = entries_of qs m; opened = opens_of qs c.open_new.new.frames }))
+          (looked-view c.args.slots.now.entries ps links frames _ same refl)
+          (subst (λ es. Opens eq node (record { kept = es; opened = opens_of ps frames })
+          (record { kept = entries_of qs m; opened = opens_of qs c.open_new.new.frames })) (grown-entries ps links m laid0.kept c.reach.ensures.same) opens);
+      err = search rules;
+      grows = search rules;
+    }

@@ -1,4 +1,4 @@
-use Rattle.std.proofs.Common.{subst, refl, arith}
+use Rattle.std.proofs.Common.{rules, subst, refl, arith}
 use Rattle.std.proofs.lemmas.Option.{slice_get_within}
 use Rattle.ksv_memo_rules.specs.declared.replies.Slot.TheVariants.{Empty, Open}
 use Rattle.ksv_memo.specs.Layout.{entries_of, opens_of}
@@ -29,44 +29,33 @@ returns-in-Open-clause-ok g c =
 pub reopen-requires : goal.reopen-requires
 reopen-requires g c = slice_get_within c.find.new.self.entries c.in-Empty.place _ c.in-Empty.ensures.knows
 
-pub returns-in_ok-reopen-in-Empty-clause-laid : goal.returns-in_ok-reopen-in-Empty-clause-laid
-returns-in_ok-reopen-in-Empty-clause-laid g c =
-    let slots = c.args.slots.now in
+pub returns-in_ok-reopen-in-Empty : goal.returns-in_ok-reopen-in-Empty
+returns-in_ok-reopen-in-Empty g c =
     let links = c.args.links.now in
     let frames = c.args.frames.now in
     let ps = c.find.new.self.entries in
-    let laid0 = looked-laid slots.entries ps links frames c.find.ensures.entries c.requires in
-    let view = looked-view slots.entries ps links frames _ c.find.ensures.entries refl in
+    let qs = c.reopen.new.slots.entries in
+    let laid0 = looked-laid c.args.slots.now.entries ps links frames c.find.ensures.entries c.requires in
     let eq = g.N.PartialEq.eq in
-    let at = c.in-Empty.ensures.knows in
-    let changes = set_at ps c.reopen.new.slots.entries c.in-Empty.place c.args.node Empty Open at c.in_ok-reopen-in-Empty.ensures.slots in
-    opens-laid eq ps links frames laid0 c.args.node c.reopen.new.slots.entries c.in-Empty.place c.args.node changes
-    (empty_none eq ps links frames laid0 c.args.node c.in-Empty.place at) (empty_closed eq ps links frames laid0 c.args.node c.in-Empty.place at)
-    c.reopen.new.frames c.in_ok-reopen-in-Empty.ensures.frames
-    (let n = set_count ps c.in-Empty.place Open c.reopen.new.slots.entries c.in_ok-reopen-in-Empty.ensures.slots in let h = laid0.kept.slots in
-    omega arith)
-
-pub returns-in_ok-reopen-in-Empty-clause-ok : goal.returns-in_ok-reopen-in-Empty-clause-ok
-returns-in_ok-reopen-in-Empty-clause-ok g c =
-    let slots = c.args.slots.now in
-    let links = c.args.links.now in
-    let frames = c.args.frames.now in
-    let ps = c.find.new.self.entries in
-    let laid0 = looked-laid slots.entries ps links frames c.find.ensures.entries c.requires in
-    let view = looked-view slots.entries ps links frames _ c.find.ensures.entries refl in
-    let eq = g.N.PartialEq.eq in
-    let at = c.in-Empty.ensures.knows in
     let laws = g.met.N.Eq.laws in
-    let changes = set_at ps c.reopen.new.slots.entries c.in-Empty.place c.args.node Empty Open at c.in_ok-reopen-in-Empty.ensures.slots in
-    subst (λ v. Opens eq c.args.node v
-    (record { kept = entries_of c.reopen.new.slots.entries links; opened = opens_of c.reopen.new.slots.entries c.reopen.new.frames })) view
-    (opens-more eq ps links frames laid0 c.args.node c.reopen.new.slots.entries c.in-Empty.place c.args.node changes
-    (empty_none eq ps links frames laid0 c.args.node c.in-Empty.place at) (empty_closed eq ps links frames laid0 c.args.node c.in-Empty.place at)
-    c.reopen.new.frames c.in_ok-reopen-in-Empty.ensures.frames 0
-    (let n = set_count ps c.in-Empty.place Open c.reopen.new.slots.entries c.in_ok-reopen-in-Empty.ensures.slots in omega arith) tt
-    (laws.refl c.args.node)
-    (empty_out eq ps links frames laid0.kept laid0.waits c.args.node laws c.in-Empty.ensures.unique c.in-Empty.place at)
-    (empty_free eq ps links frames laid0.kept laid0.waits c.args.node laws c.in-Empty.ensures.unique c.in-Empty.place at))
+    let node = c.args.node in
+    let place = c.in-Empty.place in
+    let at = c.in-Empty.ensures.knows in
+    let changes = set_at ps qs place node Empty Open at c.in_ok-reopen-in-Empty.ensures.slots in
+    let count = set_count ps place Open qs c.in_ok-reopen-in-Empty.ensures.slots in
+    let none = empty_none eq ps links frames laid0 node place at in
+    let closed = empty_closed eq ps links frames laid0 node place at in
+    record {
+      laid = opens-laid eq ps links frames laid0 node qs place node changes none closed c.reopen.new.frames c.in_ok-reopen-in-Empty.ensures.frames
+          (let h = laid0.kept.slots in omega arith);
+      ok = subst (λ v. Opens eq node v (record { kept = entries_of qs links; opened = opens_of qs c.reopen.new.frames }))
+          (looked-view c.args.slots.now.entries ps links frames _ c.find.ensures.entries refl)
+          (opens-more eq ps links frames laid0 node qs place node changes none closed c.reopen.new.frames c.in_ok-reopen-in-Empty.ensures.frames 0
+          (omega arith) tt (laws.refl node) (empty_out eq ps links frames laid0.kept laid0.waits node laws c.in-Empty.ensures.unique place at)
+          (empty_free eq ps links frames laid0.kept laid0.waits node laws c.in-Empty.ensures.unique place at));
+      err = search rules;
+      grows = search rules;
+    }
 
 -- there is no slot
 pub open_node-requires-clause-laid : goal.open_node-requires-clause-laid

@@ -1,17 +1,13 @@
 -- What each exit of a dump's functions gives.
-use Rattle.std.proofs.Common.{◌∙◌, ◌+◌, ◌-◌, [], drop, get_or, map, Err, Ok, ap, refl, subst, sym}
+use Rattle.std.proofs.Common.{◌∙◌, ◌+◌, ◌-◌, drop, get_or, map, Err, Ok, ap, refl, subst, sym}
 use Rattle.std.proofs.lemmas.Result.{err_from_is_err_and}
 use Rattle.serde_json.specs.Data.{no_members, put}
 use Rattle.serde_json.specs.View.{members_view, view}
 use Rattle.serde_json.specs.declared.value.Value.{Array, Object}
-use Rattle.ksv_basics.specs.Plan.{bind}
-use Rattle.ksv_desc.specs.Description.{fields}
-use Rattle.ksv_expr_value.specs.Trail.{child}
-use Rattle.ksv_expr_value.specs.declared.step.Step.TheVariants.{Index}
 use Rattle.ksv_texts.proofs.Json.{array_view, object_view}
 use Rattle.ksv_questions.specs.Code.{Runs, bytes_of, desc_of, dumped, found_of}
-use Rattle.ksv_questions.specs.Dumps.{asked_part, begin, begun_part, elements_part, find_list, find_object, find_value, inner, list_part, members_part}
-use Rattle.ksv_questions.specs.Dumps.{object_part, or_written, part, unasked, value_part, written}
+use Rattle.ksv_questions.specs.Dumps.{asked_part, begin, begun_part, elements_part, list_part, members_part}
+use Rattle.ksv_questions.specs.Dumps.{object_part, part, unasked, value_part, written}
 use Rattle.ksv_questions.proofs.Dumping.{at_bottom, at_level, drop_end, drop_step, elements_begin, elements_end, found_inside, found_written, is_deeper}
 use Rattle.ksv_questions.proofs.Dumping.{members_end, pending_as, pending_same, plain_is, elements_failed, elements_on, loop_done, members_failed, members_on}
 use Rattle.ksv_questions.proofs.Steps.{pending_short, runs_failed, runs_first, runs_settled, settled_failed}
@@ -20,100 +16,51 @@ use Rattle.ksv_questions.proofs.dump.+dump.Goals as goal
 pub asked_part-returns-in_err-value : goal.asked_part-returns-in_err-value
 unfolding asked_part
 asked_part-returns-in_err-value g t c =
-    let d = desc_of c.args.file.now in
-    let b = bytes_of c.args.file.now in
-    let each = part d b c.args.depth in
     let e = err_from_is_err_and c.from_residual.result c.from_residual.ensures.1 in
-    rw (e.1, e.2) (
-    runs_failed d b (find_value d c.args.path.now) (λ f. or_written (λ v. value_part d b each c.args.path.now c.args.left v) c.args.left f) (λ f. found_of f)
-    dumped c.args.engine.now c.find_value.new.engine c.in_err-value.field-0.0 c.in_err-value.ensures)
+    rw (e.1, e.2) (runs_failed _ _ _ _ (λ f. found_of f) dumped _ c.find_value.new.engine c.in_err-value.field-0.0 c.in_err-value.ensures)
 
 pub asked_part-returns-in-Ok : goal.asked_part-returns-in-Ok
 unfolding asked_part
 asked_part-returns-in-Ok g t c =
-    let d = desc_of c.args.file.now in
-    let b = bytes_of c.args.file.now in
-    let each = part d b c.args.depth in
-    found_inside d b (find_value d c.args.path.now) (λ v. value_part d b each c.args.path.now c.args.left v) c.args.left c.args.engine.now
-    c.find_value.new.engine c.value_part.new.engine c.in_ok-value.field-0 c.in-Ok.value c.value_part.result c.in_ok-value.ensures c.in-Ok.is
-    c.value_part.ensures
+    found_inside _ _ _ _ c.args.left _ c.find_value.new.engine _ _ c.in-Ok.value _ c.in_ok-value.ensures c.in-Ok.is c.value_part.ensures
 
 pub asked_part-returns-in-Err : goal.asked_part-returns-in-Err
 unfolding asked_part
-asked_part-returns-in-Err g t c =
-    let d = desc_of c.args.file.now in
-    let b = bytes_of c.args.file.now in
-    let each = part d b c.args.depth in
-    found_written d b (find_value d c.args.path.now) (λ v. value_part d b each c.args.path.now c.args.left v) c.args.left c.args.engine.now
-    c.find_value.new.engine c.in_ok-value.field-0 c.in-Err.json (record { json = c.in-Err.json; left = c.args.left }) c.in_ok-value.ensures c.in-Err.is
-    refl
+asked_part-returns-in-Err g t c = found_written _ _ _ _ c.args.left _ c.find_value.new.engine _ c.in-Err.json _ c.in_ok-value.ensures c.in-Err.is refl
 
 pub object_part-returns-in_err-type_number : goal.object_part-returns-in_err-type_number
 unfolding object_part
 object_part-returns-in_err-type_number g t c =
-    let d = desc_of c.args.file.now in
-    let b = bytes_of c.args.file.now in
-    let each = part d b c.args.depth in
     let e = err_from_is_err_and c.from_residual.result c.from_residual.ensures.1 in
-    rw (e.1, e.2) (
-    runs_failed d b (find_object d c.args.object.now)
-    (λ f. or_written (λ n. members_part d each c.args.object.now c.args.left (fields d n) no_members) c.args.left f) (λ f. found_of f) dumped
-    c.args.engine.now c.find_object.new.engine c.in_err-type_number.field-0.0 c.in_err-type_number.ensures)
+    rw (e.1, e.2) (runs_failed _ _ _ _ (λ f. found_of f) dumped _ c.find_object.new.engine c.in_err-type_number.field-0.0 c.in_err-type_number.ensures)
 
 pub object_part-returns-in-Ok : goal.object_part-returns-in-Ok
 unfolding object_part
 object_part-returns-in-Ok g t c =
     let d = desc_of c.args.file.now in
     let b = bytes_of c.args.file.now in
-    let each = part d b c.args.depth in
-    found_inside d b (find_object d c.args.object.now) (λ n. members_part d each c.args.object.now c.args.left (fields d n) no_members) c.args.left
-    c.args.engine.now c.find_object.new.engine c.members_part.new.engine c.in_ok-type_number.field-0 c.in-Ok.type_number c.members_part.result
-    c.in_ok-type_number.ensures c.in-Ok.is
-    (subst (λ names. Runs d b (members_part d each c.args.object.now c.args.left names no_members) dumped c.find_object.new.engine c.members_part.new.engine
-    c.members_part.result)
-    c.fields-names.ensures c.members_part.ensures)
+    found_inside _ _ _ _ c.args.left _ c.find_object.new.engine _ _ c.in-Ok.type_number _ c.in_ok-type_number.ensures c.in-Ok.is
+    (subst (λ names. Runs d b (members_part d (part d b c.args.depth) c.args.object.now c.args.left names no_members) dumped c.find_object.new.engine
+    c.members_part.new.engine c.members_part.result) c.fields-names.ensures c.members_part.ensures)
 
 pub object_part-returns-in-Err : goal.object_part-returns-in-Err
 unfolding object_part
-object_part-returns-in-Err g t c =
-    let d = desc_of c.args.file.now in
-    let b = bytes_of c.args.file.now in
-    let each = part d b c.args.depth in
-    found_written d b (find_object d c.args.object.now) (λ n. members_part d each c.args.object.now c.args.left (fields d n) no_members) c.args.left
-    c.args.engine.now c.find_object.new.engine c.in_ok-type_number.field-0 c.in-Err.json (record { json = c.in-Err.json; left = c.args.left })
-    c.in_ok-type_number.ensures c.in-Err.is refl
+object_part-returns-in-Err g t c = found_written _ _ _ _ c.args.left _ c.find_object.new.engine _ c.in-Err.json _ c.in_ok-type_number.ensures c.in-Err.is refl
 
 pub list_part-returns-in_err-count : goal.list_part-returns-in_err-count
 unfolding list_part
 list_part-returns-in_err-count g t c =
-    let d = desc_of c.args.file.now in
-    let b = bytes_of c.args.file.now in
-    let each = part d b c.args.depth in
     let e = err_from_is_err_and c.from_residual.result c.from_residual.ensures.1 in
-    rw (e.1, e.2) (
-    runs_failed d b (find_list d c.args.list.now (child c.args.list.now (Index 0)))
-    (λ f. or_written (λ n. elements_part d each c.args.list.now c.args.left 0 n []) c.args.left f) (λ f. found_of f) dumped c.args.engine.now
-    c.find_list.new.engine c.in_err-count.field-0.0 c.in_err-count.ensures)
+    rw (e.1, e.2) (runs_failed _ _ _ _ (λ f. found_of f) dumped _ c.find_list.new.engine c.in_err-count.field-0.0 c.in_err-count.ensures)
 
 pub list_part-returns-in-Ok : goal.list_part-returns-in-Ok
 unfolding list_part
 list_part-returns-in-Ok g t c =
-    let d = desc_of c.args.file.now in
-    let b = bytes_of c.args.file.now in
-    let each = part d b c.args.depth in
-    found_inside d b (find_list d c.args.list.now (child c.args.list.now (Index 0))) (λ n. elements_part d each c.args.list.now c.args.left 0 n []) c.args.left
-    c.args.engine.now c.find_list.new.engine c.elements_part.new.engine c.in_ok-count.field-0 c.in-Ok.count c.elements_part.result c.in_ok-count.ensures
-    c.in-Ok.is c.elements_part.ensures
+    found_inside _ _ _ _ c.args.left _ c.find_list.new.engine _ _ c.in-Ok.count _ c.in_ok-count.ensures c.in-Ok.is c.elements_part.ensures
 
 pub list_part-returns-in-Err : goal.list_part-returns-in-Err
 unfolding list_part
-list_part-returns-in-Err g t c =
-    let d = desc_of c.args.file.now in
-    let b = bytes_of c.args.file.now in
-    let each = part d b c.args.depth in
-    found_written d b (find_list d c.args.list.now (child c.args.list.now (Index 0))) (λ n. elements_part d each c.args.list.now c.args.left 0 n []) c.args.left
-    c.args.engine.now c.find_list.new.engine c.in_ok-count.field-0 c.in-Err.json (record { json = c.in-Err.json; left = c.args.left })
-    c.in_ok-count.ensures c.in-Err.is refl
+list_part-returns-in-Err g t c = found_written _ _ _ _ c.args.left _ c.find_list.new.engine _ c.in-Err.json _ c.in_ok-count.ensures c.in-Err.is refl
 
 pub dump_part-returns-then-depth-eq0 : goal.dump_part-returns-then-depth-eq0
 dump_part-returns-then-depth-eq0 g t c =
@@ -132,8 +79,7 @@ dump_part-returns-in_err-left g t c =
     rw (e.1, e.2) (
     subst (λ q. Runs d b q dumped c.args.engine.now c.args.engine.now (Err c.in_err-left.field-0.0))
     (sym (at_level d b c.args.depth c.args.left c.args.path.now (is_deeper d b c.args.depth c.if-depth-eq0.false)))
-    (runs_settled d b (bind (begin c.args.left) (λ left. asked_part d b (part d b (c.args.depth - 1)) c.args.path.now left)) dumped c.args.engine.now
-    (Err c.in_err-left.field-0.0) c.requires
+    (runs_settled d b _ dumped c.args.engine.now (Err c.in_err-left.field-0.0) c.requires
     (settled_failed d b (begin c.args.left) (λ left. asked_part d b (part d b (c.args.depth - 1)) c.args.path.now left) (λ n. n) dumped c.in_err-left.field-0.0
     c.in_err-left.ensures)))
 
@@ -144,34 +90,18 @@ dump_part-returns g t c =
     let b = bytes_of c.args.file.now in
     subst (λ q. Runs d b q dumped c.args.engine.now c.asked_part.new.engine c.asked_part.result)
     (sym (at_level d b c.args.depth c.args.left c.args.path.now (is_deeper d b c.args.depth c.if-depth-eq0.false)))
-    (runs_first d b (begin c.args.left) (λ left. asked_part d b (part d b (c.args.depth - 1)) c.args.path.now left) (λ n. n) dumped c.args.engine.now
-    c.asked_part.new.engine c.in_ok-left.left c.asked_part.result c.requires c.in_ok-left.ensures c.asked_part.ensures)
+    (runs_first d b _ _ (λ n. n) dumped _ _ c.in_ok-left.left _ c.requires c.in_ok-left.ensures c.asked_part.ensures)
 
 pub inner_part-returns-in-None : goal.inner_part-returns-in-None
-inner_part-returns-in-None g t c =
-    let d = desc_of c.args.file.now in
-    let b = bytes_of c.args.file.now in
-    let each = part d b c.args.depth in
-    subst (λ o. Runs d b (inner d each c.args.outer.now c.args.left o) dumped c.args.engine.now c.args.engine.now c.unasked.result) (sym c.in-None.is)
-    (runs_settled d b (unasked d c.args.outer.now c.args.left) dumped c.args.engine.now c.unasked.result c.requires c.unasked.ensures)
+inner_part-returns-in-None g t c = rw c.in-None.is (runs_settled _ _ _ dumped _ c.unasked.result c.requires c.unasked.ensures)
 
 pub value_part-returns-in-Object : goal.value_part-returns-in-Object
 unfolding value_part
-value_part-returns-in-Object g t c =
-    let d = desc_of c.args.file.now in
-    let b = bytes_of c.args.file.now in
-    let each = part d b c.args.depth in
-    subst (λ v. Runs d b (value_part d b each c.args.path.now c.args.left v) dumped c.args.engine.now c.object_part.new.engine c.object_part.result)
-    (sym c.in-Object.is) c.object_part.ensures
+value_part-returns-in-Object g t c = rw c.in-Object.is c.object_part.ensures
 
 pub value_part-returns-in-List : goal.value_part-returns-in-List
 unfolding value_part
-value_part-returns-in-List g t c =
-    let d = desc_of c.args.file.now in
-    let b = bytes_of c.args.file.now in
-    let each = part d b c.args.depth in
-    subst (λ v. Runs d b (value_part d b each c.args.path.now c.args.left v) dumped c.args.engine.now c.list_part.new.engine c.list_part.result)
-    (sym c.in-List.is) c.list_part.ensures
+value_part-returns-in-List g t c = rw c.in-List.is c.list_part.ensures
 
 pub value_part-returns-in_ok-json-in_default : goal.value_part-returns-in_ok-json-in_default
 value_part-returns-in_ok-json-in_default g t c =
@@ -187,73 +117,46 @@ pub elements_part-loop-index-init : goal.elements_part-loop-index-init
 elements_part-loop-index-init g t c =
     let d = desc_of c.args.file.now in
     let b = bytes_of c.args.file.now in
-    let each = part d b c.args.depth in
-    let whole = elements_part d each c.args.list.now c.args.left 0 c.args.count [] in
-    pending_same d b whole (elements_part d each c.args.list.now c.args.left 0 (c.args.count - 0) (map view c.new-elements.result.items)) c.args.engine.now
-    (elements_begin d b each c.args.list.now c.args.left c.args.count c.new-elements.result.items c.new-elements.ensures.items) c.requires
+    pending_same d b _ _ _ (elements_begin d b (part d b c.args.depth) c.args.list.now c.args.left c.args.count c.new-elements.result.items
+    c.new-elements.ensures.items) c.requires
 
 pub elements_part-returns-in_err-path : goal.elements_part-returns-in_err-path
 elements_part-returns-in_err-path g t c =
-    let d = desc_of c.args.file.now in
-    let b = bytes_of c.args.file.now in
-    let each = part d b c.args.depth in
-    let whole = elements_part d each c.args.list.now c.args.left 0 c.args.count [] in
     let e = err_from_is_err_and c.from_residual.result c.from_residual.ensures.1 in
-    rw (e.1, e.2) (
-    pending_short d b whole
-    (elements_part d each c.args.list.now c.loop-index.left c.loop-index.index (c.args.count - c.loop-index.index) (map view c.loop-index.elements.items))
-    c.args.engine.now c.loop-index.engine c.loop-index.invariant)
+    rw (e.1, e.2) (pending_short _ _ _ _ _ _ c.loop-index.invariant)
 
 pub elements_part-returns-in_err-written : goal.elements_part-returns-in_err-written
 elements_part-returns-in_err-written g t c =
-    let d = desc_of c.args.file.now in
-    let b = bytes_of c.args.file.now in
-    let each = part d b c.args.depth in
-    let whole = elements_part d each c.args.list.now c.args.left 0 c.args.count [] in
     let e = err_from_is_err_and c.from_residual-in_err-written.result c.from_residual-in_err-written.ensures.1 in
     rw (e.1, e.2) (
-    elements_failed d b each c.args.list.now whole c.args.engine.now c.loop-index.engine c.inner_part.new.engine
-    c.loop-index.left c.loop-index.index c.args.count c.loop-index.elements.items _ c.in_err-written.field-0.0
+    elements_failed _ _ _ _ _ _ c.loop-index.engine _ c.loop-index.left c.loop-index.index c.args.count c.loop-index.elements.items _ c.in_err-written.field-0.0
     c.loop-index-test.true c.in_ok-path.ensures c.loop-index.invariant c.in_err-written.ensures)
 
 pub elements_part-returns-in_err-push_element : goal.elements_part-returns-in_err-push_element
 elements_part-returns-in_err-push_element g t c =
-    let d = desc_of c.args.file.now in
-    let b = bytes_of c.args.file.now in
-    let each = part d b c.args.depth in
-    let whole = elements_part d each c.args.list.now c.args.left 0 c.args.count [] in
     let e = err_from_is_err_and c.from_residual-in_err-push_element.result c.from_residual-in_err-push_element.ensures.1 in
     rw (e.1, e.2) (
-    pending_short d b whole _ c.args.engine.now c.inner_part.new.engine (
-    elements_on d b each c.args.list.now whole c.args.engine.now c.loop-index.engine c.inner_part.new.engine
-    c.loop-index.left c.loop-index.index c.args.count c.loop-index.elements.items _ c.in_ok-written.written
+    pending_short _ _ _ _ _ _ (
+    elements_on _ _ _ _ _ _ c.loop-index.engine _ c.loop-index.left c.loop-index.index c.args.count c.loop-index.elements.items _ c.in_ok-written.written
     c.loop-index-test.true c.in_ok-path.ensures c.loop-index.invariant c.in_ok-written.ensures))
 
 pub elements_part-loop-index-preserved : goal.elements_part-loop-index-preserved
 elements_part-loop-index-preserved g t c =
     let d = desc_of c.args.file.now in
-    let b = bytes_of c.args.file.now in
-    let each = part d b c.args.depth in
-    let whole = elements_part d each c.args.list.now c.args.left 0 c.args.count [] in
+    let each = part d (bytes_of c.args.file.now) c.args.depth in
     let i = c.loop-index.index in
-    pending_as d b whole _ _ c.args.engine.now c.inner_part.new.engine
+    pending_as _ _ _ _ _ _ c.inner_part.new.engine
     (ap (λ ds. elements_part d each c.args.list.now c.in_ok-written.written.left (i + 1) (c.args.count - (i + 1)) ds) (sym c.in_ok-push_element.ensures)) (
-    elements_on d b each c.args.list.now whole c.args.engine.now c.loop-index.engine c.inner_part.new.engine
-    c.loop-index.left c.loop-index.index c.args.count c.loop-index.elements.items _ c.in_ok-written.written
+    elements_on _ _ _ _ _ _ c.loop-index.engine _ c.loop-index.left i c.args.count c.loop-index.elements.items _ c.in_ok-written.written
     c.loop-index-test.true c.in_ok-path.ensures c.loop-index.invariant c.in_ok-written.ensures)
 
 pub elements_part-returns : goal.elements_part-returns
 elements_part-returns g t c =
     let d = desc_of c.args.file.now in
     let b = bytes_of c.args.file.now in
-    let each = part d b c.args.depth in
-    let whole = elements_part d each c.args.list.now c.args.left 0 c.args.count [] in
     let left = c.loop-index.left in
-    let i = c.loop-index.index in
-    let ds = map view c.loop-index.elements.items in
-    loop_done d b whole (elements_part d each c.args.list.now left i (c.args.count - i) ds) c.args.engine.now c.loop-index.engine
-    (record { json = Array c.loop-index.elements; left = left })
-    (elements_end d b each c.args.list.now left i c.args.count ds c.loop-index-test.false
+    loop_done d b _ _ _ c.loop-index.engine (record { json = Array c.loop-index.elements; left = left })
+    (elements_end d b (part d b c.args.depth) c.args.list.now left c.loop-index.index c.args.count (map view c.loop-index.elements.items) c.loop-index-test.false
     ∙ ap (λ json. written json left) (sym (array_view c.loop-index.elements)))
     c.loop-index.invariant
 
@@ -261,66 +164,47 @@ pub members_part-loop-name-init : goal.members_part-loop-name-init
 members_part-loop-name-init g t c =
     let d = desc_of c.args.file.now in
     let b = bytes_of c.args.file.now in
-    let each = part d b c.args.depth in
-    let whole = members_part d each c.args.object.now c.args.left c.args.names.now no_members in
-    pending_same d b whole (members_part d each c.args.object.now c.args.left c.args.names.now (members_view c.new-members.result.entries)) c.args.engine.now
-    (ap (λ ms. members_part d each c.args.object.now c.args.left c.args.names.now ms) (sym (ap members_view c.new-members.ensures.empty))) c.requires
+    pending_same d b _ _ _
+    (ap (λ ms. members_part d (part d b c.args.depth) c.args.object.now c.args.left c.args.names.now ms) (sym (ap members_view c.new-members.ensures.empty)))
+    c.requires
 
 pub members_part-returns-in_err-written : goal.members_part-returns-in_err-written
 members_part-returns-in_err-written g t c =
-    let d = desc_of c.args.file.now in
-    let b = bytes_of c.args.file.now in
-    let each = part d b c.args.depth in
-    let whole = members_part d each c.args.object.now c.args.left c.args.names.now no_members in
     let i = c.loop-name.name-index in
-    let ms = members_view c.loop-name.members.entries in
     let e = err_from_is_err_and c.from_residual-in_err-written.result c.from_residual-in_err-written.ensures.1 in
     rw (e.1, e.2) (
-    members_failed d b each c.args.object.now whole c.args.engine.now c.loop-name.engine c.inner_part.new.engine
-    c.loop-name.left (get_or c.args.names.now i 0) (drop i c.args.names.now) (drop (i + 1) c.args.names.now) ms _ c.in_err-written.field-0.0
-    (drop_step c.args.names.now i 0 c.loop-name-test.true) c.in_ok-path.ensures c.loop-name.invariant c.in_err-written.ensures)
+    members_failed _ _ _ _ _ _ c.loop-name.engine _ c.loop-name.left (get_or c.args.names.now i 0) (drop i c.args.names.now) (drop (i + 1) c.args.names.now)
+    _ _ c.in_err-written.field-0.0 (drop_step c.args.names.now i 0 c.loop-name-test.true) c.in_ok-path.ensures c.loop-name.invariant c.in_err-written.ensures)
 
 pub members_part-returns-in_err-put_member : goal.members_part-returns-in_err-put_member
 members_part-returns-in_err-put_member g t c =
-    let d = desc_of c.args.file.now in
-    let b = bytes_of c.args.file.now in
-    let each = part d b c.args.depth in
-    let whole = members_part d each c.args.object.now c.args.left c.args.names.now no_members in
     let i = c.loop-name.name-index in
-    let ms = members_view c.loop-name.members.entries in
     let e = err_from_is_err_and c.from_residual-in_err-put_member.result c.from_residual-in_err-put_member.ensures.1 in
     rw (e.1, e.2) (
-    pending_short d b whole _ c.args.engine.now c.inner_part.new.engine (
-    members_on d b each c.args.object.now whole c.args.engine.now c.loop-name.engine c.inner_part.new.engine
-    c.loop-name.left (get_or c.args.names.now i 0) (drop i c.args.names.now) (drop (i + 1) c.args.names.now) ms _ c.in_ok-written.written
-    (drop_step c.args.names.now i 0 c.loop-name-test.true) c.in_ok-path.ensures c.loop-name.invariant c.in_ok-written.ensures))
+    pending_short _ _ _ _ _ _ (
+    members_on _ _ _ _ _ _ c.loop-name.engine _ c.loop-name.left (get_or c.args.names.now i 0) (drop i c.args.names.now) (drop (i + 1) c.args.names.now)
+    _ _ c.in_ok-written.written (drop_step c.args.names.now i 0 c.loop-name-test.true) c.in_ok-path.ensures c.loop-name.invariant c.in_ok-written.ensures))
 
 pub members_part-loop-name-preserved : goal.members_part-loop-name-preserved
 members_part-loop-name-preserved g t c =
     let d = desc_of c.args.file.now in
-    let b = bytes_of c.args.file.now in
-    let each = part d b c.args.depth in
-    let whole = members_part d each c.args.object.now c.args.left c.args.names.now no_members in
+    let each = part d (bytes_of c.args.file.now) c.args.depth in
     let i = c.loop-name.name-index in
     let ms = members_view c.loop-name.members.entries in
-    pending_as d b whole _ _ c.args.engine.now c.inner_part.new.engine
+    pending_as _ _ _ _ _ _ c.inner_part.new.engine
     (ap (λ after. members_part d each c.args.object.now c.in_ok-written.written.left (drop (i + 1) c.args.names.now) after)
     (sym (c.in_ok-put_member.ensures ∙ ap (λ key. put key (view c.in_ok-written.written.json) ms) c.name.ensures))) (
-    members_on d b each c.args.object.now whole c.args.engine.now c.loop-name.engine c.inner_part.new.engine
-    c.loop-name.left (get_or c.args.names.now i 0) (drop i c.args.names.now) (drop (i + 1) c.args.names.now) ms _ c.in_ok-written.written
-    (drop_step c.args.names.now i 0 c.loop-name-test.true) c.in_ok-path.ensures c.loop-name.invariant c.in_ok-written.ensures)
+    members_on _ _ _ _ _ _ c.loop-name.engine _ c.loop-name.left (get_or c.args.names.now i 0) (drop i c.args.names.now) (drop (i + 1) c.args.names.now)
+    ms _ c.in_ok-written.written (drop_step c.args.names.now i 0 c.loop-name-test.true) c.in_ok-path.ensures c.loop-name.invariant c.in_ok-written.ensures)
 
 pub members_part-returns : goal.members_part-returns
 members_part-returns g t c =
     let d = desc_of c.args.file.now in
     let b = bytes_of c.args.file.now in
-    let each = part d b c.args.depth in
-    let whole = members_part d each c.args.object.now c.args.left c.args.names.now no_members in
-    let i = c.loop-name.name-index in
-    let ms = members_view c.loop-name.members.entries in
+    let names = drop c.loop-name.name-index c.args.names.now in
     let left = c.loop-name.left in
-    loop_done d b whole (members_part d each c.args.object.now left (drop i c.args.names.now) ms) c.args.engine.now c.loop-name.engine
-    (record { json = Object c.loop-name.members; left = left })
-    (members_end d b each c.args.object.now left (drop i c.args.names.now) ms (drop_end c.args.names.now i c.loop-name-test.false)
+    loop_done d b _ _ _ c.loop-name.engine (record { json = Object c.loop-name.members; left = left })
+    (members_end d b (part d b c.args.depth) c.args.object.now left names (members_view c.loop-name.members.entries)
+    (drop_end c.args.names.now c.loop-name.name-index c.loop-name-test.false)
     ∙ ap (λ json. written json left) (sym (object_view c.loop-name.members)))
     c.loop-name.invariant
