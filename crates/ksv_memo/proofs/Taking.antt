@@ -1,6 +1,6 @@
 -- What the moves of the table come to for a question.
-use Rattle.std.proofs.Common.{true≢false, ◌⊎◌, ◌≡◌, ℕ, ◌+◌, ◌<◌, nat_lt, arith, Bool, true, false, List, [], ◌∷◌, length, Option, Some, None, refl, sym, ◌∙◌, ap}
-use Rattle.std.proofs.Common.{subst, inl, inr}
+use Rattle.std.proofs.Common.{true≢false, ◌⊎◌, ◌≡◌, ℕ, ◌+◌, ◌<◌, nat_lt, arith, Bool, true, false, List, [], ◌∷◌, length, Option, Some, None, refl, sym, ◌∙◌}
+use Rattle.std.proofs.Common.{ap, subst, inl, inr}
 use Rattle.std.proofs.lemmas.Bool.Decides.{Decides-ltb}
 use Rattle.std.specs.Cmp.{IsEquivalence}
 use Rattle.std.specs.List.{list_any}
@@ -235,8 +235,8 @@ module _ {N A : Type 0} (q : Asking N A) where
 
   -- ---- the first of them
   -- a node that is kept or open ends it at once
-  pub ends_known : (n : N) (old now : Nodes N A) (out : Outcome N A) (turns : Option ℕ) → IsRight q.world old.kept → old.opened ≡ [] → Starts q.eq n old now (Some out)
-      → HasEnd n old.kept turns turns now.kept out
+  pub ends_known : (n : N) (old now : Nodes N A) (out : Outcome N A) (turns : Option ℕ) → IsRight q.world old.kept → old.opened ≡ []
+      → Starts q.eq n old now (Some out) → HasEnd n old.kept turns turns now.kept out
   ends_known n old now (Answered a) turns right none starts =
       let e : Entry N A = starts.0.0 in
       let is = starts.0.1 in

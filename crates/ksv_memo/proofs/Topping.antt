@@ -29,7 +29,8 @@ use Rattle.ksv_memo_rules.proofs.Lists.{All-map}
 use Rattle.ksv_memo_rules.proofs.Evals.{eqb_true}
 use Rattle.ksv_memo.proofs.Finding.{node_there, answer_there}
 use Rattle.ksv_memo.proofs.Laying.{All-drop}
-use Rattle.ksv_memo.proofs.Changing.{ChangesAt, set_at, set_count, grown, links-stay, links-keep, entries-stay, entries-keep, frames-pop, frames-hear, opens-pop, opens-hear}
+use Rattle.ksv_memo.proofs.Changing.{ChangesAt, set_at, set_count, grown, links-stay, links-keep, entries-stay, entries-keep, frames-pop, frames-hear}
+use Rattle.ksv_memo.proofs.Changing.{opens-pop, opens-hear}
 
 -- the frame of a part is that of a node that is opened now
 pub parted : {N : Type 0} (i j : ℕ) (n : N) (old new : Frames N) (p : Part) (f : Frame N) → IsPart j old p → f.node ≡ n → f.slot ≡ p.slot → f.asked ≡ p.asked

@@ -156,7 +156,8 @@ elements_part-returns g t c =
     let b = bytes_of c.args.file.now in
     let left = c.loop-index.left in
     loop_done d b _ _ _ c.loop-index.engine (record { json = Array c.loop-index.elements; left = left })
-    (elements_end d b (part d b c.args.depth) c.args.list.now left c.loop-index.index c.args.count (map view c.loop-index.elements.items) c.loop-index-test.false
+    (elements_end d b (part d b c.args.depth) c.args.list.now left c.loop-index.index c.args.count (map view c.loop-index.elements.items)
+    c.loop-index-test.false
     ∙ ap (λ json. written json left) (sym (array_view c.loop-index.elements)))
     c.loop-index.invariant
 

@@ -79,8 +79,8 @@ loop-answer-preserved g c =
     let q = asks g c.args.rules.now c.args.bytes.now in
     let t = done g (goal.at.loop-answer-preserved g c).In-Ok-Done in
     let now = nodes c.close.new.self in
-    let goes = goes_on q t now c.turn.new.self.turns (closes_on q t.now.kept t.now.opened c.in-Ok-Done.answer now (reached q t) c.in_ok-close-in-Ok-Done.ensures.ok
-    (sym c.waits.ensures ∙ c.if-not-waits.false)) c.in-Ok-Done.ensures.turns in
+    let goes = goes_on q t now c.turn.new.self.turns (closes_on q t.now.kept t.now.opened c.in-Ok-Done.answer now (reached q t)
+    c.in_ok-close-in-Ok-Done.ensures.ok (sym c.waits.ensures ∙ c.if-not-waits.false)) c.in-Ok-Done.ensures.turns in
     record { holds = goes.holds; turns = goes.turns }
 
 -- memory was refused for its links
