@@ -43,6 +43,7 @@ EARLY = (
 )
 PROOFS = Part("rt", ("rt", "ci"))
 EDITS = Part("edits", ("{top}/edits/run", "--gate", "--over", "{copy}", "--rt", "{log}"))
+CHANGES = Part("changes", ("{top}/docs/changes/run", "--some", "{commit}", "--over", "{copy}"))
 # Through the program that was proved: parts of one process each, that run side by side.
 TOGETHER = (
     Part("examples", ("{copy}/examples/run",)),
@@ -65,7 +66,7 @@ ALONE = (
     Part("self", ("{top}/.ci/self", "--some", "{commit}", "--over", "{copy}")),
 )
 LATE = (*TOGETHER, *ALONE)
-PARTS = (*EARLY, PROOFS, EDITS, *LATE)
+PARTS = (*EARLY, PROOFS, EDITS, CHANGES, *LATE)
 # What can be started and is no part: the gate itself, and what is run by hand.
 TOOLS = (".ci/gate", ".ci/run", ".ci/times", "bench/run", "tools/build/run")
 
