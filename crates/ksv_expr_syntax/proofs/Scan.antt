@@ -11,6 +11,7 @@ use Rattle.ksv_expr_syntax.specs.Tokens.{Cut, is_space, skip, begun, number_pref
 use Rattle.ksv_expr_syntax.specs.Tokens.{is_dot, Tokens, finished, token}
 use Rattle.ksv_expr_syntax.specs.Cutting.{cut}
 use Rattle.ksv_expr_syntax.proofs.Longest.{cut_is_longest, first_digit}
+use Rattle.ksv_expr_syntax.proofs.Symbols.{IsFound, by_one, by_two, is_found}
 
 no_cut : cut [] ≡ None
 no_cut = refl
@@ -74,37 +75,16 @@ one_cutting dot bs ts us (token {ts = vs} x e s) t =
 skip_shorter : (bs : List ℕ) → length (skip bs) ≤ length bs
 skip_shorter bs = omega (arith, length-drop (length (take_while is_space bs)) bs)
 
+found_length : {s : Symbol} {bs : List ℕ} → IsFound s bs → 0 < length bs
+found_length (by_one c e h) = omega arith
+found_length (by_two c d h) = omega arith
+
 spelling_length : (s : Symbol) → 0 < length (spelling s)
-spelling_length tok.Plus = omega arith
-spelling_length tok.Minus = omega arith
-spelling_length tok.Star = omega arith
-spelling_length tok.Slash = omega arith
-spelling_length tok.Percent = omega arith
-spelling_length tok.Tilde = omega arith
-spelling_length tok.Ampersand = omega arith
-spelling_length tok.Bar = omega arith
-spelling_length tok.Caret = omega arith
-spelling_length tok.ShiftLeft = omega arith
-spelling_length tok.ShiftRight = omega arith
-spelling_length tok.Less = omega arith
-spelling_length tok.LessOrEqual = omega arith
-spelling_length tok.Greater = omega arith
-spelling_length tok.GreaterOrEqual = omega arith
-spelling_length tok.Equal = omega arith
-spelling_length tok.NotEqual = omega arith
-spelling_length tok.Question = omega arith
-spelling_length tok.Colon = omega arith
-spelling_length tok.ColonColon = omega arith
-spelling_length tok.OpenParenthesis = omega arith
-spelling_length tok.CloseParenthesis = omega arith
-spelling_length tok.OpenBracket = omega arith
-spelling_length tok.CloseBracket = omega arith
-spelling_length tok.Comma = omega arith
-spelling_length tok.Dot = omega arith
 spelling_length tok.And = omega arith
 spelling_length tok.Or = omega arith
 spelling_length tok.Not = omega arith
 spelling_length tok.As = omega arith
+spelling_length s = found_length (is_found s refl)
 
 token_length : (piece : List ℕ) (t : Lexeme) → IsToken piece t → 0 < length piece
 token_length piece t (name (begun h k)) = omega arith
