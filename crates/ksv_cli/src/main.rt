@@ -16,7 +16,7 @@ mod save;
 use crate::save::{Saved, Target, save, target_at};
 use clap::Error;
 use clap::error::ErrorKind as WordsKind;
-use ksv::{Args, End, NewFault, Std, Stop, arguments, describe, run, say};
+use ksv::{Args, Desc, End, NewFault, Std, Stop, arguments, describe, run, say};
 use ksv_bytes::{Buffer, FILE_LIMIT};
 use ksv_yaml_scan::cut::MAX_LENGTH as DESCRIPTION_LIMIT;
 use std::alloc::{AllocError, Global};
@@ -66,22 +66,30 @@ fn keep(rt: &HostRuntime, target: Option<&Target>, buffer: &Buffer) -> Result<()
     }
 }
 
-/// Reads the file and its description, in this order, and of each at most one byte more than it may have, and looks where the bytes are to be
-/// saved. Then serves the session, and saves the bytes if it went well.
-fn explore(rt: &HostRuntime, args: Args) -> Result<(), Stop> {
-    let bytes = match read_file(rt, args.file, FILE_LIMIT as u64 + 1) {
-        Ok(bytes) => bytes,
-        Err(error) => return Err(stop_of(error, Stop::FileUnreadable)),
-    };
-    if bytes.len() > FILE_LIMIT {
-        return Err(Stop::FileTooLarge);
+/// The bytes of the file, of which at most one more is read than it may have.
+fn file_of(rt: &HostRuntime, path: &str) -> Result<Vec<u8>, Stop> {
+    match read_file(rt, path, FILE_LIMIT as u64 + 1) {
+        Ok(bytes) if bytes.len() > FILE_LIMIT => Err(Stop::FileTooLarge),
+        Ok(bytes) => Ok(bytes),
+        Err(error) => Err(stop_of(error, Stop::FileUnreadable)),
     }
-    let ksy = match read_file(rt, args.ksy, DESCRIPTION_LIMIT as u64 + 1) {
-        Ok(ksy) => ksy,
-        Err(error) => return Err(stop_of(error, Stop::DescriptionUnreadable)),
-    };
-    let desc = describe(rt.alloc(), ksy.as_slice())?;
-    let target = target_of(rt, args.save)?;
+}
+
+/// The description, of which at most one byte more is read than it may have.
+fn description_of(rt: &HostRuntime, path: &str) -> Result<Desc, Stop> {
+    match read_file(rt, path, DESCRIPTION_LIMIT as u64 + 1) {
+        Ok(ksy) => describe(rt.alloc(), ksy.as_slice()),
+        Err(error) => Err(stop_of(error, Stop::DescriptionUnreadable)),
+    }
+}
+
+/// Serves the session, and saves the bytes if it went well.
+fn serve(
+    rt: &HostRuntime,
+    target: &Option<Target>,
+    desc: Desc,
+    bytes: Vec<u8>,
+) -> Result<(), Stop> {
     let mut reader = Std::new(rt.stdin());
     let mut writer = Std::new(rt.stdout());
     match run(rt.alloc(), &mut reader, &mut writer, desc, bytes) {
@@ -89,6 +97,26 @@ fn explore(rt: &HostRuntime, args: Args) -> Result<(), Stop> {
         Ok((_, End::ReadFailed)) => Err(Stop::InputFailed),
         Ok((_, End::WriteFailed)) => Err(Stop::OutputFailed),
         Err(NewFault::FileTooLarge) => Err(Stop::FileTooLarge),
+    }
+}
+
+/// Looks where the bytes are to be saved, and serves the session.
+fn serve_for(rt: &HostRuntime, out: Option<&str>, desc: Desc, bytes: Vec<u8>) -> Result<(), Stop> {
+    match target_of(rt, out) {
+        Ok(target) => serve(rt, &target, desc, bytes),
+        Err(stop) => {
+            drop(desc);
+            Err(stop)
+        }
+    }
+}
+
+/// Reads the file and its description, in this order, and explores it.
+fn explore(rt: &HostRuntime, args: Args) -> Result<(), Stop> {
+    let bytes = file_of(rt, args.file)?;
+    match description_of(rt, args.ksy) {
+        Ok(desc) => serve_for(rt, args.save, desc, bytes),
+        Err(stop) => Err(stop),
     }
 }
 

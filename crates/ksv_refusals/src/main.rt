@@ -23,7 +23,7 @@ mod session;
 
 use crate::edits::{appends, inserts};
 use crate::question::asks;
-use crate::session::{Given, How, lines_of, serve};
+use crate::session::{Given, How, Line, lines_of, serve};
 use std::alloc::{AllocError, Global};
 use std::io::Read;
 use std::process::ExitCode;
@@ -46,25 +46,45 @@ pub(crate) fn room(alloc: Global) -> Result<Vec<u8>, AllocError> {
     Vec::with_capacity(alloc, ROOM)
 }
 
-/// Tries what a word says; `None` where it is none of those above.
-fn tried(rt: &HostRuntime, word: &str, name: &str) -> io::Result<Option<Outcome>> {
+/// Tries what a word says of these lines; `None` where it is none of those above.
+fn tried_with(
+    rt: &HostRuntime,
+    word: &str,
+    given: Given<'_>,
+    lines: &[Line<'_>],
+) -> io::Result<Option<Outcome>> {
     let alloc = rt.alloc();
-    let text = fs::read_to_string(rt, format!(in alloc; "{name}.lines")?.as_str())?;
-    let ksy = fs::read(rt, format!(in alloc; "{name}.ksy")?.as_str())?;
-    let file = fs::read(rt, format!(in alloc; "{name}.bin")?.as_str())?;
-    let given = Given {
-        ksy: ksy.as_slice(),
-        file: file.as_slice(),
-    };
-    let lines = lines_of(alloc, text.as_str(), word == "stats")?;
     Ok(match word {
-        "session" | "stats" => Some(serve(rt, given, lines.as_slice(), How::Once)?),
-        "again" => Some(serve(rt, given, lines.as_slice(), How::Again)?),
+        "session" | "stats" => Some(serve(rt, given, lines, How::Once)?),
+        "again" => Some(serve(rt, given, lines, How::Again)?),
         "insert" => Some(inserts(alloc)?),
         "append" => Some(appends(alloc)?),
         "ask" => Some(asks(alloc, given)?),
         _ => None,
     })
+}
+
+/// The bytes of the file of a name with this ending.
+fn bytes_at(rt: &HostRuntime, name: &str, ending: &str) -> io::Result<Vec<u8>> {
+    fs::read(rt, format!(in rt.alloc(); "{name}.{ending}")?.as_str())
+}
+
+/// Tries what a word says over the files of a name, and these lines.
+fn tried_over(rt: &HostRuntime, word: &str, name: &str, text: &str) -> io::Result<Option<Outcome>> {
+    let ksy = bytes_at(rt, name, "ksy")?;
+    let file = bytes_at(rt, name, "bin")?;
+    let given = Given {
+        ksy: ksy.as_slice(),
+        file: file.as_slice(),
+    };
+    let lines = lines_of(rt.alloc(), text, word == "stats")?;
+    tried_with(rt, word, given, lines.as_slice())
+}
+
+/// Tries what a word says over the files of a name; `None` where it is none of those above.
+fn tried(rt: &HostRuntime, word: &str, name: &str) -> io::Result<Option<Outcome>> {
+    let text = fs::read_to_string(rt, format!(in rt.alloc(); "{name}.lines")?.as_str())?;
+    tried_over(rt, word, name, text.as_str())
 }
 
 fn main(rt: HostRuntime) -> io::Result<ExitCode> {

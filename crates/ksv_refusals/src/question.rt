@@ -125,13 +125,23 @@ fn newly_asked<R: Rules>(
     outcome
 }
 
+/// The question over bytes and their description.
+fn asked_over(alloc: Global, rules: &Described, bytes: &Buffer) -> io::Result<Outcome> {
+    let last = node_at(alloc, rules, NodeKind::Value, "/items/1/len")?;
+    let nodes = nodes(alloc, rules)?;
+    Ok(newly_asked(alloc, rules, bytes, last, nodes)?)
+}
+
+/// The question over a file, by these rules.
+fn asked_of_file(alloc: Global, rules: &Described, file: &[u8]) -> io::Result<Outcome> {
+    match Buffer::new(file.to_vec(alloc)?) {
+        Ok(bytes) => asked_over(alloc, rules, &bytes),
+        Err(_) => Err(io::Error::from(ErrorKind::FileTooLarge)),
+    }
+}
+
 /// The question over a file and its description.
 pub(crate) fn asks(alloc: Global, given: Given<'_>) -> io::Result<Outcome> {
     let rules = Described::new(given.desc(alloc)?);
-    let Ok(bytes) = Buffer::new(given.file.to_vec(alloc)?) else {
-        return Err(io::Error::from(ErrorKind::FileTooLarge));
-    };
-    let last = node_at(alloc, &rules, NodeKind::Value, "/items/1/len")?;
-    let nodes = nodes(alloc, &rules)?;
-    Ok(newly_asked(alloc, &rules, &bytes, last, nodes)?)
+    asked_of_file(alloc, &rules, given.file)
 }

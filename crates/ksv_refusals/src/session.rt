@@ -207,33 +207,80 @@ fn outcome(
     })
 }
 
-/// Serves lines while memory may be refused, and then with ample memory: the same lines where a refused one was given again, else all but
-/// the refused one. Prints the replies with ample memory.
-pub(crate) fn serve(
+/// What was played, where there was a session.
+fn whole(played: Option<(Played, Buffer)>) -> io::Result<(Played, Buffer)> {
+    match played {
+        Some(played) => Ok(played),
+        None => Err(io::Error::from(ErrorKind::FileTooLarge)),
+    }
+}
+
+/// Plays lines while memory may be refused.
+fn play_tried(
+    alloc: Global,
+    desc: Desc,
+    file: Vec<u8>,
+    lines: &[Line<'_>],
+    how: How,
+) -> io::Result<(Played, Buffer)> {
+    match room(alloc) {
+        Ok(replies) => whole(play_anew(alloc, desc, file, lines, None, how, replies)),
+        Err(refused) => {
+            drop(desc);
+            Err(io::Error::from(refused))
+        }
+    }
+}
+
+/// Plays lines with ample memory, and with room for the replies.
+fn play_ample(
+    alloc: Global,
+    given: Given<'_>,
+    lines: &[Line<'_>],
+    without: Option<usize>,
+    how: How,
+    replies: Vec<u8>,
+) -> io::Result<(Played, Buffer)> {
+    let file = given.file.to_vec(alloc)?;
+    match given.desc(alloc) {
+        Ok(desc) => whole(play_anew(alloc, desc, file, lines, without, how, replies)),
+        Err(error) => Err(error),
+    }
+}
+
+/// Plays lines with ample memory after they were tried, and prints the replies: the same lines where a refused one was given again, else all
+/// but the refused one.
+fn serve_again(
     rt: &HostRuntime,
     given: Given<'_>,
     lines: &[Line<'_>],
     how: How,
+    tried: &(Played, Buffer),
 ) -> io::Result<Outcome> {
     let alloc = rt.alloc();
-    let (file, copy) = (given.file.to_vec(alloc)?, given.file.to_vec(alloc)?);
-    let desc = given.desc(alloc)?;
-    let tried = match play_anew(alloc, desc, file, lines, None, how, room(alloc)?) {
-        Some(tried) => tried,
-        None => return Err(io::Error::from(ErrorKind::FileTooLarge)),
-    };
     let replies = room(alloc)?;
     let without = if how == How::Again {
         None
     } else {
         tried.0.refused
     };
-    let desc = given.desc(alloc)?;
-    let ample = match play_anew(alloc, desc, copy, lines, without, how, replies) {
-        Some(ample) => ample,
-        None => return Err(io::Error::from(ErrorKind::FileTooLarge)),
-    };
+    let ample = play_ample(alloc, given, lines, without, how, replies)?;
     let text = str::from_utf8(ample.0.replies.as_slice()).unwrap_or("not UTF-8\n");
     print!(rt; "{text}")?;
-    Ok(outcome(alloc, &tried, &ample, lines)?)
+    Ok(outcome(alloc, tried, &ample, lines)?)
+}
+
+/// Serves lines while memory may be refused, and then with ample memory.
+pub(crate) fn serve(
+    rt: &HostRuntime,
+    given: Given<'_>,
+    lines: &[Line<'_>],
+    how: How,
+) -> io::Result<Outcome> {
+    let file = given.file.to_vec(rt.alloc())?;
+    let tried = match given.desc(rt.alloc()) {
+        Ok(desc) => play_tried(rt.alloc(), desc, file, lines, how)?,
+        Err(error) => return Err(error),
+    };
+    serve_again(rt, given, lines, how, &tried)
 }
