@@ -7,21 +7,18 @@ use Rattle.std.specs.Str.{bytes_eq}
 use Rattle.std.specs.String.{string_eq}
 use Rattle.std.specs.Map.{lookup}
 use Rattle.std.specs.HashMap.{HashMap, UpdatesBy, get_by_text}
-use Rattle.std.specs.Bool.{one_answer}
 use Rattle.std.proofs.lemmas.List.{length-append, length-map, map-append}
 use Rattle.std.proofs.lemmas.Map.Text.{hash_map_updates_text}
 use Rattle.std.proofs.lemmas.Slice.Eq.{bytes_eq-Decides}
 use Rattle.ksv_desc.specs.Names.{number_in, distinct_behind}
 use Rattle.ksv_desc.specs.Code.{AreNumbered}
 use Rattle.ksv_desc.proofs.Tabled.{same_is, found_any, position_last}
+use Rattle.ksv_expr_value.proofs.Halves.{turned}
 
 -- what doesn't pass a test changes no place
 position_other : (t : List ℕ → Bool) (i : ℕ) (xs : List (List ℕ)) (y : List ℕ) → t y ≡ false → position_from t i (xs ++ y ∷ []) ≡ position_from t i xs
 position_other t i [] y other = ap (λ (b : Bool). cond b (Some i) None) other
 position_other t i (x ∷ xs) y other = ap (λ (o : Option ℕ). cond (t x) (Some i) o) (position_other t (i + 1) xs y other)
-
-turned : (v w : List ℕ) → bytes_eq v w ≡ bytes_eq w v
-turned v w = one_answer (bytes_eq v w) (bytes_eq w v) (bytes_eq-Decides v w) ((λ e. sym ((bytes_eq-Decides w v).0 e)), (λ e. (bytes_eq-Decides w v).1 (sym e)))
 
 -- a table of no names
 pub none_yet : {S : Type 0} (texts : List (String Global)) (m : HashMap (String Global) ℕ S) → texts ≡ [] → m.entries ≡ []

@@ -92,7 +92,7 @@ added_there before (w ∷ ws) =
 
 -- ---- each once
 
-position_append : {A : Type 0} (t : A → Bool) (i k : ℕ) (xs ys : List A) → position_from t i xs ≡ Some k → position_from t i (xs ++ ys) ≡ Some k
+pub position_append : {A : Type 0} (t : A → Bool) (i k : ℕ) (xs ys : List A) → position_from t i xs ≡ Some k → position_from t i (xs ++ ys) ≡ Some k
 position_append t i k [] ys h = absurd (cc)
 position_append t i k (x ∷ xs) ys h = by_test (t x) h (position_append t (i + 1) k xs ys) where
   by_test : (b : Bool) → cond b (Some i) (position_from t (i + 1) xs) ≡ Some k

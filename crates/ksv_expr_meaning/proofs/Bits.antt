@@ -3,7 +3,7 @@ use Rattle.std.proofs.Common.{◌≡◌, ℕ, zero, suc, ◌+◌, ◌-◌, ◌^�
 use Rattle.std.specs.Int.{bit_at}
 use Rattle.std.specs.Int.Bits.{bit_and, bit_or, bit_xor, or_add_and, xor_add_and, and_self}
 use Rattle.std.proofs.lemmas.Nat.{and-not, and_comm, and_le_l, and_le_r, and_assoc}
-use Rattle.std.proofs.lemmas.Nat.Bits.{bit_at_and, bit_at_or, bit_at_xor}
+use Rattle.std.proofs.lemmas.Nat.Bits.{bit_at_and, bit_at_or, bit_at_xor, bit_at-lt}
 use Rattle.std.proofs.lemmas.Bool.{ltb-true}
 use Rattle.std.proofs.lemmas.Bool.Decides.{nat_tests}
 use mir.Val.{sel}
@@ -14,16 +14,13 @@ use Rattle.ksv_expr_value.specs.Range.{in_range}
 
 -- ---- the law
 
-bit_small : (n k : ℕ) → bit_at n k < 2
-bit_small n k = omega arith
-
 bit_below : (z : ℤ) (k : ℕ) → bit z k < 2
-bit_below (pos n) k = bit_small n k
+bit_below (pos n) k = bit_at-lt n k
 bit_below (negsuc n) k = omega arith
 
 turned_bit : (z : ℤ) (k : ℕ) → bit (complement z) k ≡ 1 - bit z k
 turned_bit (pos n) k = refl
-turned_bit (negsuc n) k = let s = bit_small n k in omega arith
+turned_bit (negsuc n) k = let s = bit_at-lt n k in omega arith
 
 -- a number without the bits of another
 less_and : (a b : ℕ) → a - bit_and a b ≡ bit_xor a (bit_and a b)
@@ -44,7 +41,7 @@ less_bit (suc (suc x)) y h k = absurd (omega arith)
 
 bit_less : (a b k : ℕ) → bit_at (a - bit_and a b) k ≡ min (bit_at a k) (1 - bit_at b k)
 bit_less a b k = ap (λ n. bit_at n k) (less_and a b) ∙ bit_at_xor a (bit_and a b) k ∙ ap (λ x. (bit_at a k + x) % 2) (bit_at_and a b k)
-    ∙ less_bit (bit_at a k) (bit_at b k) (bit_small a k) (bit_small b k)
+    ∙ less_bit (bit_at a k) (bit_at b k) (bit_at-lt a k) (bit_at-lt b k)
 
 both_bits : (a b : ℤ) (k : ℕ) → bit (bits_and a b) k ≡ min (bit a k) (bit b k)
 both_bits (pos a) (pos b) k = bit_at_and a b k
@@ -103,14 +100,14 @@ one_bit (pos a) (negsuc b) k =
     let low = and_le_l a b in
     let high = and_le_r a b in
     let is : bits_xor (pos a) (negsuc b) ≡ negsuc (bit_xor a b) = omega (arith, ints) in
-    ap (λ z. bit z k) is ∙ ap (λ x. 1 - x) (bit_at_xor a b k) ∙ turned_sum_bit (bit_at a k) (bit_at b k) (bit_small a k) (bit_small b k)
+    ap (λ z. bit z k) is ∙ ap (λ x. 1 - x) (bit_at_xor a b k) ∙ turned_sum_bit (bit_at a k) (bit_at b k) (bit_at-lt a k) (bit_at-lt b k)
 one_bit (negsuc a) (pos b) k =
     let sum = xor_add_and a b in
     let low = and_le_l a b in
     let high = and_le_r a b in
     let is : bits_xor (negsuc a) (pos b) ≡ negsuc (bit_xor a b) = omega (arith, ints) in
     ap (λ z. bit z k) is ∙ ap (λ x. 1 - x) (bit_at_xor a b k) ∙ ap (λ n. 1 - n % 2) (swapped (bit_at a k) (bit_at b k))
-    ∙ turned_sum_bit (bit_at b k) (bit_at a k) (bit_small b k) (bit_small a k) ∙ ap (λ n. n % 2) (swapped (bit_at b k) (1 - bit_at a k))
+    ∙ turned_sum_bit (bit_at b k) (bit_at a k) (bit_at-lt b k) (bit_at-lt a k) ∙ ap (λ n. n % 2) (swapped (bit_at b k) (1 - bit_at a k))
   where
     swapped : (x y : ℕ) → x + y ≡ y + x
     swapped x y = omega arith
@@ -119,7 +116,7 @@ one_bit (negsuc a) (negsuc b) k =
     let low = and_le_l a b in
     let high = and_le_r a b in
     let is : bits_xor (negsuc a) (negsuc b) ≡ pos (bit_xor a b) = omega (arith, ints) in
-    ap (λ z. bit z k) is ∙ bit_at_xor a b k ∙ turned_twice (bit_at a k) (bit_at b k) (bit_small a k) (bit_small b k)
+    ap (λ z. bit z k) is ∙ bit_at_xor a b k ∙ turned_twice (bit_at a k) (bit_at b k) (bit_at-lt a k) (bit_at-lt b k)
 
 pub bits_are_told : BitsAreTold
 bits_are_told a b k = record { complements = turned_bit a k; both = both_bits a b k; either = either_bits a b k; one = one_bit a b k }

@@ -1,24 +1,18 @@
 -- What is spelled so is read, whatever follows that doesn't go on with it.
-use Rattle.std.proofs.Common.{◌≡◌, ℕ, suc, ◌+◌, ◌<◌, ◌≤◌, true, false, List, [], ◌∷◌, ◌++◌, length, Option, Some, None, refl, sym, ap, subst, ◌∙◌, append_assoc}
-use Rattle.std.proofs.Common.{arith, if◌then◌else◌}
+use Rattle.ksv_expr_syntax.proofs.Common.{◌≡◌, ℕ, suc, ◌+◌, ◌<◌, ◌≤◌, true, false, List, [], ◌∷◌, ◌++◌, length, Option, Some, None, refl, sym, ap, subst, ◌∙◌}
+use Rattle.ksv_expr_syntax.proofs.Common.{append_assoc, arith, if◌then◌else◌, Symbol, UnaryOperator, BinaryOperator, Precedence, Infix, Constant, Tree, literal}
+use Rattle.ksv_expr_syntax.proofs.Common.{unary, binary, choice, call, index, cast, Arguments, no_arguments, argument, operator, comparison, prefix, Lexeme}
+use Rattle.ksv_expr_syntax.proofs.Common.{constant, word, symbol, parts, all_parts, Level, Whole, Joined, Negation, Comparison, Prefix, Postfix, Primary}
+use Rattle.ksv_expr_syntax.proofs.Common.{tighter, join_tree, select_tree, is_left_out, path_tokens, Spells, pick, no_pick, join, no_join, negation}
+use Rattle.ksv_expr_syntax.proofs.Common.{no_negation, compare, no_compare, prefixed, no_prefix, selected, called, converted, indexed, no_postfix}
+use Rattle.ksv_expr_syntax.proofs.Common.{literal_alone, name_alone, enum_member, group, Next, Found, FoundList, found, found_list, next, ◌>>=◌, choose, spend}
+use Rattle.ksv_expr_syntax.proofs.Common.{after, operator_at, comparison_at, prefix_at, path_at, path_on, path_tree, all_but_last, last_name, read, read_list}
 use Rattle.ksv_expr_syntax.specs.contracts.token.SymbolPartialEq.TheImpl.{ghosts as symbol_tests}
-use Rattle.ksv_expr_syntax.specs.declared.token.Symbol.{Symbol}
 use Rattle.ksv_expr_syntax.specs.declared.token.Symbol.TheVariants as tok
-use Rattle.ksv_expr_tree.specs.declared.tree.UnaryOperator.{UnaryOperator}
 use Rattle.ksv_expr_tree.specs.declared.tree.UnaryOperator.TheVariants as unaries
-use Rattle.ksv_expr_tree.specs.declared.tree.BinaryOperator.{BinaryOperator}
-use Rattle.ksv_expr_syntax.specs.declared.token.Precedence.{Precedence}
 use Rattle.ksv_expr_syntax.specs.declared.token.Precedence.TheVariants as tier
-use Rattle.ksv_expr_syntax.specs.declared.token.Infix.{Infix}
-use Rattle.ksv_expr_tree.specs.Tree.{Constant, Tree, literal, member, unary, binary, choice, call, index, cast, Arguments, no_arguments, argument}
-use Rattle.ksv_expr_syntax.specs.Symbols.{operator, comparison, prefix}
-use Rattle.ksv_expr_syntax.specs.Lexemes.{Lexeme, constant, word, symbol}
-use Rattle.ksv_expr_syntax.specs.Grammar.{parts, all_parts, Level, Whole, Joined, Negation, Comparison, Prefix, Postfix, Primary, tighter}
-use Rattle.ksv_expr_syntax.specs.Grammar.{join_tree, name_tree, select_tree, is_left_out, path_tokens, Spells, pick, no_pick, join, no_join, negation}
-use Rattle.ksv_expr_syntax.specs.Grammar.{no_negation, compare, no_compare, prefixed, no_prefix, selected, called, converted, indexed, no_postfix}
-use Rattle.ksv_expr_syntax.specs.Grammar.{literal_alone, name_alone, enum_member, group, SpellsArguments, empty, listed, SpellsList, last_one, one_more}
-use Rattle.ksv_expr_syntax.specs.Reading.{Next, Found, FoundList, found, found_list, next, ◌>>=◌, choose, spend, after, operator_at, comparison_at, prefix_at}
-use Rattle.ksv_expr_syntax.specs.Reading.{path_at, path_on, path_tree, all_but_last, last_name, read, read_list}
+use Rattle.ksv_expr_tree.specs.Tree.{member}
+use Rattle.ksv_expr_syntax.specs.Grammar.{name_tree, SpellsArguments, empty, listed, SpellsList, last_one, one_more}
 use Rattle.ksv_expr_syntax.proofs.Steps.{after_some, same_symbol}
 use Rattle.ksv_expr_syntax.proofs.Symbols.{rank, strength, opening, operator_strength, comparison_strength, prefix_opening}
 use Rattle.ksv_expr_syntax.proofs.Sound.{parts_join, parts_name, parts_select}
@@ -26,6 +20,7 @@ use Rattle.ksv_expr_syntax.proofs.Flow.{pick_on, join_on, compare_on, prefix_on,
 use Rattle.ksv_expr_syntax.proofs.Flow.{read_negation, negate_on_is, read_comparison, compare_on_is, read_prefix, prefix_on_is, read_postfix, suffix_on_is}
 use Rattle.ksv_expr_syntax.proofs.Flow.{place_on_is, select_word, select_symbol, primary_constant, primary_word, primary_symbol, group_on_is, read_list_is}
 use Rattle.ksv_expr_syntax.proofs.Flow.{more_on_is}
+use Rattle.ksv_expr_syntax.proofs.Exits.{spend_one, no_way}
 
 -- the tokens begin with none that goes on with a level this tight
 abbrev pub Stops : ℕ → List Lexeme → Type 0
@@ -156,19 +151,12 @@ first : (r : Option Found) (f : Found → Option Found) (e : Tree) (ts : List Le
     → (r >>= f) ≡ f (record { tree = e; rest = ts; left = p })
 first r f e ts p h = ap (λ (r : Option Found). r >>= f) h
 
-spends : {A : Type 0} (p q : ℕ) (f : ℕ → Option A) → p ≡ suc q → spend p f ≡ f q
-spends p q f h = ap (λ (p : ℕ). spend p f) h
-
--- one of two ways, which is known
-one_way : {A B : Type 0} (o : Option A) (x : B) (f : A → B) → o ≡ None → choose o x f ≡ x
-one_way o x f h = ap (λ o. choose o x f) h
-
 join_stops : (k : Precedence) (e : Tree) (d : ℕ) (ts : List Lexeme) (p : ℕ) → Stops (rank (Joined k)) ts → join_on k e d ts p ≡ found e ts p
-join_stops k e d ts p h = join_on_is k e d ts p ∙ one_way (operator_at k ts) _ _ (no_operator k ts h)
+join_stops k e d ts p h = join_on_is k e d ts p ∙ no_way (operator_at k ts) _ _ (no_operator k ts h)
 
 suffix_stops : (e : Tree) (d : ℕ) (ts : List Lexeme) (p : ℕ) → Stops 13 ts → suffix_on e d ts p ≡ found e ts p
-suffix_stops e d ts p h = suffix_on_is e d ts p ∙ one_way (after tok.Dot ts) _ _ (no_after tok.Dot 13 ts (omega arith) h)
-    ∙ one_way (after tok.OpenBracket ts) _ _ (no_after tok.OpenBracket 13 ts (omega arith) h)
+suffix_stops e d ts p h = suffix_on_is e d ts p ∙ no_way (after tok.Dot ts) _ _ (no_after tok.Dot 13 ts (omega arith) h)
+    ∙ no_way (after tok.OpenBracket ts) _ _ (no_after tok.OpenBracket 13 ts (omega arith) h)
 
 go_stops : (l : Level) (e : Tree) (d : ℕ) (ts : List Lexeme) (p : ℕ) → Stops (rank l) ts → go l e d ts p ≡ found e ts p
 go_stops Whole e d ts p h = refl
@@ -224,7 +212,7 @@ goal_pick {d} {ts} {a} {b} {c} xs ys zs e gx gy gz = record {
       (whole gx (symbol tok.Question ∷ vs) (parts b + parts c + 1 + p) q (omega (arith, h)) (omega arith))
       ∙ pick_on_is a (suc d) (symbol tok.Question ∷ vs) (parts b + parts c + 1 + p)
       ∙ arm_on_is a (suc d) vs (parts b + parts c + 1 + p)
-      ∙ spends (parts b + parts c + 1 + p) (parts b + (parts c + p)) _ (omega arith)
+      ∙ spend_one (parts b + parts c + 1 + p) (parts b + (parts c + p)) _ (omega arith)
       ∙ first (read Whole d vs (parts b + (parts c + p))) _ b (symbol tok.Colon ∷ us) (parts c + p)
       (whole gy (symbol tok.Colon ∷ us) (parts c + p) (parts b + (parts c + p)) refl (omega arith))
       ∙ first (read Whole d us (parts c + p)) _ c rest p (whole gz rest p (parts c + p) refl s);
@@ -236,7 +224,7 @@ goal_no_pick {d} {ts} {e} g = record {
   step = λ rest p q h s.
       read_whole d (ts ++ rest) q
       ∙ first _ (λ a. pick_on a.tree d a.rest a.left) e rest p (whole g rest p q h (stops_more 1 2 rest (omega arith) s))
-      ∙ pick_on_is e d rest p ∙ one_way (after tok.Question rest) _ _ (no_after tok.Question 1 rest (omega arith) s);
+      ∙ pick_on_is e d rest p ∙ no_way (after tok.Question rest) _ _ (no_after tok.Question 1 rest (omega arith) s);
 }
 
 goal_join : {d : ℕ} (k : Precedence) {ts : List Lexeme} (op : Infix) {a b : Tree} (xs : List Lexeme) (v : Lexeme) (ys : List Lexeme) → operator k v ≡ Some op
@@ -250,7 +238,7 @@ goal_join {d} k {ts} op {a} {b} xs v ys is e gx gy = record {
       ∙ join_on_is k a d (v ∷ us) (parts b + 1 + p)
       ∙ ap (λ (o : Option Infix). choose (o >>= λ op. next op us) (found a (v ∷ us) (parts b + 1 + p))
       (λ x. spend (parts b + 1 + p) (λ p. read (tighter k) d x.behind p >>= λ b. join_on k (join_tree x.what a b.tree) d b.rest b.left))) is
-      ∙ spends (parts b + 1 + p) (parts b + p) _ (omega arith)
+      ∙ spend_one (parts b + 1 + p) (parts b + p) _ (omega arith)
       ∙ first (read (tighter k) d us (parts b + p)) (λ b. join_on k (join_tree op a b.tree) d b.rest b.left) b rest p (whole gy rest p (parts b + p) refl s);
 }
 
@@ -266,7 +254,7 @@ goal_negation {d} {ts} {e} g = record {
   step = λ rest p q h s.
       read_negation (suc d) (symbol tok.Not ∷ (ts ++ rest)) q
       ∙ negate_on_is (suc d) (ts ++ rest) q
-      ∙ spends q (parts e + p) _ (omega (arith, h))
+      ∙ spend_one q (parts e + p) _ (omega (arith, h))
       ∙ first (read Negation d (ts ++ rest) (parts e + p)) _ e rest p (whole g rest p (parts e + p) refl s);
 }
 
@@ -275,7 +263,7 @@ goal_no_negation {d} {ts} {e} g = record {
   begins = begins_looser 4 5 ts (omega arith) g.begins;
   step = λ rest p q h s.
       read_negation d (ts ++ rest) q
-      ∙ one_way (after tok.Not (ts ++ rest)) _ _ (not_begun tok.Not 5 ts rest (omega arith) g.begins)
+      ∙ no_way (after tok.Not (ts ++ rest)) _ _ (not_begun tok.Not 5 ts rest (omega arith) g.begins)
       ∙ whole g rest p q h (stops_more 4 5 rest (omega arith) s);
 }
 
@@ -292,7 +280,7 @@ goal_compare {d} {ts} op {a} {b} xs v ys is e gx gy = record {
       ∙ compare_on_is a d (v ∷ us) (parts b + 1 + p)
       ∙ ap (λ (o : Option BinaryOperator). choose (o >>= λ op. next op us) (found a (v ∷ us) (parts b + 1 + p))
       (λ x. spend (parts b + 1 + p) (λ p. read (Joined tier.BitOr) d x.behind p >>= λ b. found (binary x.what a b.tree) b.rest b.left))) is
-      ∙ spends (parts b + 1 + p) (parts b + p) _ (omega arith)
+      ∙ spend_one (parts b + 1 + p) (parts b + p) _ (omega arith)
       ∙ first (read (Joined tier.BitOr) d us (parts b + p)) (λ b. found (binary op a b.tree) b.rest b.left) b rest p
       (whole gy rest p (parts b + p) refl (stops_more 5 6 rest (omega arith) s));
 }
@@ -303,7 +291,7 @@ goal_no_compare {d} {ts} {e} g = record {
   step = λ rest p q h s.
       read_comparison d (ts ++ rest) q
       ∙ first _ (λ a. compare_on a.tree d a.rest a.left) e rest p (whole g rest p q h (stops_more 5 6 rest (omega arith) s))
-      ∙ compare_on_is e d rest p ∙ one_way (comparison_at rest) _ _ (no_comparison rest s);
+      ∙ compare_on_is e d rest p ∙ no_way (comparison_at rest) _ _ (no_comparison rest s);
 }
 
 goal_prefixed : {d : ℕ} {ts : List Lexeme} (op : UnaryOperator) {e : Tree} (v : Lexeme) → prefix v ≡ Some op → Goal Prefix d ts e
@@ -315,7 +303,7 @@ goal_prefixed {d} {ts} op {e} v is g = record {
       read_prefix (suc d) (v ∷ us) q
       ∙ ap (λ (o : Option UnaryOperator). choose (o >>= λ op. next op us) (read Postfix (suc d) (v ∷ us) q) (λ x. prefix_on x.what (suc d) x.behind q)) is
       ∙ prefix_on_is op (suc d) us q
-      ∙ spends q (parts e + p) _ (omega (arith, h))
+      ∙ spend_one q (parts e + p) _ (omega (arith, h))
       ∙ first (read Prefix d us (parts e + p)) _ e rest p (whole g rest p (parts e + p) refl s);
 }
 
@@ -324,7 +312,7 @@ goal_no_prefix {d} {ts} {e} g = record {
   begins = begins_looser 12 13 ts (omega arith) g.begins;
   step = λ rest p q h s.
       read_prefix d (ts ++ rest) q
-      ∙ one_way (prefix_at (ts ++ rest)) _ _ (not_prefixed ts rest g.begins)
+      ∙ no_way (prefix_at (ts ++ rest)) _ _ (not_prefixed ts rest g.begins)
       ∙ whole g rest p q h (stops_more 12 13 rest (omega arith) s);
 }
 
@@ -337,8 +325,8 @@ goal_selected {d} {ts} {e} xs w is g = record {
       ∙ g.step (symbol tok.Dot ∷ word w ∷ rest) (1 + p) q (omega (arith, h, parts_select e w)) (omega arith)
       ∙ suffix_on_is e d (symbol tok.Dot ∷ word w ∷ rest) (1 + p)
       ∙ first _ (λ a. suffix_on a.tree d a.rest a.left) (select_tree e w) rest p
-      (select_word e d w rest (1 + p) ∙ spends (1 + p) p _ (omega arith)
-      ∙ one_way (after tok.OpenParenthesis rest) _ _ (no_after tok.OpenParenthesis 14 rest (omega arith) s));
+      (select_word e d w rest (1 + p) ∙ spend_one (1 + p) p _ (omega arith)
+      ∙ no_way (after tok.OpenParenthesis rest) _ _ (no_after tok.OpenParenthesis 14 rest (omega arith) s));
 }
 
 goal_called : {d : ℕ} {ts : List Lexeme} {e : Tree} {es : Arguments} (xs : List Lexeme) (w : List ℕ) (ys : List Lexeme)
@@ -356,7 +344,7 @@ goal_called {d} {ts} {e} {es} xs w ys is g gs = record {
       ∙ suffix_on_is e (suc d) vs (all_parts es + 1 + p)
       ∙ first _ (λ a. suffix_on a.tree (suc d) a.rest a.left) (call e w es) rest p
       (select_word e (suc d) w (symbol tok.OpenParenthesis ∷ us) (all_parts es + 1 + p)
-      ∙ spends (all_parts es + 1 + p) (all_parts es + p) _ (omega arith)
+      ∙ spend_one (all_parts es + 1 + p) (all_parts es + p) _ (omega arith)
       ∙ ap (λ (o : Option FoundList). o >>= λ a. found (call e w a.arguments) a.rest a.left) (gs.step rest p (all_parts es + p) refl));
 }
 
@@ -377,7 +365,7 @@ goal_converted {d} {ts} {e} xs (w ∷ ws) l is g = record {
       ∙ suffix_on_is e d vs (1 + p)
       ∙ first _ (λ a. suffix_on a.tree d a.rest a.left) (cast e (record { path = w ∷ ws; number = None })) rest p
       (select_symbol e d tok.As (symbol tok.Less ∷ us) (1 + p)
-      ∙ spends (1 + p) p _ (omega arith)
+      ∙ spend_one (1 + p) p _ (omega arith)
       ∙ ap (λ (o : Option (Next (List (List ℕ)))). o >>= λ x. after tok.Greater x.behind >>= λ ws. found (cast e (record { path = x.what; number = None })) ws
       p) (path_read w ws (symbol tok.Greater ∷ rest) (omega arith)));
 }
@@ -393,7 +381,7 @@ goal_indexed {d} {ts} {e} {i} xs ys is gx gy = record {
       ∙ suffix_on_is e (suc d) (symbol tok.OpenBracket ∷ us) (parts i + 1 + p)
       ∙ first _ (λ a. suffix_on a.tree (suc d) a.rest a.left) (index e i) rest p
       (place_on_is e (suc d) us (parts i + 1 + p)
-      ∙ spends (parts i + 1 + p) (parts i + p) _ (omega arith)
+      ∙ spend_one (parts i + 1 + p) (parts i + p) _ (omega arith)
       ∙ first (read Whole d us (parts i + p)) _ i (symbol tok.CloseBracket ∷ rest) p
       (whole gy (symbol tok.CloseBracket ∷ rest) p (parts i + p) refl (omega arith)));
 }
@@ -405,7 +393,7 @@ goal_no_postfix {d} {ts} {e} g = record {
 }
 
 goal_literal : {d : ℕ} (c : Constant) → Goal Primary d (constant c ∷ []) (literal c)
-goal_literal {d} c = record { begins = omega arith; step = λ rest p q h s. primary_constant d rest q c ∙ spends q p _ (omega (arith, h)) }
+goal_literal {d} c = record { begins = omega arith; step = λ rest p q h s. primary_constant d rest q c ∙ spend_one q p _ (omega (arith, h)) }
 
 goal_name : {d : ℕ} (w : List ℕ) → is_left_out w ≡ false → Goal Primary d (word w ∷ []) (name_tree w)
 goal_name {d} w o = record {
@@ -414,7 +402,7 @@ goal_name {d} w o = record {
       primary_word d w rest q
       ∙ ap (λ b. if b then None else (path_on w rest >>= λ x. spend q (λ p. found (path_tree x.what) x.behind p))) o
       ∙ ap (λ (x : Option (Next (List (List ℕ)))). x >>= λ x. spend q (λ p. found (path_tree x.what) x.behind p)) (path_alone w rest s)
-      ∙ spends q p _ (omega (arith, h, parts_name w));
+      ∙ spend_one q p _ (omega (arith, h, parts_name w));
 }
 
 goal_member : {d : ℕ} {ts : List Lexeme} (w : List ℕ) (ws : List (List ℕ)) (m : List ℕ) → is_left_out w ≡ false → ts ≡ path_tokens (w ∷ (ws ++ m ∷ []))
@@ -435,13 +423,13 @@ goal_member {d} {ts} w ws m o is = record {
       primary_word d w (symbol tok.ColonColon ∷ word m ∷ rest) q
       ∙ ap (λ b. if b then None else (path_on w (symbol tok.ColonColon ∷ word m ∷ rest) >>= λ x. spend q (λ p. found (path_tree x.what) x.behind p))) o
       ∙ ap (λ (x : Option (Next (List (List ℕ)))). x >>= λ x. spend q (λ p. found (path_tree x.what) x.behind p)) (path_read w (m ∷ []) rest s)
-      ∙ spends q p _ (omega (arith, h))
+      ∙ spend_one q p _ (omega (arith, h))
   member_read w (v ∷ ws) m o rest p q d h s =
       let us : List Lexeme = path_tokens (v ∷ (ws ++ m ∷ [])) ++ rest in
       primary_word d w (symbol tok.ColonColon ∷ us) q
       ∙ ap (λ b. if b then None else (path_on w (symbol tok.ColonColon ∷ us) >>= λ x. spend q (λ p. found (path_tree x.what) x.behind p))) o
       ∙ ap (λ (x : Option (Next (List (List ℕ)))). x >>= λ x. spend q (λ p. found (path_tree x.what) x.behind p)) (path_read w (v ∷ (ws ++ m ∷ [])) rest s)
-      ∙ spends q p _ (omega (arith, h))
+      ∙ spend_one q p _ (omega (arith, h))
       ∙ ap (λ (x : List (List ℕ) × List ℕ). found (member (record { path = w ∷ x.0; name = x.1; given = None })) rest p)
       (λ i. (names_back (v ∷ ws) m i, last_back (v ∷ ws) m i))
 
@@ -467,7 +455,7 @@ goal_listed : {d : ℕ} {ts : List Lexeme} {es : Arguments} → GoalMore d ts es
 goal_listed {d} {ts} {es} g = record {
   step = λ rest p q h.
       read_list_is d (ts ++ symbol tok.CloseParenthesis ∷ rest) q
-      ∙ one_way (after tok.CloseParenthesis (ts ++ symbol tok.CloseParenthesis ∷ rest)) _ _
+      ∙ no_way (after tok.CloseParenthesis (ts ++ symbol tok.CloseParenthesis ∷ rest)) _ _
       (not_begun tok.CloseParenthesis 1 ts (symbol tok.CloseParenthesis ∷ rest) (omega arith) g.begins)
       ∙ g.step rest p q h;
 }

@@ -1,33 +1,23 @@
 -- What each exit of the parser's functions says of reading.
-use Rattle.std.specs.Prelude.{◌==◌}
-use Rattle.std.proofs.Common.{◌≡◌, ◌≢◌, ℕ, zero, suc, ◌<◌, Bool, false, List, [], ◌∷◌, ◌++◌, map, Option, Some, None, refl, sym, ap, ◌∙◌, arith}
-use Rattle.std.proofs.Common.{if◌then◌else◌}
-use Rattle.ksv_expr_syntax.specs.declared.token.Symbol.{Symbol}
+use Rattle.ksv_expr_syntax.proofs.Common.{◌==◌, ◌≡◌, ◌≢◌, ℕ, zero, suc, ◌<◌, Bool, false, List, [], ◌∷◌, ◌++◌, map, Option, Some, None, refl, sym, ap, ◌∙◌}
+use Rattle.ksv_expr_syntax.proofs.Common.{arith, if◌then◌else◌, Symbol, UnaryOperator, BinaryOperator, Precedence, Infix, Constant, Tree, unary, binary, choice}
+use Rattle.ksv_expr_syntax.proofs.Common.{call, index, Arguments, no_arguments, argument, Lexeme, constant, word, symbol, Level, Whole, Joined, Negation}
+use Rattle.ksv_expr_syntax.proofs.Common.{Comparison, Prefix, Postfix, Primary, tighter, join_tree, is_left_out, Next, next, Found, found, found_list, ◌>>=◌}
+use Rattle.ksv_expr_syntax.proofs.Common.{choose, spend, after, operator_at, comparison_at, prefix_at, path_at, path_tree, room, read, read_list, lexemes, view}
+use Rattle.ksv_expr_syntax.proofs.Common.{arguments_of, Placed, map-append, ◌≤◌}
 use Rattle.ksv_expr_syntax.specs.declared.token.Symbol.TheVariants as tok
-use Rattle.ksv_expr_tree.specs.declared.tree.UnaryOperator.{UnaryOperator}
 use Rattle.ksv_expr_tree.specs.declared.tree.UnaryOperator.TheVariants as unaries
-use Rattle.ksv_expr_tree.specs.declared.tree.BinaryOperator.{BinaryOperator}
-use Rattle.ksv_expr_syntax.specs.declared.token.Precedence.{Precedence}
 use Rattle.ksv_expr_syntax.specs.declared.token.Precedence.TheVariants as tier
-use Rattle.ksv_expr_syntax.specs.declared.token.Infix.{Infix}
 use Rattle.ksv_expr_syntax.specs.declared.token.Infix.TheVariants as infixes
-use Rattle.ksv_expr_tree.specs.Tree.{Constant, Tree, unary, binary, choice, call, index, Arguments, no_arguments, argument}
-use Rattle.ksv_expr_syntax.specs.Lexemes.{Lexeme, constant, word, symbol}
-use Rattle.ksv_expr_syntax.specs.Grammar.{Level, Whole, Joined, Negation, Comparison, Prefix, Postfix, Primary, tighter, join_tree, is_left_out}
-use Rattle.ksv_expr_syntax.specs.Reading.{Next, next, Found, found, found_list, ◌>>=◌, choose, spend, after, operator_at, comparison_at, prefix_at}
-use Rattle.ksv_expr_syntax.specs.Reading.{path_at, path_tree, room, read, read_list, place_on, select_on}
+use Rattle.ksv_expr_syntax.specs.Reading.{place_on, select_on}
 use Rattle.ksv_expr_syntax.specs.declared.parser.Opening.{Opening}
 use Rattle.ksv_expr_syntax.specs.declared.parser.Opening.TheVariants as openings
 use Rattle.ksv_expr_syntax.specs.Code.{Gives, GivesArms, IsWithin, inside, opened, with_tree, with_list, closing, right_at, place_at, list_at}
 use Rattle.ksv_expr_syntax.specs.Code.{arms_at, cast_at, member_on, member_at, literal_at, word_at, suffix_step, IsNoCall, OpensWith}
-use Rattle.ksv_expr_syntax.specs.Lexemes.{lexemes}
-use Rattle.ksv_expr_tree.specs.Tree.{view, arguments_of}
 use Rattle.ksv_expr_tree.specs.declared.tree.Expr.{Expr}
-use Rattle.ksv_expr_syntax.specs.declared.token.Placed.{Placed}
 use Rattle.ksv_expr_syntax.specs.declared.cursor.Rest.{Rest}
 use Rattle.ksv_expr_syntax.specs.declared.fault.ExprFault.{ExprFault}
-use Rattle.std.proofs.lemmas.List.{map-append}
-use Rattle.std.proofs.Common.{◌≤◌, ◌+◌, Result, Ok, Err}
+use Rattle.std.proofs.Common.{Result, Ok, Err}
 use Rattle.ksv_expr_syntax.proofs.Same.{spend_same}
 use Rattle.ksv_expr_syntax.proofs.Flow.{pick_on, join_on, compare_on, suffix_on, more_on, read_whole, pick_on_is, arm_on_is, read_joined, join_on_is}
 use Rattle.ksv_expr_syntax.proofs.Flow.{read_negation, negate_on_is, read_comparison, compare_on_is, read_prefix, prefix_on_is, read_postfix, suffix_on_is}

@@ -1,17 +1,14 @@
 -- Reading as equations without a bound on calls.
-use Rattle.std.proofs.Common.{◌≡◌, ℕ, suc, ◌+◌, ◌*◌, List, [], ◌∷◌, length, Option, None, refl, ap, ◌∙◌, arith, if◌then◌else◌}
-use Rattle.ksv_expr_syntax.specs.declared.token.Symbol.{Symbol}
+use Rattle.ksv_expr_syntax.proofs.Common.{◌≡◌, ℕ, suc, ◌+◌, ◌*◌, List, [], ◌∷◌, length, Option, None, refl, ap, ◌∙◌, arith, if◌then◌else◌, Symbol}
+use Rattle.ksv_expr_syntax.proofs.Common.{UnaryOperator, Precedence, Tree, literal, unary, binary, choice, call, index, cast, no_arguments, argument, Lexeme}
+use Rattle.ksv_expr_syntax.proofs.Common.{constant, word, symbol, Whole, Joined, Negation, Comparison, Prefix, Postfix, Primary, tighter, join_tree}
+use Rattle.ksv_expr_syntax.proofs.Common.{select_tree, is_left_out, Found, FoundList, found, found_list, ◌>>=◌, choose, spend, after, operator_at}
+use Rattle.ksv_expr_syntax.proofs.Common.{comparison_at, prefix_at, path_at, path_on, path_tree, reads, picks, arms, joins, negates, compares, prefixes}
+use Rattle.ksv_expr_syntax.proofs.Common.{goes_on, places, selects, groups, reads_list, reads_more, room, wide, read, read_list}
 use Rattle.ksv_expr_syntax.specs.declared.token.Symbol.TheVariants as tok
-use Rattle.ksv_expr_tree.specs.declared.tree.UnaryOperator.{UnaryOperator}
 use Rattle.ksv_expr_tree.specs.declared.tree.UnaryOperator.TheVariants as unaries
-use Rattle.ksv_expr_syntax.specs.declared.token.Precedence.{Precedence}
 use Rattle.ksv_expr_syntax.specs.declared.token.Precedence.TheVariants as tier
-use Rattle.ksv_expr_tree.specs.Tree.{Tree, literal, unary, binary, choice, call, index, cast, no_arguments, argument}
-use Rattle.ksv_expr_syntax.specs.Lexemes.{Lexeme, constant, word, symbol}
-use Rattle.ksv_expr_syntax.specs.Grammar.{Whole, Joined, Negation, Comparison, Prefix, Postfix, Primary, tighter, join_tree, select_tree, is_left_out}
-use Rattle.ksv_expr_syntax.specs.Reading.{Found, FoundList, found, found_list, ◌>>=◌, choose, spend, after, operator_at, comparison_at, prefix_at, path_at}
-use Rattle.ksv_expr_syntax.specs.Reading.{path_on, path_tree, reads, picks, arms, joins, negates, compares, prefixes, goes_on, places, selects, groups}
-use Rattle.ksv_expr_syntax.specs.Reading.{reads_list, reads_more, room, wide, read, read_list, place_on, select_on}
+use Rattle.ksv_expr_syntax.specs.Reading.{place_on, select_on}
 use Rattle.ksv_expr_syntax.proofs.Same.{shrinks, after_shrinks, operator_shrinks, comparison_shrinks, prefix_shrinks, places_shrinks, selects_shrinks}
 use Rattle.ksv_expr_syntax.proofs.Same.{bind_same, choose_same, spend_same, room_tighter, room_least, room_most, same_reads, same_picks, same_arms, same_joins}
 use Rattle.ksv_expr_syntax.proofs.Same.{same_negates, same_compares, same_prefixes, same_goes_on, same_places, same_selects, same_groups, same_list, same_more}

@@ -1,28 +1,21 @@
 -- Facts about cutting a text.
-use Rattle.std.proofs.Common.{◌≡◌, ◌≢◌, ℕ, zero, suc, ◌+◌, ◌*◌, ◌^◌, ◌<◌, ◌≤◌, Bool, true, false, ◌&&◌, List, [], ◌∷◌, ◌++◌, length, take, drop, Option, Some}
-use Rattle.std.proofs.Common.{None, refl, sym, ap, subst, ◌∙◌, append_assoc, arith, if◌then◌else◌}
-use Rattle.std.specs.Prelude.{◌==◌, take_while, slice_index, IsUtf8, encode_utf8, All}
+use Rattle.ksv_expr_syntax.proofs.Common.{◌≡◌, ◌≢◌, ℕ, zero, suc, ◌+◌, ◌*◌, ◌<◌, ◌≤◌, Bool, true, false, ◌&&◌, List, [], ◌∷◌, ◌++◌, length, take, Option, Some}
+use Rattle.ksv_expr_syntax.proofs.Common.{None, refl, sym, ap, subst, ◌∙◌, append_assoc, arith, if◌then◌else◌, ◌==◌, take_while, IsUtf8, encode_utf8}
+use Rattle.ksv_expr_syntax.proofs.Common.{inl, inr, string, constant, is_name_byte, natural, cut_at, put, quoted, ◌>>=◌}
+use Rattle.std.proofs.Common.{◌^◌, drop, cond}
+use Rattle.std.specs.Prelude.{slice_index, All, MatchOption}
 use Rattle.std.specs.Str.{is_utf8}
 use Rattle.std.proofs.lemmas.Str.{IsUtf8-from_is_utf8, is_utf8-from_IsUtf8, IsUtf8-from_ascii}
 use Rattle.std.proofs.lemmas.Str.Ascii.{IsAscii-from_all}
 use Rattle.std.proofs.lemmas.List.Sums.{take_while-cons}
 use Rattle.std.proofs.lemmas.Bool.{ne_eqb}
-use Rattle.std.proofs.Common.{cond, inl, inr}
 use Rattle.std.proofs.lemmas.Bool.Decides.{nat_tests}
-use Rattle.std.specs.Prelude.{MatchOption}
 use Rattle.std.specs.Option.{SomeIff}
 use Rattle.std.specs.Char.{IsScalar, InScalarRange, OutOfScalarRange, is_ascii_hexdigit}
-use Rattle.ksv_expr_tree.specs.Tree.{string}
-use Rattle.ksv_expr_syntax.specs.Lexemes.{constant}
-use Rattle.ksv_expr_syntax.specs.Tokens.{is_name_byte, unicode_of, four_digits, is_surrogate, base, digit_value, natural}
-use Rattle.ksv_expr_syntax.specs.Cutting.{cut_at, text_of, Quoted, put, quoted, escaped, unicode}
+use Rattle.ksv_expr_syntax.specs.Tokens.{unicode_of, four_digits, is_surrogate, base, digit_value}
+use Rattle.ksv_expr_syntax.specs.Cutting.{text_of, Quoted, escaped, unicode}
 use Rattle.ksv_expr_syntax.specs.declared.lexer.Radix.{Radix}
 use Rattle.ksv_expr_syntax.specs.declared.lexer.Radix.TheVariants as radices
-use Rattle.ksv_expr_syntax.specs.Reading.{◌>>=◌}
-
-pub both : (a b : Bool) → (a && b) ≡ true → (a ≡ true) × (b ≡ true)
-both true b h = (refl, h)
-both false b h = absurd cc
 
 pub take_run : (p : ℕ → Bool) (bs : List ℕ) → take (length (take_while p bs)) bs ≡ take_while p bs
 take_run p [] = refl

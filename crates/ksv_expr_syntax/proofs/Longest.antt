@@ -1,56 +1,42 @@
 -- What is cut at a place is the longest token there.
-use Rattle.std.proofs.Common.{◌≡◌, ◌≢◌, ℕ, suc, ◌+◌, ◌-◌, ◌^◌, ◌<◌, ◌≤◌, Bool, true, false, ◌||◌, ◌&&◌, List, [], ◌∷◌, ◌++◌, length, take, drop, get_or, Option}
-use Rattle.std.proofs.Common.{Some, None, refl, sym, ap, subst, ◌∙◌, append_assoc, arith, if◌then◌else◌, cond, inl, inr, ◌⊎◌, ltb-true, lt-ltb, length-append}
-use Rattle.std.proofs.Common.{length-drop}
-use Rattle.std.specs.Prelude.{◌==◌, take_while, slice_index, codes, bytes_eq, IsUtf8, nat_lt, encode_utf8, All, position, IsTrue, ◌↔◌}
+use Rattle.ksv_expr_syntax.proofs.Common.{◌≡◌, ◌≢◌, ℕ, suc, ◌+◌, ◌<◌, ◌≤◌, Bool, true, false, ◌&&◌, List, [], ◌∷◌, ◌++◌, length, take, Option, Some, None, refl}
+use Rattle.ksv_expr_syntax.proofs.Common.{sym, ap, subst, ◌∙◌, append_assoc, arith, if◌then◌else◌, inl, inr, length-append, ◌==◌, take_while}
+use Rattle.ksv_expr_syntax.proofs.Common.{encode_utf8, append-nil, and_parts, Symbol, string, spelling, Lexeme, constant, symbol, ◌>>=◌, is_name_byte, natural}
+use Rattle.ksv_expr_syntax.proofs.Common.{cut_at, put, quoted, cut}
+use Rattle.std.proofs.Common.{◌-◌, ◌^◌, ◌||◌, drop, get_or, cond, ◌⊎◌, ltb-true, lt-ltb, length-drop}
+use Rattle.std.specs.Prelude.{slice_index, codes, bytes_eq, nat_lt, All, position, IsTrue, ◌↔◌}
 use Rattle.std.specs.Char.{is_ascii_lowercase, is_ascii_digit}
 use Rattle.std.specs.Str.{is_utf8}
 use Rattle.std.specs.List.{position_or_len}
 use mathlib.Core.Bool.{not}
-use Rattle.std.proofs.lemmas.Str.{IsUtf8-from_is_utf8, is_utf8-from_IsUtf8}
+use Rattle.std.proofs.lemmas.Str.{IsUtf8-from_is_utf8}
 use Rattle.std.proofs.lemmas.Slice.Eq.{bytes_eq-Decides}
-use Rattle.std.proofs.lemmas.List.{append-nil, take-append-drop, drop_more, take_at, drop_at, get_or-take, length-take-le}
+use Rattle.std.proofs.lemmas.List.{take-append-drop, drop_more, take_at, drop_at, get_or-take, length-take-le}
 use Rattle.std.proofs.lemmas.List.Elements.{All-push}
 use Rattle.std.proofs.lemmas.List.Sums.{take_while-cons}
 use Rattle.std.proofs.lemmas.List.Quantifiers.{position-Some}
-use Rattle.std.proofs.lemmas.Bool.{ne_eqb, eqb-true, eq-eqb}
+use Rattle.std.proofs.lemmas.Bool.{ne_eqb, eqb-true, eq-eqb, false_from_ne_true, or_cases, or_parts}
 use Rattle.std.proofs.lemmas.Bool.Decides.{nat_tests}
-use Rattle.ksv_expr_syntax.specs.declared.token.Symbol.{Symbol}
 use Rattle.ksv_expr_syntax.specs.declared.token.Symbol.TheVariants as tok
 use Rattle.ksv_expr_syntax.specs.declared.lexer.Radix.{Radix}
 use Rattle.ksv_expr_syntax.specs.declared.lexer.Radix.TheVariants as radices
-use Rattle.ksv_expr_tree.specs.Tree.{integer, string}
-use Rattle.ksv_expr_syntax.specs.Symbols.{spelling, is_word, two_bytes, one_byte}
-use Rattle.ksv_expr_syntax.specs.Lexemes.{Lexeme, constant, symbol}
-use Rattle.ksv_expr_syntax.specs.Reading.{◌>>=◌}
-use Rattle.ksv_expr_syntax.specs.Tokens.{Cut, is_name_start, is_name_byte, word_lexeme, is_digit, natural, escape_of, unicode_of, IsName, begun, IsDigits}
-use Rattle.ksv_expr_syntax.specs.Tokens.{last_digit, one_digit, digit_and_line, number_prefix, is_padded, BeginsFloat, fraction, exponent, signed_exponent}
-use Rattle.ksv_expr_syntax.specs.Tokens.{IsQuoted, nothing, plain_byte, letter_escape, digits_escape, HasShape, like_name, like_number}
-use Rattle.ksv_expr_syntax.specs.Tokens.{like_single, like_double, like_symbol, like_float, like_format, IsToken, name, number, single, double, sign, IsLongest}
-use Rattle.ksv_expr_syntax.specs.Tokens.{skip, less_follows}
-use Rattle.ksv_expr_syntax.specs.Cutting.{cut_at, cut_name, radix_of, prefix_size, run, run_behind, goes_on_as_float, is_left_out_number, number_of, cut_number}
-use Rattle.ksv_expr_syntax.specs.Cutting.{text_of, cut_single, Quoted, put, quoted, escaped, unicode, cut_double, cut_symbol, cut}
-use Rattle.ksv_expr_syntax.proofs.Steps.{bind_some}
+use Rattle.ksv_expr_tree.specs.Tree.{integer}
+use Rattle.ksv_expr_syntax.specs.Symbols.{is_word, two_bytes, one_byte}
+use Rattle.ksv_expr_syntax.specs.Tokens.{Cut, is_name_start, word_lexeme, is_digit, escape_of, unicode_of, IsName, begun, IsDigits, last_digit, one_digit}
+use Rattle.ksv_expr_syntax.specs.Tokens.{digit_and_line, number_prefix, is_padded, BeginsFloat, fraction, exponent, signed_exponent, IsQuoted, nothing}
+use Rattle.ksv_expr_syntax.specs.Tokens.{plain_byte, letter_escape, digits_escape, HasShape, like_name, like_number, like_single, like_double, like_symbol}
+use Rattle.ksv_expr_syntax.specs.Tokens.{like_float, like_format, IsToken, name, number, single, double, sign, IsLongest, skip, less_follows}
+use Rattle.ksv_expr_syntax.specs.Cutting.{cut_name, radix_of, prefix_size, run, run_behind, goes_on_as_float, is_left_out_number, number_of, cut_number}
+use Rattle.ksv_expr_syntax.specs.Cutting.{text_of, cut_single, Quoted, escaped, unicode, cut_double, cut_symbol}
+use Rattle.ksv_expr_syntax.proofs.Steps.{bind_some, if_some}
 use Rattle.ksv_expr_syntax.proofs.Symbols.{TwoBytes, OneByte, two_found, one_found, IsFound, by_one, by_two, is_found}
-use Rattle.ksv_expr_syntax.proofs.Lexing.{both, take_run, all_cons, all_of_run}
+use Rattle.ksv_expr_syntax.proofs.Lexing.{take_run, all_cons, all_of_run, text_is}
 
 -- ---- tests
 
 none_or : {A : Type 0} (b : Bool) (x y : A) → (if b then None else Some x) ≡ Some y → (b ≡ false) × (x ≡ y)
 none_or true x y h = absurd cc
 none_or false x y h = (refl, cc)
-
-some_or : {A : Type 0} (b : Bool) (x y : A) → (if b then Some x else None) ≡ Some y → (b ≡ true) × (x ≡ y)
-some_or true x y h = (refl, cc)
-some_or false x y h = absurd cc
-
-is_false : (b : Bool) → (b ≡ true → ⊥) → b ≡ false
-is_false true h = absurd (h refl)
-is_false false h = refl
-
-either : (a b : Bool) → (a || b) ≡ true → (a ≡ true) ⊎ (b ≡ true)
-either true b h = inl refl
-either false b h = inr h
 
 head_of : (P : ℕ → Type 0) (c : ℕ) (cs : List ℕ) → All P (c ∷ cs) → P c
 head_of P c cs h = h 0 c (omega arith)
@@ -61,7 +47,7 @@ tail_of P c cs h = λ k d l. h (suc k) d (omega arith)
 -- ---- the first byte tells the class
 
 digit_no_name : (c : ℕ) → is_ascii_digit c ≡ true → is_name_start c ≡ false
-digit_no_name c h = is_false (is_name_start c) (λ e. absurd (grind (arith, nat_tests, h, e)))
+digit_no_name c h = false_from_ne_true (is_name_start c) (λ e. absurd (grind (arith, nat_tests, h, e)))
 
 at_name : (c : ℕ) (cs : List ℕ) → is_name_start c ≡ true → cut (c ∷ cs) ≡ cut_name (c ∷ cs)
 at_name c cs h = ap (λ b. if b then cut_name (c ∷ cs) else if is_ascii_digit c then cut_number (c ∷ cs) else if c == 39 then cut_single cs else if c == 34
@@ -175,7 +161,7 @@ number_cut r ds rest x h =
     → NumberCut r ds rest x) [
       | true ↦ λ e h. absurd cc
       | false ↦ λ e h.
-          let s = some_or (nat_lt (natural r 0 ds) (2 ^ 64)) (record { lexeme = constant (integer (natural r 0 ds)); rest = rest }) x h in
+          let s = if_some (nat_lt (natural r 0 ds) (2 ^ 64)) (record { lexeme = constant (integer (natural r 0 ds)); rest = rest }) x h in
           record { kept = e; bound = ltb-true _ _ s.0; is = s.1 }
     ] refl h
 
@@ -217,10 +203,10 @@ cut_binary ds rest k =
     as_radix radices.Binary (48 ∷ 98 ∷ (ds ++ rest)) e
 
 digit_no_x : (d : ℕ) → is_ascii_digit d ≡ true → (d == 120) ≡ false
-digit_no_x d h = is_false (d == 120) (λ e. absurd (grind (arith, nat_tests, h, e)))
+digit_no_x d h = false_from_ne_true (d == 120) (λ e. absurd (grind (arith, nat_tests, h, e)))
 
 digit_no_b : (d : ℕ) → is_ascii_digit d ≡ true → (d == 98) ≡ false
-digit_no_b d h = is_false (d == 98) (λ e. absurd (grind (arith, nat_tests, h, e)))
+digit_no_b d h = false_from_ne_true (d == 98) (λ e. absurd (grind (arith, nat_tests, h, e)))
 
 -- a decimal of more than one byte has no other base
 decimal_radix : (ds rest : List ℕ) → IsDigits radices.Decimal ds → 1 < length ds → radix_of (ds ++ rest) ≡ radices.Decimal
@@ -274,7 +260,7 @@ number_whole r ds rest k z =
 -- ---- floats
 
 exponent_is : (P : ℕ → Type 0) (e : ℕ) → (e == 101 || e == 69) ≡ true → P 101 → P 69 → P e
-exponent_is P e h p q = elim (either (e == 101) (e == 69) h) [
+exponent_is P e h p q = elim (or_cases (e == 101) (e == 69) h) [
   | inl k ↦ subst P (sym (eqb-true e 101 k)) p
   | inr k ↦ subst P (sym (eqb-true e 69 k)) q
 ]
@@ -346,7 +332,7 @@ single_is bs r h =
     ∙ ap (λ us. text_of bs (drop 1 us)) (drop_at bs (39 ∷ r) (length bs) refl)
 
 escape_no_u : (c u : ℕ) → escape_of c ≡ Some u → (c == 117) ≡ false
-escape_no_u c u h = is_false (c == 117) (λ e. let k : escape_of 117 ≡ Some u = sym (ap escape_of (eqb-true c 117 e)) ∙ h in absurd cc)
+escape_no_u c u h = false_from_ne_true (c == 117) (λ e. let k : escape_of 117 ≡ Some u = sym (ap escape_of (eqb-true c 117 e)) ∙ h in absurd cc)
 
 quoted_is : (bs cs r : List ℕ) → IsQuoted bs cs → quoted (bs ++ 34 ∷ r) ≡ Some (record { bytes = cs; rest = r })
 quoted_is bs cs r nothing = refl
@@ -367,7 +353,7 @@ double_is : (bs cs r : List ℕ) → IsQuoted bs cs → cut_double (bs ++ 34 ∷
 double_is bs cs r h = ap (λ o. o >>= λ (q : Quoted). text_of q.bytes q.rest) (quoted_is bs cs r h)
 
 text_cut : (bs r : List ℕ) (x : Cut) → text_of bs r ≡ Some x → (is_utf8 bs ≡ true) × (record { lexeme = constant (string bs); rest = r } ≡ x)
-text_cut bs r x h = some_or (is_utf8 bs) (record { lexeme = constant (string bs); rest = r }) x h
+text_cut bs r x h = if_some (is_utf8 bs) (record { lexeme = constant (string bs); rest = r }) x h
 
 text_longer : (bs r : List ℕ) (x : Cut) → text_of bs r ≡ Some x → length x.rest ≤ length r
 text_longer bs r x h = omega (arith, ap (λ (x : Cut). length x.rest) (text_cut bs r x h).1)
@@ -483,19 +469,15 @@ take_digits r c (d ∷ e ∷ us) h =
       ] refl
     ] refl
 
-or_false : (a b : Bool) → (a || b) ≡ false → (a ≡ false) × (b ≡ false)
-or_false true b h = absurd cc
-or_false false b h = (refl, h)
-
 not_padded : (r : Radix) (ds rest : List ℕ) → is_left_out_number r ds rest ≡ false → is_padded r ds ≡ false
 not_padded radices.Binary ds rest h = refl
 not_padded radices.Hexadecimal ds rest h = refl
 not_padded radices.Decimal [] rest h = refl
 not_padded radices.Decimal (c ∷ []) rest h = refl
 not_padded radices.Decimal (c ∷ d ∷ ds) rest h =
-    let o = or_false (goes_on_as_float rest) (c == 48 && nat_lt 1 (length (c ∷ d ∷ ds))) h in
-    is_false (c == 48) (λ e. let z : true ≡ false = sym (ap (λ b. b && nat_lt 1 (length (c ∷ d ∷ ds))) e ∙ lt-ltb 1 (length (c ∷ d ∷ ds)) (omega arith))
-    ∙ o.1 in cc)
+    let o = or_parts (goes_on_as_float rest) (c == 48 && nat_lt 1 (length (c ∷ d ∷ ds))) h in
+    false_from_ne_true (c == 48) (λ e.
+    let z : true ≡ false = sym (ap (λ b. b && nat_lt 1 (length (c ∷ d ∷ ds))) e ∙ lt-ltb 1 (length (c ∷ d ∷ ds)) (omega arith)) ∙ o.1 in cc)
 
 number_token : (r : Radix) (text us : List ℕ) (c : ℕ) (cs : List ℕ) (x : Cut) → text ≡ number_prefix r ++ us → us ≡ c ∷ cs → is_digit r c ≡ true
     → number_at r us ≡ Some x → TokenAt text x
@@ -525,8 +507,8 @@ prefixed p r (a ∷ b ∷ d ∷ us) l z h j k =
 prefix_tested : (p : ℕ) (r : Radix) (bs : List ℕ) → 0 < p → is_digit r 0 ≡ false
     → (slice_index bs 0 == 48 && slice_index bs 1 == p && is_digit r (slice_index bs 2)) ≡ true → Prefixed p r bs
 prefix_tested p r bs l z h =
-    let e = both (slice_index bs 0 == 48 && slice_index bs 1 == p) (is_digit r (slice_index bs 2)) h in
-    let f = both (slice_index bs 0 == 48) (slice_index bs 1 == p) e.0 in
+    let e = and_parts (slice_index bs 0 == 48 && slice_index bs 1 == p) (is_digit r (slice_index bs 2)) h in
+    let f = and_parts (slice_index bs 0 == 48) (slice_index bs 1 == p) e.0 in
     prefixed p r bs l z f.0 f.1 e.1
 
 -- how the number at the front is written tells its prefix
@@ -728,14 +710,14 @@ name_stops w [] k n = refl
 name_stops w (d ∷ us) (begun {c} {cs} h k) n =
     take_while-cons is_name_byte d us
     ∙ ap (λ b. cond b (d ∷ take_while is_name_byte us) [])
-    (is_false (is_name_byte d) (λ e. not_with w (d ∷ []) us n (omega arith) (like_name (begun h (All-push (λ b. is_name_byte b ≡ true) cs d k e)))))
+    (false_from_ne_true (is_name_byte d) (λ e. not_with w (d ∷ []) us n (omega arith) (like_name (begun h (All-push (λ b. is_name_byte b ≡ true) cs d k e)))))
 
 not_format : (w rest : List ℕ) → NoLonger w rest → (bytes_eq w (codes "f") && slice_index rest 0 == 34) ≡ false
-not_format w [] n = is_false (bytes_eq w (codes "f") && slice_index [] 0 == 34)
-    (λ e. let k = (both (bytes_eq w (codes "f")) (slice_index [] 0 == 34) e).1 in absurd cc)
+not_format w [] n = false_from_ne_true (bytes_eq w (codes "f") && slice_index [] 0 == 34)
+    (λ e. let k = (and_parts (bytes_eq w (codes "f")) (slice_index [] 0 == 34) e).1 in absurd cc)
 not_format w (d ∷ us) n =
-    is_false (bytes_eq w (codes "f") && d == 34) (λ e.
-    let k = both (bytes_eq w (codes "f")) (d == 34) e in
+    false_from_ne_true (bytes_eq w (codes "f") && d == 34) (λ e.
+    let k = and_parts (bytes_eq w (codes "f")) (d == 34) e in
     let i : w ≡ codes "f" = (bytes_eq-Decides w (codes "f")).0 k.0 in
     let j : w ++ d ∷ us ≡ codes "f\"" ++ us = ap (λ w. w ++ d ∷ us) i ∙ ap (λ d. 102 ∷ d ∷ us) (eqb-true d 34 k.1) in
     n (codes "f\"") us j (omega (arith, ap length i)) like_format)
@@ -769,12 +751,12 @@ behind_stops : (r : Radix) (ds us : List ℕ) → IsDigits r ds
     → ((next behind : List ℕ) → us ≡ next ++ behind → 0 < length next → IsDigits r (ds ++ 95 ∷ next) → ⊥) → run_behind r us ≡ 0
 behind_stops r ds [] k n = refl
 behind_stops r ds (e ∷ us) k n = ap (λ b. if b then suc (suc (run r us)) else 0)
-    (is_false (is_digit r e) (λ h. n (e ∷ []) us refl (omega arith) (digits_push_line r ds e k h)))
+    (false_from_ne_true (is_digit r e) (λ h. n (e ∷ []) us refl (omega arith) (digits_push_line r ds e k h)))
 
 digits_stop : (r : Radix) (ds rest : List ℕ) → IsDigits r ds → NoMore r ds rest → run r rest ≡ 0
 digits_stop r ds [] k n = refl
 digits_stop r ds (d ∷ us) k n =
-    let e : is_digit r d ≡ false = is_false (is_digit r d) (λ e. n (d ∷ []) us refl (omega arith) (digits_push r ds d k e)) in
+    let e : is_digit r d ≡ false = false_from_ne_true (is_digit r d) (λ e. n (d ∷ []) us refl (omega arith) (digits_push r ds d k e)) in
     elim (d == 95) as (λ b. (d == 95) ≡ b → run r (d ∷ us) ≡ 0) [
       | true ↦ λ l. line_stop r d us l e
           (behind_stops r ds us k
@@ -819,13 +801,13 @@ float_front rest h =
     let s0 = slice_index rest 0 in
     let s1 = slice_index rest 1 in
     let s2 = slice_index rest 2 in
-    elim (either (s0 == 46 && is_ascii_digit s1) ((s0 == 101 || s0 == 69) && (is_ascii_digit s1 || ((s1 == 43 || s1 == 45) && is_ascii_digit s2))) h) [
-      | inl e ↦ let k = both (s0 == 46) (is_ascii_digit s1) e in fraction_front rest k.0 k.1
+    elim (or_cases (s0 == 46 && is_ascii_digit s1) ((s0 == 101 || s0 == 69) && (is_ascii_digit s1 || ((s1 == 43 || s1 == 45) && is_ascii_digit s2))) h) [
+      | inl e ↦ let k = and_parts (s0 == 46) (is_ascii_digit s1) e in fraction_front rest k.0 k.1
       | inr e ↦
-          let k = both (s0 == 101 || s0 == 69) (is_ascii_digit s1 || ((s1 == 43 || s1 == 45) && is_ascii_digit s2)) e in
-          elim (either (is_ascii_digit s1) ((s1 == 43 || s1 == 45) && is_ascii_digit s2) k.1) [
+          let k = and_parts (s0 == 101 || s0 == 69) (is_ascii_digit s1 || ((s1 == 43 || s1 == 45) && is_ascii_digit s2)) e in
+          elim (or_cases (is_ascii_digit s1) ((s1 == 43 || s1 == 45) && is_ascii_digit s2) k.1) [
             | inl j ↦ exponent_front rest k.0 j
-            | inr j ↦ let i = both (s1 == 43 || s1 == 45) (is_ascii_digit s2) j in signed_front rest k.0 i.0 i.1
+            | inr j ↦ let i = and_parts (s1 == 43 || s1 == 45) (is_ascii_digit s2) j in signed_front rest k.0 i.0 i.1
           ]
     ]
 
@@ -839,7 +821,7 @@ kept_number : (r : Radix) (ds rest : List ℕ) → IsDigits r ds → is_padded r
 kept_number radices.Binary ds rest k p n = refl
 kept_number radices.Hexadecimal ds rest k p n = refl
 kept_number radices.Decimal ds rest k p n =
-    let no_float : goes_on_as_float rest ≡ false = is_false (goes_on_as_float rest) (λ e.
+    let no_float : goes_on_as_float rest ≡ false = false_from_ne_true (goes_on_as_float rest) (λ e.
     let f = float_front rest e in
     let g = float_head f.front f.begins in
     n (ds ++ f.front) f.behind (ap (λ us. ds ++ us) f.split ∙ sym (append_assoc ds f.front f.behind)) (omega (arith, length-append ds f.front, ap length g.2))
@@ -897,21 +879,18 @@ symbol_is_cut : (s : Symbol) (bs rest : List ℕ) → IsFound s bs → NoLonger 
 symbol_is_cut s bs rest (by_one c b k) n = k rest ∙ byte_is_cut c s rest b n
 symbol_is_cut s bs rest (by_two c d k) n = k rest
 
-text_kept : (bs rest : List ℕ) → IsUtf8 bs → text_of bs rest ≡ cut_at (constant (string bs)) rest
-text_kept bs rest u = ap (λ b. if b then cut_at (constant (string bs)) rest else None) (is_utf8-from_IsUtf8 bs u)
-
 token_is_cut : (piece rest : List ℕ) (t : Lexeme) → IsToken piece t → NoLonger piece rest → cut (piece ++ rest) ≡ cut_at t rest
 token_is_cut piece rest t (name k) n = name_is_cut piece rest k n
 token_is_cut piece rest t (number r ds k p b e) n =
     let P : List ℕ → Type 0 = λ ts. NoLonger ts rest in
     ap cut (ap (λ ts. ts ++ rest) e ∙ append_assoc (number_prefix r) ds rest) ∙ number_is_cut r ds rest k p b (subst P e n)
 token_is_cut piece rest t (single bs k u e) n = ap cut (ap (λ ts. ts ++ rest) e ∙ append_assoc (39 ∷ bs) (39 ∷ []) rest) ∙ single_is bs rest k
-    ∙ text_kept bs rest u
+    ∙ text_is bs rest u
 token_is_cut piece rest t (double bs cs k u e) n = ap cut (ap (λ ts. ts ++ rest) e ∙ append_assoc (34 ∷ bs) (34 ∷ []) rest) ∙ double_is bs cs rest k
-    ∙ text_kept cs rest u
+    ∙ text_is cs rest u
 token_is_cut piece rest t (sign s w) n = symbol_is_cut s (spelling s) rest (is_found s w) n
 
-is_cut : (text : List ℕ) (x : Cut) → IsLongest text x → cut text ≡ Some x
+pub is_cut : (text : List ℕ) (x : Cut) → IsLongest text x → cut text ≡ Some x
 is_cut text x l = ap cut l.split ∙ token_is_cut l.piece x.rest x.lexeme l.means (λ more behind s. l.longest more behind (l.split ∙ s))
 
 -- what is cut at a place is the longest token there
@@ -961,13 +940,13 @@ ends_less_is : (d : ℕ) → ends_less d ≡ true → ((d == 60) ≡ false) × (
 ends_less_is d h = elim (d == 60 || d == 61) as (λ b. (d == 60 || d == 61) ≡ b → (if b then false else true) ≡ true
     → ((d == 60) ≡ false) × ((d == 61) ≡ false)) [
       | true ↦ λ e h. absurd cc
-      | false ↦ λ e h. or_false (d == 60) (d == 61) e
+      | false ↦ λ e h. or_parts (d == 60) (d == 61) e
     ] refl h
 
 less_forth : (bs : List ℕ) → (slice_index bs 0 == 60 && ends_less (slice_index bs 1)) ≡ true → cut bs ≡ cut_at (symbol tok.Less) (drop 1 bs)
 less_forth [] h = absurd cc
 less_forth (a ∷ us) h =
-    let k = both (a == 60) (ends_less (slice_index (a ∷ us) 1)) h in
+    let k = and_parts (a == 60) (ends_less (slice_index (a ∷ us) 1)) h in
     let d = slice_index (a ∷ us) 1 in
     let e = ends_less_is d k.1 in
     let i : two_bytes 60 d ≡ None = ap (λ b. if b then Some tok.ShiftLeft else if d == 61 then Some tok.LessOrEqual else None) e.0
@@ -979,7 +958,7 @@ less_ends : (rest : List ℕ) → ((d : ℕ) (us : List ℕ) → 60 ∷ rest ≡
     → ends_less (slice_index (60 ∷ rest) 1) ≡ true
 less_ends [] n = refl
 less_ends (d ∷ us) n =
-    ap (λ b. if b then false else true) (is_false (d == 60 || d == 61) (λ e. elim (either (d == 60) (d == 61) e) [
+    ap (λ b. if b then false else true) (false_from_ne_true (d == 60 || d == 61) (λ e. elim (or_cases (d == 60) (d == 61) e) [
       | inl h ↦ n d us refl (tok.ShiftLeft, ap (λ d. 60 ∷ d ∷ []) (sym (eqb-true d 60 h)), refl)
       | inr h ↦ n d us refl (tok.LessOrEqual, ap (λ d. 60 ∷ d ∷ []) (sym (eqb-true d 61 h)), refl)
     ]))

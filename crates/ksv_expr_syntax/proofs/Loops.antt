@@ -1,9 +1,8 @@
 -- Where the parser's loops stand.
-use Rattle.std.proofs.Common.{◌≡◌, ℕ, true, false, List, [], ◌∷◌, ◌++◌, Option, Some, None, refl, sym, ap, ◌∙◌, append_assoc, if◌then◌else◌}
+use Rattle.ksv_expr_syntax.proofs.Common.{◌≡◌, ℕ, true, false, List, [], ◌∷◌, ◌++◌, Option, Some, None, refl, sym, ap, ◌∙◌, append_assoc, if◌then◌else◌, Lexeme}
+use Rattle.ksv_expr_syntax.proofs.Common.{constant, word, symbol, Next, next, ◌>>=◌, choose, after, path_at, path_on}
 use Rattle.ksv_expr_syntax.specs.contracts.token.SymbolPartialEq.TheImpl.{ghosts as symbol_tests}
 use Rattle.ksv_expr_syntax.specs.declared.token.Symbol.TheVariants as tok
-use Rattle.ksv_expr_syntax.specs.Lexemes.{Lexeme, constant, word, symbol}
-use Rattle.ksv_expr_syntax.specs.Reading.{Next, next, ◌>>=◌, choose, after, path_at, path_on}
 
 -- after a name, by what is there
 pub path_on_is : (w : List ℕ) (ts : List Lexeme) → path_on w ts

@@ -1,20 +1,15 @@
 -- With enough nested calls, more of them read nothing else.
-use Rattle.std.proofs.Common.{◌≡◌, ℕ, zero, suc, ◌+◌, ◌*◌, ◌≤◌, ◌<◌, List, [], ◌∷◌, ◌++◌, length, length-append, Option, Some, None, refl, ap, ◌∙◌, arith, inl}
-use Rattle.std.proofs.Common.{inr}
-use Rattle.ksv_expr_syntax.specs.declared.token.Symbol.{Symbol}
+use Rattle.ksv_expr_syntax.proofs.Common.{◌≡◌, ℕ, zero, suc, ◌+◌, ◌*◌, ◌≤◌, ◌<◌, List, [], ◌∷◌, ◌++◌, length, length-append, Option, Some, None, refl, ap, ◌∙◌}
+use Rattle.ksv_expr_syntax.proofs.Common.{arith, inl, inr, Symbol, UnaryOperator, Precedence, Tree, unary, binary, choice, call, index, cast, no_arguments}
+use Rattle.ksv_expr_syntax.proofs.Common.{argument, Lexeme, constant, word, symbol, Level, Whole, Joined, Negation, Comparison, Prefix, Postfix, Primary}
+use Rattle.ksv_expr_syntax.proofs.Common.{tighter, join_tree, select_tree, path_tokens, Spells, pick, no_pick, join, no_join, negation, no_negation, compare}
+use Rattle.ksv_expr_syntax.proofs.Common.{no_compare, prefixed, no_prefix, selected, called, converted, indexed, no_postfix, literal_alone, name_alone}
+use Rattle.ksv_expr_syntax.proofs.Common.{enum_member, group, Next, Found, FoundList, found, found_list, ◌>>=◌, choose, spend, after, operator_at}
+use Rattle.ksv_expr_syntax.proofs.Common.{comparison_at, prefix_at, path_at, reads, picks, arms, joins, negates, compares, prefixes, goes_on, places, selects}
+use Rattle.ksv_expr_syntax.proofs.Common.{groups, reads_list, reads_more, room, wide}
 use Rattle.ksv_expr_syntax.specs.declared.token.Symbol.TheVariants as tok
-use Rattle.ksv_expr_tree.specs.declared.tree.UnaryOperator.{UnaryOperator}
 use Rattle.ksv_expr_tree.specs.declared.tree.UnaryOperator.TheVariants as unaries
-use Rattle.ksv_expr_syntax.specs.declared.token.Precedence.{Precedence}
 use Rattle.ksv_expr_syntax.specs.declared.token.Precedence.TheVariants as tier
-use Rattle.ksv_expr_tree.specs.Tree.{Tree, unary, binary, choice, call, index, cast, no_arguments, argument}
-use Rattle.ksv_expr_syntax.specs.Lexemes.{Lexeme, constant, word, symbol}
-use Rattle.ksv_expr_syntax.specs.Grammar.{Level, Whole, Joined, Negation, Comparison, Prefix, Postfix, Primary, tighter, join_tree, select_tree, path_tokens}
-use Rattle.ksv_expr_syntax.specs.Grammar.{Spells, pick, no_pick, join, no_join, negation, no_negation, compare, no_compare, prefixed, no_prefix, selected}
-use Rattle.ksv_expr_syntax.specs.Grammar.{called, converted, indexed, no_postfix, literal_alone, name_alone, enum_member, group}
-use Rattle.ksv_expr_syntax.specs.Reading.{Next, Found, FoundList, found, found_list, ◌>>=◌, choose, spend, after, operator_at, comparison_at, prefix_at}
-use Rattle.ksv_expr_syntax.specs.Reading.{path_at, reads, picks, arms, joins, negates, compares, prefixes, goes_on, places, selects, groups, reads_list}
-use Rattle.ksv_expr_syntax.specs.Reading.{reads_more, room, wide}
 use Rattle.ksv_expr_syntax.proofs.Steps.{bind_some, spend_some, choose_some, after_some, operator_some, comparison_some, prefix_some, path_some, at_found}
 use Rattle.ksv_expr_syntax.proofs.Sound.{reads_sound, list_sound}
 

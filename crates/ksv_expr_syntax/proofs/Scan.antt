@@ -1,24 +1,15 @@
 -- Cutting a text from front to back gives its tokens.
-use Rattle.std.proofs.Common.{◌≡◌, ℕ, ◌<◌, ◌≤◌, Bool, true, false, List, [], ◌∷◌, ◌++◌, length, Some, None, refl, sym, ap, subst, ◌∙◌, append_assoc, arith}
-use Rattle.std.proofs.Common.{length-append, length-drop}
-use Rattle.std.specs.Prelude.{◌==◌, take_while}
-use Rattle.std.proofs.lemmas.List.{append-nil}
-use Rattle.ksv_expr_syntax.specs.declared.token.Symbol.{Symbol}
+use Rattle.ksv_expr_syntax.proofs.Common.{◌≡◌, ℕ, ◌<◌, ◌≤◌, Bool, true, false, List, [], ◌∷◌, ◌++◌, length, Some, None, refl, sym, ap, subst, ◌∙◌, append_assoc}
+use Rattle.ksv_expr_syntax.proofs.Common.{arith, length-append, ◌==◌, take_while, append-nil, Symbol, spelling, Lexeme, cut}
+use Rattle.std.proofs.Common.{length-drop}
 use Rattle.ksv_expr_syntax.specs.declared.token.Symbol.TheVariants as tok
-use Rattle.ksv_expr_syntax.specs.Symbols.{spelling}
-use Rattle.ksv_expr_syntax.specs.Lexemes.{Lexeme}
-use Rattle.ksv_expr_syntax.specs.Tokens.{Cut, is_space, skip, begun, number_prefix, IsToken, name, number, single, double, sign, IsLongest, mark}
+use Rattle.ksv_expr_syntax.specs.Tokens.{Cut, is_space, skip, begun, number_prefix, IsToken, name, number, single, double, sign, mark}
 use Rattle.ksv_expr_syntax.specs.Tokens.{is_dot, Tokens, finished, token}
-use Rattle.ksv_expr_syntax.specs.Cutting.{cut}
-use Rattle.ksv_expr_syntax.proofs.Longest.{cut_is_longest, first_digit}
+use Rattle.ksv_expr_syntax.proofs.Longest.{cut_is_longest, first_digit, is_cut}
 use Rattle.ksv_expr_syntax.proofs.Symbols.{IsFound, by_one, by_two, is_found}
 
 no_cut : cut [] ≡ None
 no_cut = refl
-
--- the longest token is cut
-pub longest_cut : (bs : List ℕ) (x : Cut) → IsLongest bs x → cut bs ≡ Some x
-longest_cut bs x l = (cut_is_longest bs x).1 l
 
 -- these tokens were cut, and cutting goes on here
 pub record ScanNow (text : List ℕ) (done : List Lexeme) (dot : Bool) (rest : List ℕ) : Type 0 where
@@ -30,7 +21,7 @@ scan_ends {text} {done} s h = subst (λ ts. Tokens false text ts) (append-nil do
 
 stuck : (dot : Bool) (rest : List ℕ) (us : List Lexeme) → Tokens dot rest us → (skip rest ≡ [] → ⊥) → cut (skip rest) ≡ None → ⊥
 stuck dot rest us (finished h) n e = n h
-stuck dot rest us (token x h s) n e = absurd (let k : Some x ≡ None = sym (longest_cut (skip rest) x h) ∙ e in cc)
+stuck dot rest us (token x h s) n e = absurd (let k : Some x ≡ None = sym (is_cut (skip rest) x h) ∙ e in cc)
 
 pub scan_stuck : {text : List ℕ} {done : List Lexeme} {dot : Bool} {rest : List ℕ} → ScanNow text done dot rest → (skip rest ≡ [] → ⊥) → cut (skip rest) ≡ None
     → (ts : List Lexeme) → Tokens false text ts → ⊥
@@ -41,7 +32,7 @@ next_token : (dot : Bool) (rest : List ℕ) (us : List Lexeme) (y : Cut) → Tok
     → (vs : List Lexeme) × (us ≡ mark dot y ∷ vs) × Tokens (is_dot (mark dot y)) y.rest vs
 next_token dot rest us y (finished h) e = absurd (let k : None ≡ Some y = sym no_cut ∙ ap cut (sym h) ∙ e in cc)
 next_token dot rest us y (token {ts = ts} x h s) e =
-    let k : x ≡ y = (let i : Some x ≡ Some y = sym (longest_cut (skip rest) x h) ∙ e in cc) in
+    let k : x ≡ y = (let i : Some x ≡ Some y = sym (is_cut (skip rest) x h) ∙ e in cc) in
     (ts, ap (λ x. mark dot x ∷ ts) k, subst (λ x. Tokens (is_dot (mark dot x)) x.rest ts) k s)
 
 pub scan_on : {text : List ℕ} {done : List Lexeme} {dot : Bool} {rest : List ℕ} (y : Cut) (all : List Lexeme) (m : Lexeme) (d : Bool)
@@ -65,9 +56,9 @@ scan_on {text} {done} {dot} {rest} y all m d s e g i a =
 -- a text has one list of tokens
 pub one_cutting : (dot : Bool) (bs : List ℕ) (ts us : List Lexeme) → Tokens dot bs ts → Tokens dot bs us → ts ≡ us
 one_cutting dot bs ts us (finished h) (finished k) = refl
-one_cutting dot bs ts us (finished h) (token x e s) = absurd (let k : None ≡ Some x = sym no_cut ∙ ap cut (sym h) ∙ longest_cut (skip bs) x e in cc)
+one_cutting dot bs ts us (finished h) (token x e s) = absurd (let k : None ≡ Some x = sym no_cut ∙ ap cut (sym h) ∙ is_cut (skip bs) x e in cc)
 one_cutting dot bs ts us (token {ts = vs} x e s) t =
-    let n = next_token dot bs us x t (longest_cut (skip bs) x e) in
+    let n = next_token dot bs us x t (is_cut (skip bs) x e) in
     ap (λ ws. mark dot x ∷ ws) (one_cutting (is_dot (mark dot x)) x.rest vs n.0 s n.2) ∙ sym n.1
 
 -- ---- a token takes a byte at least

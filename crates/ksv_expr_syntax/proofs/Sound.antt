@@ -1,25 +1,19 @@
 -- What is read is spelled so.
-use Rattle.std.proofs.Common.{◌≡◌, ℕ, zero, suc, ◌+◌, true, false, List, [], ◌∷◌, ◌++◌, length, Some, None, refl, sym, ap, subst, ◌∙◌, append_assoc, arith}
-use Rattle.std.proofs.Common.{if◌then◌else◌}
-use Rattle.std.proofs.lemmas.List.{append-nil}
+use Rattle.ksv_expr_syntax.proofs.Common.{◌≡◌, ℕ, zero, suc, ◌+◌, true, false, List, [], ◌∷◌, ◌++◌, length, Some, None, refl, sym, ap, subst, ◌∙◌, append_assoc}
+use Rattle.ksv_expr_syntax.proofs.Common.{arith, if◌then◌else◌, append-nil, UnaryOperator, BinaryOperator, Precedence, Infix, Constant, Tree, literal, unary}
+use Rattle.ksv_expr_syntax.proofs.Common.{binary, choice, call, index, cast, no_arguments, argument, operator, comparison, prefix, Lexeme, constant, word}
+use Rattle.ksv_expr_syntax.proofs.Common.{symbol, parts, all_parts, Level, Whole, Joined, Negation, Comparison, Prefix, Postfix, Primary, tighter, join_tree}
+use Rattle.ksv_expr_syntax.proofs.Common.{select_tree, is_left_out, path_tokens, Spells, pick, no_pick, join, no_join, negation, no_negation, compare}
+use Rattle.ksv_expr_syntax.proofs.Common.{no_compare, prefixed, no_prefix, selected, called, converted, indexed, no_postfix, literal_alone, name_alone}
+use Rattle.ksv_expr_syntax.proofs.Common.{enum_member, group, Next, Found, FoundList, found, found_list, ◌>>=◌, choose, spend, after, operator_at}
+use Rattle.ksv_expr_syntax.proofs.Common.{comparison_at, prefix_at, path_at, path_on, path_tree, all_but_last, last_name, reads, picks, arms, joins, negates}
+use Rattle.ksv_expr_syntax.proofs.Common.{compares, prefixes, goes_on, places, selects, groups, reads_list, reads_more}
 use Rattle.ksv_expr_syntax.specs.declared.token.Symbol.TheVariants as tok
-use Rattle.ksv_expr_tree.specs.declared.tree.UnaryOperator.{UnaryOperator}
-use Rattle.ksv_expr_tree.specs.declared.tree.BinaryOperator.{BinaryOperator}
 use Rattle.ksv_expr_tree.specs.declared.tree.UnaryOperator.TheVariants as unaries
-use Rattle.ksv_expr_syntax.specs.declared.token.Precedence.{Precedence}
 use Rattle.ksv_expr_syntax.specs.declared.token.Precedence.TheVariants as tier
-use Rattle.ksv_expr_syntax.specs.declared.token.Infix.{Infix}
 use Rattle.ksv_expr_syntax.specs.declared.token.Infix.TheVariants as infixes
-use Rattle.ksv_expr_tree.specs.Tree.{Constant, Tree, literal, named, special, unary, binary, choice, call, index, cast, no_arguments, argument}
-use Rattle.ksv_expr_syntax.specs.Symbols.{operator, comparison, prefix}
-use Rattle.ksv_expr_syntax.specs.Lexemes.{Lexeme, constant, word, symbol}
-use Rattle.ksv_expr_syntax.specs.Grammar.{parts, all_parts, Level, Whole, Joined, Negation, Comparison, Prefix, Postfix, Primary, tighter}
-use Rattle.ksv_expr_syntax.specs.Grammar.{join_tree, name_tree, select_tree, special_of, is_left_out, path_tokens, Spells, pick, no_pick, join, no_join}
-use Rattle.ksv_expr_syntax.specs.Grammar.{negation, no_negation, compare, no_compare, prefixed, no_prefix, selected, called, converted, indexed, no_postfix}
-use Rattle.ksv_expr_syntax.specs.Grammar.{literal_alone, name_alone, enum_member, group, SpellsArguments, empty, listed, SpellsList, last_one, one_more}
-use Rattle.ksv_expr_syntax.specs.Reading.{Next, Found, FoundList, found, found_list, ◌>>=◌, choose, spend, after, operator_at, comparison_at, prefix_at}
-use Rattle.ksv_expr_syntax.specs.Reading.{path_at, path_on, path_tree, all_but_last, last_name, reads, picks, arms, joins, negates, compares, prefixes, goes_on}
-use Rattle.ksv_expr_syntax.specs.Reading.{places, selects, groups, reads_list, reads_more}
+use Rattle.ksv_expr_tree.specs.Tree.{named, special}
+use Rattle.ksv_expr_syntax.specs.Grammar.{name_tree, special_of, SpellsArguments, empty, listed, SpellsList, last_one, one_more}
 use Rattle.ksv_expr_syntax.proofs.Steps.{with_bind, with_spend, with_choice, after_some, operator_some, comparison_some, prefix_some, Path, path_some}
 use Rattle.ksv_expr_syntax.proofs.Steps.{path_on_some, split_names, at_found, at_list}
 

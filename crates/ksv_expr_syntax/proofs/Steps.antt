@@ -1,21 +1,13 @@
 -- What a step of reading that found something says.
-use Rattle.std.proofs.Common.{◌≡◌, ℕ, zero, suc, Bool, true, false, List, [], ◌∷◌, ◌++◌, Option, Some, None, refl, sym, ap, subst, ◌∙◌, ◌⊎◌, inl, inr}
-use Rattle.std.proofs.Common.{if◌then◌else◌, rules}
+use Rattle.ksv_expr_syntax.proofs.Common.{◌≡◌, ℕ, zero, suc, Bool, true, false, List, [], ◌∷◌, ◌++◌, Option, Some, None, refl, sym, ap, subst, ◌∙◌, inl, inr}
+use Rattle.ksv_expr_syntax.proofs.Common.{if◌then◌else◌, Symbol, UnaryOperator, BinaryOperator, Precedence, Infix, Tree, Arguments, operator, comparison}
+use Rattle.ksv_expr_syntax.proofs.Common.{prefix, Lexeme, constant, word, symbol, path_tokens, Next, Found, FoundList, found, found_list, next, ◌>>=◌, choose}
+use Rattle.ksv_expr_syntax.proofs.Common.{spend, after, operator_at, comparison_at, prefix_at, path_at, path_on, all_but_last, last_name}
+use Rattle.std.proofs.Common.{◌⊎◌, rules}
 use denote.Enum.Bare.{same_true}
 use Rattle.ksv_expr_syntax.specs.contracts.token.Symbol.{the_type}
 use Rattle.ksv_expr_syntax.specs.contracts.token.SymbolPartialEq.TheImpl.{ghosts as symbol_tests}
-use Rattle.ksv_expr_syntax.specs.declared.token.Symbol.{Symbol}
 use Rattle.ksv_expr_syntax.specs.declared.token.Symbol.TheVariants as tok
-use Rattle.ksv_expr_tree.specs.declared.tree.UnaryOperator.{UnaryOperator}
-use Rattle.ksv_expr_tree.specs.declared.tree.BinaryOperator.{BinaryOperator}
-use Rattle.ksv_expr_syntax.specs.declared.token.Precedence.{Precedence}
-use Rattle.ksv_expr_syntax.specs.declared.token.Infix.{Infix}
-use Rattle.ksv_expr_tree.specs.Tree.{Tree, Arguments}
-use Rattle.ksv_expr_syntax.specs.Symbols.{operator, comparison, prefix}
-use Rattle.ksv_expr_syntax.specs.Lexemes.{Lexeme, constant, word, symbol}
-use Rattle.ksv_expr_syntax.specs.Grammar.{path_tokens}
-use Rattle.ksv_expr_syntax.specs.Reading.{Next, Found, FoundList, found, found_list, next, ◌>>=◌, choose, spend, after, operator_at, comparison_at, prefix_at}
-use Rattle.ksv_expr_syntax.specs.Reading.{path_at, path_on, all_but_last, last_name}
 
 pub bind_some : {A B : Type 0} (r : Option A) (f : A → Option B) (y : B) → (r >>= f) ≡ Some y → (x : A) × (r ≡ Some x) × (f x ≡ Some y)
 bind_some None f y h = absurd cc
@@ -44,7 +36,7 @@ pub with_choice : {A B P : Type 0} (o : Option A) (x : Option B) (f : A → Opti
 with_choice None x f y h none some = none refl h
 with_choice (Some a) x f y h none some = some a refl h
 
-if_some : {A : Type 0} (b : Bool) (x y : A) → (if b then Some x else None) ≡ Some y → (b ≡ true) × (x ≡ y)
+pub if_some : {A : Type 0} (b : Bool) (x y : A) → (if b then Some x else None) ≡ Some y → (b ≡ true) × (x ≡ y)
 if_some true x y h = (refl, cc)
 if_some false x y h = absurd cc
 

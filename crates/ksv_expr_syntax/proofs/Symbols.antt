@@ -1,20 +1,13 @@
 -- Symbols: each is found where it is written, and how tightly tokens bind. A new symbol has a row in `is_found`, and in `one_found`
 -- or `two_found`; an operator that isn't a comparison also in `own_strength` and `operator_strength`.
-use Rattle.std.proofs.Common.{◌≡◌, ℕ, ◌<◌, true, false, ◌&&◌, List, [], ◌∷◌, Option, Some, None, refl, sym, ap, subst, ◌∙◌, arith, if◌then◌else◌}
-use Rattle.std.specs.Prelude.{◌==◌}
+use Rattle.ksv_expr_syntax.proofs.Common.{◌≡◌, ℕ, ◌<◌, true, false, ◌&&◌, List, [], ◌∷◌, Option, Some, None, refl, sym, ap, subst, ◌∙◌, arith, if◌then◌else◌}
+use Rattle.ksv_expr_syntax.proofs.Common.{◌==◌, and_parts, UnaryOperator, BinaryOperator, Symbol, Precedence, Infix, Lexeme, symbol, spelling, operator}
+use Rattle.ksv_expr_syntax.proofs.Common.{comparison, prefix, Level, Whole, Joined, Negation, Comparison, Prefix, Postfix, Primary, cut_at, cut}
 use Rattle.std.proofs.lemmas.Bool.{eqb-true}
-use Rattle.ksv_expr_tree.specs.declared.tree.UnaryOperator.{UnaryOperator}
-use Rattle.ksv_expr_tree.specs.declared.tree.BinaryOperator.{BinaryOperator}
-use Rattle.ksv_expr_syntax.specs.declared.token.Symbol.{Symbol}
 use Rattle.ksv_expr_syntax.specs.declared.token.Symbol.TheVariants as tok
-use Rattle.ksv_expr_syntax.specs.declared.token.Precedence.{Precedence}
 use Rattle.ksv_expr_syntax.specs.declared.token.Precedence.TheVariants as tier
-use Rattle.ksv_expr_syntax.specs.declared.token.Infix.{Infix}
-use Rattle.ksv_expr_syntax.specs.Lexemes.{Lexeme, symbol}
-use Rattle.ksv_expr_syntax.specs.Symbols.{spelling, is_word, two_bytes, one_byte, operator, comparison, prefix}
-use Rattle.ksv_expr_syntax.specs.Grammar.{Level, Whole, Joined, Negation, Comparison, Prefix, Postfix, Primary}
-use Rattle.ksv_expr_syntax.specs.Cutting.{cut_at, cut_symbol, cut}
-use Rattle.ksv_expr_syntax.proofs.Lexing.{both}
+use Rattle.ksv_expr_syntax.specs.Symbols.{is_word, two_bytes, one_byte}
+use Rattle.ksv_expr_syntax.specs.Cutting.{cut_symbol}
 
 -- ---- by which bytes
 
@@ -33,7 +26,7 @@ two_step : (c d a b : ℕ) (t : Symbol) (o : Option Symbol) (s : Symbol) → Two
 two_step c d a b t o s w h f =
     elim (c == a && d == b) as (λ v. (c == a && d == b) ≡ v → (if v then Some t else o) ≡ Some s → TwoBytes c d s) [
       | true ↦ λ e h.
-          let k = both (c == a) (d == b) e in
+          let k = and_parts (c == a) (d == b) e in
           let i : t ≡ s = cc in
           let P : Symbol → Type 0 = λ s. TwoBytes c d s in
           subst P i (record {

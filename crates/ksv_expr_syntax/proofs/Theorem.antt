@@ -1,11 +1,12 @@
 -- What the tokens spell is what is read, and it is one tree.
-use Rattle.std.proofs.Common.{◌≡◌, ℕ, ◌-◌, ◌<◌, Bool, true, false, List, [], ◌∷◌, ◌++◌, length, Option, Some, None, refl, sym, ap, subst, ◌∙◌, arith, inl, inr}
-use Rattle.std.proofs.lemmas.List.{append-nil}
+use Rattle.ksv_expr_syntax.proofs.Common.{◌≡◌, ℕ, ◌<◌, Bool, true, false, List, [], ◌∷◌, ◌++◌, length, Option, Some, None, refl, sym, ap, subst, ◌∙◌, arith}
+use Rattle.ksv_expr_syntax.proofs.Common.{inl, inr, append-nil, Tree, Arguments, no_arguments, Lexeme, symbol, parts, all_parts, Whole, Spells, path_tokens}
+use Rattle.ksv_expr_syntax.proofs.Common.{Next, next, Found, FoundList, found, found_list, after, path_at, room, wide, read, read_list, ◌==◌, Placed, lexemes}
+use Rattle.ksv_expr_syntax.proofs.Common.{choose, ◌>>=◌}
+use Rattle.std.proofs.Common.{◌-◌}
 use Rattle.ksv_expr_syntax.specs.declared.token.Symbol.TheVariants as tok
-use Rattle.ksv_expr_tree.specs.Tree.{Tree, TypeTree, Arguments, no_arguments}
-use Rattle.ksv_expr_syntax.specs.Lexemes.{Lexeme, symbol}
-use Rattle.ksv_expr_syntax.specs.Grammar.{parts, all_parts, Whole, Spells, IsExpr, SpellsType, bare, applied, path_tokens}
-use Rattle.ksv_expr_syntax.specs.Reading.{Next, next, Found, FoundList, found, found_list, after, path_at, room, wide, read, read_list}
+use Rattle.ksv_expr_tree.specs.Tree.{TypeTree}
+use Rattle.ksv_expr_syntax.specs.Grammar.{IsExpr, SpellsType, bare, applied}
 use Rattle.ksv_expr_syntax.specs.Tokens.{Tokens}
 use Rattle.ksv_expr_syntax.specs.Text.{SpellsText, SpellsTypeText}
 use Rattle.ksv_expr_syntax.proofs.Steps.{some_is, path_some, after_some}
@@ -13,10 +14,6 @@ use Rattle.ksv_expr_syntax.proofs.Sound.{reads_sound, list_sound}
 use Rattle.ksv_expr_syntax.proofs.Complete.{goal, whole, goal_arguments}
 use Rattle.ksv_expr_syntax.proofs.Scan.{one_cutting}
 use Rattle.ksv_expr_syntax.proofs.Loops.{path_on_is}
-use Rattle.std.specs.Prelude.{◌==◌}
-use Rattle.ksv_expr_syntax.specs.declared.token.Placed.{Placed}
-use Rattle.ksv_expr_syntax.specs.Lexemes.{lexemes}
-use Rattle.ksv_expr_syntax.specs.Reading.{choose, ◌>>=◌}
 use Rattle.ksv_expr_syntax.specs.Code.{type_list}
 use Rattle.ksv_expr_syntax.proofs.Steps.{choose_some}
 use Rattle.ksv_expr_syntax.specs.declared.fault.ExprFault.{ExprFault}

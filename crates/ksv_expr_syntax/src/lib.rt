@@ -36,6 +36,7 @@
 //!
 //! Lemmas (`proofs/`):
 //!
+//! - `Common`: what many of them name, of definitions and of other crates
 //! - `Complete`: what is spelled is read
 //! - `Exits`: what each exit of the parser's functions means for reading
 //! - `Flow`: reading as equations without the bound on calls

@@ -8,15 +8,8 @@ use Rattle.std.proofs.lemmas.List.{drop_all, drop_more, length-take-le}
 use Rattle.std.proofs.lemmas.List.Quantifiers.{position-Some}
 use Rattle.std.proofs.lemmas.List.Splits.{slice_split_first, slice_split_none}
 use Rattle.std.proofs.lemmas.List.Sums.{fails_before_first}
+use Rattle.std.proofs.lemmas.Bool.{not-false, not-true}
 use Rattle.ksv_lines.specs.Lines.{is_blank, is_filled, is_word_start, words_of}
-
-not_false : (b : Bool) → not b ≡ false → b ≡ true
-not_false true h = refl
-not_false false h = absurd (true≢false h)
-
-not_true : (b : Bool) → not b ≡ true → b ≡ false
-not_true true h = absurd (true≢false (sym h))
-not_true false h = refl
 
 -- where no byte is found, the search runs to the end
 not_found : (p : ℕ → Bool) (text : List ℕ) → position p text ≡ None → length text ≤ position_or_len p text
@@ -41,14 +34,14 @@ words_drop (c ∷ cs) (suc n) le all = words_drop cs n (omega arith) (λ k lt. a
 pub no_words : (text : List ℕ) → position (λ c. not (is_blank c)) text ≡ None → words_of text ≡ []
 no_words text none =
     let all = not_found (λ c. not (is_blank c)) text none in
-    sym (words_drop text (length text) (omega arith) (λ k lt. not_false _ (fails_before_first (λ c. not (is_blank c)) text k 0 (omega arith))))
+    sym (words_drop text (length text) (omega arith) (λ k lt. not-false _ (fails_before_first (λ c. not (is_blank c)) text k 0 (omega arith))))
     ∙ ap words_of (drop_all (length text) text (omega arith))
 
 -- the blanks in front taken off
 pub same_words : (text : List ℕ) (n : ℕ) → position (λ c. not (is_blank c)) text ≡ Some n → words_of (drop n text) ≡ words_of text
 same_words text n found =
     let at = position-Some (λ c. not (is_blank c)) text n 0 found in
-    words_drop text n (omega (arith, at.0)) (λ k lt. not_false _ (at.2 k lt))
+    words_drop text n (omega (arith, at.0)) (λ k lt. not-false _ (at.2 k lt))
 
 pub word_starts : (text : List ℕ) (n : ℕ) → position (λ c. not (is_blank c)) text ≡ Some n → is_word_start (drop n text) ≡ true
 word_starts text n found =
@@ -64,7 +57,7 @@ keeps word rest lt = ap (λ b. cond b (word ∷ filter is_filled rest) (filter i
 
 pub starts_filled : (text : List ℕ) → is_word_start text ≡ true → (0 < length text) × (is_blank (get_or text 0 0) ≡ false)
 starts_filled [] h = absurd (true≢false (sym h))
-starts_filled (c ∷ cs) h = (omega arith, not_true _ h)
+starts_filled (c ∷ cs) h = (omega arith, not-true _ h)
 
 -- a word that a blank ends
 pub cut_at : (text : List ℕ) (n : ℕ) → is_word_start text ≡ true → position is_blank text ≡ Some n

@@ -1,28 +1,19 @@
 -- What stays right when the bytes change.
-use Rattle.std.proofs.Common.{◌≡◌, ℕ, zero, suc, ◌+◌, ◌<◌, ◌≤◌, ◌↔◌, Bool, true, false, List, [], ◌∷◌, ◌++◌, length, refl, sym, ◌∙◌, ap, subst, nat_eq, arith}
-use Rattle.std.proofs.Common.{◌||◌, Any, Contains}
-use Rattle.std.specs.List.{AllByRecursion, list_any, flat_map}
-use Rattle.std.proofs.lemmas.Bool.{or_parts}
-use Rattle.std.proofs.lemmas.List.Elements.{All-from_recursion, All-contains}
-use Rattle.ksv_bytes.specs.declared.uses.Change.{Change}
-use Rattle.ksv_bytes.specs.Uses.{AgreeOn, CanUse, Touches, Makes, is_use_touched}
+use Rattle.ksv_memo.proofs.Common.{◌≡◌, ℕ, zero, suc, ◌+◌, ◌<◌, ◌≤◌, Bool, true, false, List, [], ◌∷◌, ◌++◌, length, refl, sym, ◌∙◌, ap, subst, nat_eq, arith}
+use Rattle.ksv_memo.proofs.Common.{◌||◌, Contains, AllByRecursion, list_any, or_parts, All-from_recursion, Change, Makes, is_use_touched, Use, Bytes, Next}
+use Rattle.ksv_memo.proofs.Common.{Need, Done, Outcome, Answered, Circle, Standing, IsSettled, is_among, Told, told, tells, Entry, nodes_of, StandsIn, IsRight}
+use Rattle.ksv_memo.proofs.Common.{Meaning, IsLawful, on, law_on, All-map, All-both, All-++, All-left, All-right, none_pass, eqb_true, IsIn, AreDistinct-none}
+use Rattle.ksv_memo.proofs.Common.{self_in}
+use Rattle.std.proofs.Common.{◌↔◌, Any}
+use Rattle.std.specs.List.{flat_map}
+use Rattle.std.proofs.lemmas.List.Elements.{All-contains}
+use Rattle.ksv_bytes.specs.Uses.{AgreeOn, CanUse, Touches}
 use Rattle.ksv_bytes.proofs.Untouched.{use_touched, untouched_use, untouched-keeps}
-use Rattle.ksv_bytes.specs.declared.uses.Use.{Use}
-use Rattle.ksv_bytes.specs.declared.uses.Use.TheVariants.{Bytes}
-use Rattle.ksv_memo_rules.specs.declared.rules.Next.{Next}
-use Rattle.ksv_memo_rules.specs.declared.rules.Next.TheVariants.{Need, Done}
-use Rattle.ksv_memo_rules.specs.declared.rules.Outcome.{Outcome}
-use Rattle.ksv_memo_rules.specs.declared.rules.Outcome.TheVariants.{Answered, Circle}
-use Rattle.ksv_memo_rules.specs.Meaning.{Standing, IsSettled}
-use Rattle.ksv_memo_rules.specs.Evaluation.{is_among, Told, after, with_reply, with_step, told, eval, IsAnswered, completed, tells}
-use Rattle.ksv_memo_rules.specs.Entry.{Entry}
-use Rattle.ksv_memo_rules.specs.Right.{nodes_of, StandsIn, IsRight}
+use Rattle.ksv_memo_rules.specs.Evaluation.{after, with_reply, with_step, eval, IsAnswered, completed}
 use Rattle.ksv_memo_rules.specs.Touched.{tree, is_hit, is_touched}
-use Rattle.ksv_memo_rules.specs.Meaning.{Meaning, IsLawful, on}
-use Rattle.ksv_memo_rules.proofs.Standing.{law_on}
-use Rattle.ksv_memo_rules.proofs.Lists.{All-map, All-always, All-both, All-++, All-left, All-right, any_same, none_fails, none_pass}
-use Rattle.ksv_memo_rules.proofs.Evals.{NoneIn, eqb_true, asking, told_answered, eval-open, eval-free, transfer, deep_enough, eval-zero, eval-zero_unanswered}
-use Rattle.ksv_memo_rules.proofs.Keeping.{IsIn, AreDistinct-none, self_in, kept_is, kept-tree, done-kept, flat_map_congr}
+use Rattle.ksv_memo_rules.proofs.Lists.{All-always, any_same, none_fails}
+use Rattle.ksv_memo_rules.proofs.Evals.{NoneIn, asking, told_answered, eval-open, eval-free, transfer, deep_enough, eval-zero, eval-zero_unanswered}
+use Rattle.ksv_memo_rules.proofs.Keeping.{kept_is, kept-tree, done-kept, flat_map_congr}
 use Rattle.ksv_memo_rules.proofs.Standins.{touched-parts, asks-lower, answered-by}
 
 -- rules of the same nodes, on other bytes

@@ -1,28 +1,18 @@
 -- What links and frames are once one slot changed.
-use Rattle.std.proofs.Common.{◌≡◌, ◌≢◌, ℕ, zero, suc, ◌+◌, ◌-◌, ◌<◌, ◌≤◌, true, false, List, [], ◌∷◌, ◌++◌, length, map, take, drop, reverse, Option, Some}
-use Rattle.std.proofs.Common.{None, is_some, refl, sym, ◌∙◌, ap, subst, Result, slice_get, slice_set, ◌⊎◌, inl, inr, arith, length-append}
-use Rattle.std.specs.Option.{option_map}
-use Rattle.std.specs.List.{AllByRecursion}
-use Rattle.std.proofs.lemmas.List.{length-set, get_or-set_same, get_or-set_other, take-append-le, drop-append-le, length-take-le, reverse-append}
+use Rattle.ksv_memo.proofs.Common.{◌≡◌, ◌≢◌, ℕ, zero, suc, ◌+◌, ◌-◌, ◌<◌, ◌≤◌, true, false, List, [], ◌∷◌, ◌++◌, length, map, take, drop, reverse, Option, Some}
+use Rattle.ksv_memo.proofs.Common.{None, is_some, refl, sym, ◌∙◌, ap, subst, Result, slice_get, slice_set, ◌⊎◌, inl, inr, arith, length-append, option_map}
+use Rattle.ksv_memo.proofs.Common.{AllByRecursion, length-set, append-nil, slice_get-map, slice_get_within, Use, row, numbers_from, is_kept, Linked, Slot}
+use Rattle.ksv_memo.proofs.Common.{Frame, Frames, answer_in, answer_of, answer_at, answers_at, with_first, Open, newly, IsOneOf, AllDiffer, slots_of, node_at}
+use Rattle.ksv_memo.proofs.Common.{nodes_at, IsOpen, IsKept, entry_with, entry_at, entries_at, entries_of, open_before, opens_in, opens_of, AreNested}
+use Rattle.ksv_memo.proofs.Common.{AreLinked, AreFrames, with_slot, IsVacant, Heard, Framed, All-map, All-both, All-++}
+use Rattle.std.proofs.lemmas.List.{get_or-set_same, get_or-set_other, take-append-le, drop-append-le, length-take-le, reverse-append}
 use Rattle.std.proofs.Math.Seq.{take-length, drop-length}
-use Rattle.std.proofs.lemmas.Option.{slice_get-map, slice_get_within}
-use Rattle.ksv_bytes.specs.declared.uses.Use.{Use}
-use Rattle.ksv_memo_links.specs.Shelved.{row}
-use Rattle.ksv_memo_links.specs.Touching.{numbers_from}
-use Rattle.ksv_memo_links.specs.Marking.{is_kept}
-use Rattle.ksv_memo_links.specs.Links.{Linked, Keeps as LinksKeep}
-use Rattle.ksv_memo_rules.specs.declared.replies.Slot.{Slot}
+use Rattle.ksv_memo_links.specs.Links.{Keeps as LinksKeep}
 use Rattle.ksv_memo_rules.specs.declared.replies.Slot.TheVariants.{Empty as emptied, Open as opened}
-use Rattle.ksv_memo.specs.declared.frames.Frame.{Frame}
-use Rattle.ksv_memo.specs.declared.frames.Frames.{Frames}
-use Rattle.ksv_memo_rules.specs.Slots.{answer_in, answer_of, answer_at, answers_at, with_first}
-use Rattle.ksv_memo.specs.Open.{Open, newly, heard}
-use Rattle.ksv_memo.specs.Layout.{IsOneOf, AllDiffer, slots_of, node_at, nodes_at, IsOpen, IsKept, entry_with, entry_at, entries_at, entries_of, open_before}
-use Rattle.ksv_memo.specs.Layout.{opens_in, opens_of, AreNested, AreLinked, AreFrames}
-use Rattle.ksv_memo.specs.Moves.{with_slot, IsVacant, Heard, Popped, Framed}
-use Rattle.ksv_memo_rules.proofs.Lists.{All-map, All-both, All-++}
+use Rattle.ksv_memo.specs.Open.{heard}
+use Rattle.ksv_memo.specs.Moves.{Popped}
 use Rattle.ksv_memo.proofs.Finding.{slot_there, node_there, answer_there}
-use Rattle.ksv_memo.proofs.Laying.{++-nil, All-take, same_or, nodes_at-append, answers_at-append, Keeps, IsUsed, HasNode, slot_has_node, stays_kept, same_nodes}
+use Rattle.ksv_memo.proofs.Laying.{All-take, same_or, nodes_at-append, answers_at-append, Keeps, IsUsed, HasNode, slot_has_node, stays_kept, same_nodes}
 use Rattle.ksv_memo.proofs.Laying.{same_entry, same_opens, no_entry_at, entries_at-append, entries_at-same, All-numbers, numbers-split}
 
 -- an entry was put somewhere among others
@@ -199,7 +189,7 @@ module _ {N V F : Type 0} where
         ∙ entries_at-append qs l (numbers_from 0 (length ps)) (numbers_from (0 + length ps) more)
         ∙ (let e : 0 + length ps ≡ length ps = omega arith in ap (λ k. entries_at qs l (numbers_from 0 (length ps)) ++ entries_at qs l (numbers_from k more)) e)
         ∙ ap (λ xs. entries_at qs l (numbers_from 0 (length ps)) ++ xs) (nothing (numbers_from (length ps) more) new)
-        ∙ ++-nil (entries_at qs l (numbers_from 0 (length ps)))
+        ∙ append-nil (entries_at qs l (numbers_from 0 (length ps)))
         ∙ entries_at-same ps qs l l (numbers_from 0 (length ps))
         (All-numbers (λ j. entry_at qs l j ≡ entry_at ps l j) 0 (length ps) (λ j le lt. same_at l h empty j (same_or j i)))
       where

@@ -1,20 +1,14 @@
 -- Slots that are to be taken are emptied, one upon another.
-use Rattle.std.proofs.Common.{◌≡◌, ◌≢◌, ◌⊎◌, inl, inr, ℕ, zero, suc, ◌+◌, ◌*◌, ◌≤◌, List, [], ◌∷◌, ◌++◌, length, None, Contains, refl, sym, ◌∙◌, ap, subst}
-use Rattle.std.proofs.Common.{arith, append_assoc, slice_get}
+use Rattle.ksv_memo.proofs.Common.{◌≡◌, ◌≢◌, ◌⊎◌, inl, inr, ℕ, zero, suc, ◌+◌, ◌*◌, ◌≤◌, List, [], ◌∷◌, ◌++◌, length, None, Contains, refl, sym, ◌∙◌, ap, subst}
+use Rattle.ksv_memo.proofs.Common.{arith, append_assoc, slice_get, append-nil, sum_by-cons, row, pages_in, Linked, Slot, answer_of, answer_at, slots_of}
+use Rattle.ksv_memo.proofs.Common.{node_at, IsOpen, with_slot}
 use Rattle.std.specs.List.{AllPairs}
-use Rattle.std.proofs.lemmas.List.{append-nil, get_or-set_other}
-use Rattle.std.proofs.lemmas.List.Sums.{sum_by-cons}
+use Rattle.std.proofs.lemmas.List.{get_or-set_other}
 use Rattle.std.proofs.lemmas.List.Elements.{Contains-append_left, Contains-append_right, Contains-push}
-use Rattle.ksv_memo_links.specs.Shelved.{row}
-use Rattle.ksv_memo_links.specs.Touching.{pages_in}
-use Rattle.ksv_memo_links.specs.Links.{Linked, Takes, IsDone}
+use Rattle.ksv_memo_links.specs.Links.{Takes, IsDone}
 use Rattle.ksv_memo_links.proofs.Members.{none_in, first_or_later, not_later}
-use Rattle.ksv_memo_rules.specs.declared.replies.Slot.{Slot}
 use Rattle.ksv_memo_rules.specs.declared.replies.Slot.TheVariants.{Empty as emptied}
-use Rattle.ksv_memo_rules.specs.Slots.{answer_of, answer_at}
-use Rattle.ksv_memo.specs.Layout.{slots_of, node_at, IsOpen}
 use Rattle.ksv_memo.specs.Emptying.{IsTaken, IsEmptied}
-use Rattle.ksv_memo.specs.Moves.{with_slot}
 use Rattle.ksv_memo.proofs.Changing.{set_count}
 use Rattle.ksv_memo.proofs.Laying.{same_or}
 

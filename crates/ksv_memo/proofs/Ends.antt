@@ -1,25 +1,18 @@
 -- What is kept ends by the reach of the engine.
-use Rattle.std.proofs.Common.{◌≡◌, ◌⊎◌, inl, inr, ℕ, zero, suc, ◌+◌, ◌-◌, ◌/◌, ◌<◌, ◌≤◌, min, Bool, true, false, not, cond, List, [], ◌∷◌, length}
-use Rattle.std.proofs.Common.{length-append, length-take, length-drop, filter, Contains, refl, sym, ◌∙◌, ap, subst, arith}
-use Rattle.std.specs.List.{AllByRecursion, list_any}
-use Rattle.std.proofs.lemmas.Bool.{or_parts, cases_lt}
-use Rattle.std.proofs.lemmas.Bool.Decides.{Decides-ltb}
-use Rattle.std.proofs.lemmas.List.Elements.{All-contains, All-from_recursion, Contains-append_cases}
-use Rattle.ksv_bytes.specs.declared.uses.Use.{Use}
-use Rattle.ksv_bytes.specs.declared.uses.Use.TheVariants.{Bytes, Reach, Size}
-use Rattle.ksv_bytes.specs.declared.uses.Change.{Change}
-use Rattle.ksv_bytes.specs.declared.uses.Change.TheVariants.{Overwrite, Insert, Delete, Append}
-use Rattle.ksv_bytes.specs.Uses.{CanUse, Makes, is_use_touched}
-use Rattle.ksv_memo_links.specs.Touching.{numbers_from, pages_end, pages_of, pages_in, is_size, farthest, end_at, ends_in, AreWithin}
+use Rattle.ksv_memo.proofs.Common.{◌≡◌, ◌⊎◌, inl, inr, ℕ, zero, suc, ◌+◌, ◌-◌, ◌<◌, ◌≤◌, Bool, true, false, not, cond, List, [], ◌∷◌, length, length-append}
+use Rattle.ksv_memo.proofs.Common.{filter, Contains, refl, sym, ◌∙◌, ap, subst, arith, AllByRecursion, list_any, or_parts, Decides-ltb, All-from_recursion, Use}
+use Rattle.ksv_memo.proofs.Common.{Bytes, Change, Overwrite, Insert, Delete, Append, Makes, is_use_touched, numbers_from, pages_in, AreWithin, Meaning}
+use Rattle.ksv_memo.proofs.Common.{IsLawful, on, tells, Entry, IsRight, All-map, All-both, none_pass, AllEndBy, pages_to, Mark, IsMarked, Sweeps, entries_left}
+use Rattle.std.proofs.Common.{◌/◌, min, length-take, length-drop}
+use Rattle.std.proofs.lemmas.Bool.{cases_lt}
+use Rattle.std.proofs.lemmas.List.Elements.{All-contains, Contains-append_cases}
+use Rattle.ksv_bytes.specs.declared.uses.Use.TheVariants.{Reach, Size}
+use Rattle.ksv_bytes.specs.Uses.{CanUse}
+use Rattle.ksv_memo_links.specs.Touching.{pages_end, pages_of, is_size, farthest, end_at, ends_in}
 use Rattle.ksv_memo_links.proofs.Members.{none_in, first_or_later}
-use Rattle.ksv_memo_rules.specs.Meaning.{Meaning, IsLawful, on}
-use Rattle.ksv_memo_rules.specs.Evaluation.{tells}
-use Rattle.ksv_memo_rules.specs.Entry.{Entry}
-use Rattle.ksv_memo_rules.specs.Right.{IsRight}
-use Rattle.ksv_memo_rules.proofs.Lists.{All-map, All-both, none_pass}
-use Rattle.ksv_memo.specs.Behind.{EndsBy, AllEndBy, pages_to}
+use Rattle.ksv_memo.specs.Behind.{EndsBy}
 use Rattle.ksv_memo.specs.Resting.{left_reach}
-use Rattle.ksv_memo.specs.Sweep.{Mark, IsMarked, Sweeps, entries_with, entries_left}
+use Rattle.ksv_memo.specs.Sweep.{entries_with}
 use Rattle.ksv_memo.proofs.Change.{eval_can}
 
 -- ---- on the bytes on which it is right

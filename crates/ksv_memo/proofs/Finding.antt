@@ -1,10 +1,6 @@
 -- What the slot at a place says.
-use Rattle.std.proofs.Common.{◌≡◌, ℕ, true, List, Some, is_some, ◌∙◌, ap, slice_get}
-use Rattle.std.specs.Option.{option_map}
-use Rattle.std.proofs.lemmas.Option.{slice_get-map}
-use Rattle.ksv_memo_rules.specs.declared.replies.Slot.{Slot}
-use Rattle.ksv_memo_rules.specs.Slots.{answer_in, answer_of, answer_at}
-use Rattle.ksv_memo.specs.Layout.{slots_of, node_at, IsKept}
+use Rattle.ksv_memo.proofs.Common.{◌≡◌, ℕ, true, List, Some, is_some, ◌∙◌, ap, slice_get, option_map, slice_get-map, Slot, answer_in, answer_of, answer_at}
+use Rattle.ksv_memo.proofs.Common.{slots_of, node_at, IsKept}
 
 module _ {N V F : Type 0} (ps : List (N × Slot V F)) where
   -- the slot at a place

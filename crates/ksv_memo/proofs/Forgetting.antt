@@ -1,36 +1,27 @@
 -- What an edit takes from the kept nodes is what the pass takes from the table, and what stays is right.
-use Rattle.std.proofs.lemmas.List.Sums.{sum_by-cons}
-use Rattle.std.proofs.Common.{◌≡◌, ℕ, zero, suc, ◌+◌, ◌*◌, ◌<◌, ◌≤◌, arith, length, sum_by, count_by, get_or, nat_lt, Bool, true, false, not}
-use Rattle.std.proofs.Common.{cond, ◌||◌, ◌&&◌, nat_eq, List, [], ◌∷◌, map, filter, Contains, Any, refl, sym, ◌∙◌, ap, subst, inl, inr, eq-eqb}
+use Rattle.ksv_memo.proofs.Common.{sum_by-cons, ◌≡◌, ℕ, zero, suc, ◌+◌, ◌*◌, ◌<◌, ◌≤◌, arith, length, sum_by, count_by, get_or, nat_lt, Bool, true, false, not}
+use Rattle.ksv_memo.proofs.Common.{cond, ◌||◌, ◌&&◌, nat_eq, List, [], ◌∷◌, map, filter, Contains, refl, sym, ◌∙◌, ap, subst, inl, inr, eq-eqb, AllByRecursion}
+use Rattle.ksv_memo.proofs.Common.{list_any, or_parts, Decides-ltb, IsDistinct-head, IsDistinct-tail, Use, Change, Overwrite, Insert, Delete, Append, Makes}
+use Rattle.ksv_memo.proofs.Common.{is_use_touched, Meaning, Standing, IsLawful, IsSettled, on, is_among, tells, Entry, nodes_of, AreDistinct, AreExactly}
+use Rattle.ksv_memo.proofs.Common.{StandsIn, IsRight, IsOneOf, pages_in, pages_to, Mark, IsMarked, entries_left, Sweeps, law_on, All-map, All-both, none_pass}
+use Rattle.ksv_memo.proofs.Common.{eqb_true, AreDistinct-none, IsIn}
+use Rattle.std.proofs.Common.{Any}
 use Rattle.std.specs.Bool.{Decides}
-use Rattle.std.specs.List.{AllByRecursion, list_any}
 use Rattle.std.proofs.Math.Bool.{and-false}
-use Rattle.std.proofs.lemmas.Bool.{or_parts, or_right}
-use Rattle.std.proofs.lemmas.Bool.Decides.{Decides-and, Decides-not, Decides-ltb}
+use Rattle.std.proofs.lemmas.Bool.{or_right}
+use Rattle.std.proofs.lemmas.Bool.Decides.{Decides-and, Decides-not}
 use Rattle.std.proofs.lemmas.List.Elements.{All-contains_itself, recursion_from_All}
 use Rattle.std.proofs.lemmas.List.Folds.{Any-from_list_any, list_any-from_Any}
-use Rattle.std.proofs.lemmas.Map.Keys.{IsDistinct-head, IsDistinct-tail, IsDistinct-cons}
-use Rattle.ksv_bytes.specs.declared.uses.Use.{Use}
-use Rattle.ksv_bytes.specs.declared.uses.Change.{Change}
-use Rattle.ksv_bytes.specs.declared.uses.Change.TheVariants.{Overwrite, Insert, Delete, Append}
-use Rattle.ksv_bytes.specs.Uses.{Touches, Makes, is_use_touched}
+use Rattle.std.proofs.lemmas.Map.Keys.{IsDistinct-cons}
+use Rattle.ksv_bytes.specs.Uses.{Touches}
 use Rattle.ksv_bytes.proofs.Untouched.{use_touched, untouched_use}
-use Rattle.ksv_memo_rules.specs.Meaning.{Meaning, Standing, IsLawful, IsSettled, on}
-use Rattle.ksv_memo_rules.specs.Evaluation.{is_among, tells}
-use Rattle.ksv_memo_rules.specs.Entry.{Entry}
-use Rattle.ksv_memo_rules.specs.Right.{nodes_of, AreDistinct, AreExactly, StandsIn, IsRight}
 use Rattle.ksv_memo_rules.specs.Touched.{IsTouched, is_hit, is_touched, tree, left_after}
-use Rattle.ksv_memo.specs.Layout.{IsOneOf}
-use Rattle.ksv_memo_links.specs.Touching.{pages_in, ends_in}
+use Rattle.ksv_memo_links.specs.Touching.{ends_in}
 use Rattle.ksv_memo_links.specs.Links.{IsMove, IsOverwrite, first_page, pages_met, met_by, pages_behind, behind_by, ended_by}
 use Rattle.ksv_memo_links.proofs.Touches.{EndsPast, uses-meet, insert-past, delete-past, append-ends}
 use Rattle.ksv_memo.specs.Near.{IsWrite, LooksNear, gone_of}
-use Rattle.ksv_memo.specs.Behind.{LooksBehind, pages_to}
-use Rattle.ksv_memo.specs.Sweep.{Mark, AllSay, IsMarked, entries_with as entries_in, entries_left, entries_gone, Sweeps}
-use Rattle.ksv_memo_rules.proofs.Standing.{law_on}
-use Rattle.ksv_memo_rules.proofs.Lists.{All-map, All-both, none_pass}
-use Rattle.ksv_memo_rules.proofs.Evals.{eqb_true}
-use Rattle.ksv_memo_rules.proofs.Keeping.{AreDistinct-none, IsIn}
+use Rattle.ksv_memo.specs.Behind.{LooksBehind}
+use Rattle.ksv_memo.specs.Sweep.{AllSay, entries_with as entries_in, entries_gone}
 use Rattle.ksv_memo_rules.proofs.Standins.{touched-parts, answered-by, stands-among}
 use Rattle.ksv_memo.proofs.Change.{untouched-stays}
 use Rattle.ksv_memo.proofs.Laying.{one_of-all}

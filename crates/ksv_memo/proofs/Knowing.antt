@@ -1,25 +1,12 @@
 -- What the slots have of a node is what is kept and open.
+use Rattle.ksv_memo.proofs.Common.{sum_by-cons, ◌≡◌, ◌≢◌, ℕ, zero, suc, ◌+◌, ◌<◌, ◌≤◌, sum_by, count_by, cond, arith, Bool, true, false, List, [], ◌∷◌, length}
+use Rattle.ksv_memo.proofs.Common.{map, take, drop, Option, Some, None, is_some, refl, sym, ◌∙◌, ap, subst, Result, inl, inr, ◌||◌, IsEquivalence}
+use Rattle.ksv_memo.proofs.Common.{AllByRecursion, list_any, IsDistinct, IsDistinct-head, IsDistinct-tail, Use, row, numbers_from, is_kept, Linked, Slot, Frame}
+use Rattle.ksv_memo.proofs.Common.{answer_at, answers_at, with_first, Entry, Open, IsOneOf, slots_of, node_at, nodes_at, IsOpen, IsKept, entry_with, entry_at}
+use Rattle.ksv_memo.proofs.Common.{entries_at, entries_of, open_before, opens_in, AreLinked, or_parts}
 use Rattle.std.proofs.lemmas.List.{get_or_past}
-use Rattle.std.proofs.lemmas.List.Sums.{sum_by-cons}
-use Rattle.std.proofs.Common.{◌≡◌, ◌≢◌, ℕ, zero, suc, ◌+◌, ◌<◌, ◌≤◌, sum_by, count_by, cond, arith, Bool, true, false, List, [], ◌∷◌, length, map, take, drop}
-use Rattle.std.proofs.Common.{Option, Some, None, is_some, refl, sym, ◌∙◌, ap, subst, Result, inl, inr, ◌||◌}
-use Rattle.std.specs.Cmp.{IsEquivalence}
-use Rattle.std.specs.List.{AllByRecursion, list_any, IsDistinct}
 use Rattle.std.specs.Map.{keys_of}
-use Rattle.std.proofs.lemmas.Map.Keys.{IsDistinct-head, IsDistinct-tail}
-use Rattle.ksv_bytes.specs.declared.uses.Use.{Use}
-use Rattle.ksv_memo_links.specs.Shelved.{row}
-use Rattle.ksv_memo_links.specs.Touching.{numbers_from}
-use Rattle.ksv_memo_links.specs.Marking.{is_kept}
-use Rattle.ksv_memo_links.specs.Links.{Linked}
-use Rattle.ksv_memo_rules.specs.declared.replies.Slot.{Slot}
-use Rattle.ksv_memo.specs.declared.frames.Frame.{Frame}
-use Rattle.ksv_memo_rules.specs.Slots.{answer_at, answers_at, with_first}
-use Rattle.ksv_memo_rules.specs.Entry.{Entry}
-use Rattle.ksv_memo.specs.Open.{Open}
-use Rattle.ksv_memo.specs.Layout.{IsOneOf, slots_of, node_at, nodes_at, IsOpen, IsKept, entry_with, entry_at, entries_at, entries_of, open_before, opens_in}
-use Rattle.ksv_memo.specs.Layout.{AreLinked}
-use Rattle.std.proofs.lemmas.Bool.{or_left, or_parts, or_right}
+use Rattle.std.proofs.lemmas.Bool.{or_left, or_right}
 use Rattle.ksv_memo.proofs.Laying.{HasNode, kept_node, number_in}
 
 sum_by-same : (f g : ℕ → ℕ) → ((i : ℕ) → f i ≡ g i) → (is : List ℕ) → sum_by f is ≡ sum_by g is

@@ -1,25 +1,10 @@
 -- What the slots, links and frames stand for, when one slot changes.
-use Rattle.std.proofs.Common.{◌≡◌, ◌≢◌, ℕ, zero, suc, ◌+◌, ◌<◌, ◌≤◌, Bool, true, false, List, [], ◌∷◌, ◌++◌, take, drop, Option, Some, None, is_some, refl, sym}
-use Rattle.std.proofs.Common.{◌∙◌, ap, subst, Result, slice_get, ◌⊎◌, inl, inr, nat_eq, eq-eqb, arith}
-use Rattle.std.specs.Option.{option_map}
-use Rattle.std.specs.List.{AllByRecursion}
-use Rattle.std.proofs.lemmas.Option.{slice_get-map}
-use Rattle.ksv_bytes.specs.declared.uses.Use.{Use}
-use Rattle.ksv_memo_links.specs.Shelved.{row}
-use Rattle.ksv_memo_links.specs.Touching.{numbers_from}
-use Rattle.ksv_memo_links.specs.Links.{Linked}
-use Rattle.ksv_memo_rules.specs.declared.replies.Slot.{Slot}
+use Rattle.ksv_memo.proofs.Common.{◌≡◌, ◌≢◌, ℕ, zero, suc, ◌+◌, ◌<◌, ◌≤◌, Bool, true, false, List, [], ◌∷◌, ◌++◌, take, drop, Option, Some, None, is_some, refl}
+use Rattle.ksv_memo.proofs.Common.{sym, ◌∙◌, ap, subst, Result, slice_get, ◌⊎◌, inl, inr, nat_eq, eq-eqb, arith, option_map, AllByRecursion, slice_get-map}
+use Rattle.ksv_memo.proofs.Common.{Use, row, numbers_from, Linked, Slot, Frame, answer_of, answer_at, answers_at, with_first, Entry, IsOneOf}
+use Rattle.ksv_memo.proofs.Common.{AllDiffer, slots_of, node_at, nodes_at, IsOpen, IsKept, entry_with, entry_at, entries_at, open_before, opens_in, eqb_true}
+use Rattle.ksv_memo.proofs.Common.{All-++}
 use Rattle.ksv_memo_rules.specs.declared.replies.Slot.TheVariants.{Open as opened}
-use Rattle.ksv_memo.specs.declared.frames.Frame.{Frame}
-use Rattle.ksv_memo_rules.specs.Slots.{answer_of, answer_at, answers_at, with_first}
-use Rattle.ksv_memo_rules.specs.Entry.{Entry}
-use Rattle.ksv_memo.specs.Layout.{IsOneOf, AllDiffer, slots_of, node_at, nodes_at, IsOpen, IsKept, entry_with, entry_at, entries_at, open_before, opens_in}
-use Rattle.ksv_memo_rules.proofs.Evals.{eqb_true}
-use Rattle.ksv_memo_rules.proofs.Lists.{All-++}
-
-pub ++-nil : {X : Type 0} (xs : List X) → xs ++ [] ≡ xs
-++-nil [] = refl
-++-nil (x ∷ xs) = ap (λ ys. x ∷ ys) (++-nil xs)
 
 pub All-take : {X : Type 0} (P : X → Type 0) (k : ℕ) (xs : List X) → AllByRecursion P xs → AllByRecursion P (take k xs)
 All-take P zero xs h = tt

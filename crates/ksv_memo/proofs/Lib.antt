@@ -1,3 +1,4 @@
+pub mod Common
 pub mod Once
 pub mod Finding
 pub mod Zipping

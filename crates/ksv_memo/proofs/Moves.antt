@@ -1,32 +1,21 @@
 -- Laws of the stack of open nodes: what each move of the machine does to the invariants.
-use Rattle.std.proofs.Common.{◌≡◌, ℕ, suc, ◌+◌, ◌-◌, ◌<◌, ◌≤◌, true, false, cond, List, [], ◌∷◌, ◌++◌, length, map, refl, sym, ◌∙◌, ap, subst, nat_eq, arith}
-use Rattle.std.proofs.Common.{append_assoc, length-append}
-use Rattle.std.specs.List.{AllByRecursion, flat_map}
+use Rattle.ksv_memo.proofs.Common.{◌≡◌, ℕ, suc, ◌+◌, ◌-◌, ◌<◌, ◌≤◌, true, false, cond, List, [], ◌∷◌, ◌++◌, length, map, refl, sym, ◌∙◌, ap, subst, nat_eq}
+use Rattle.ksv_memo.proofs.Common.{arith, append_assoc, length-append, AllByRecursion, append-nil, IsDistinct-head, IsDistinct-tail, Use, Next, Need, Done}
+use Rattle.ksv_memo.proofs.Common.{Outcome, Answered, Circle, Standing, IsSettled, is_among, Told, told, tells, done, answering, Entry, Open, nodes_in, newly}
+use Rattle.ksv_memo.proofs.Common.{with_uses, with_answer, nodes_of, AreDistinct, HasEachOnce, IsRight, fresh, costs, Agrees, HasCome, IsWaiting, IsStack}
+use Rattle.ksv_memo.proofs.Common.{rest_of, to_keep, debt, All-map, All-++, All-left, IsOut, IsIn, is_among-append, nodes_of-append, agrees, AreDistinct-none}
+use Rattle.std.specs.List.{flat_map}
 use Rattle.std.proofs.lemmas.Bool.{or_from}
 use Rattle.std.proofs.lemmas.List.{map-append, length-map}
-use Rattle.std.proofs.lemmas.Map.Keys.{IsDistinct-head, IsDistinct-tail, IsDistinct-cons}
+use Rattle.std.proofs.lemmas.Map.Keys.{IsDistinct-cons}
 use Rattle.std.proofs.lemmas.Cmp.{nat_eq_equiv}
-use Rattle.ksv_bytes.specs.declared.uses.Use.{Use}
-use Rattle.ksv_memo_rules.specs.declared.rules.Next.{Next}
-use Rattle.ksv_memo_rules.specs.declared.rules.Next.TheVariants.{Need, Done}
-use Rattle.ksv_memo_rules.specs.declared.rules.Outcome.{Outcome}
-use Rattle.ksv_memo_rules.specs.declared.rules.Outcome.TheVariants.{Answered, Circle}
-use Rattle.ksv_memo_rules.specs.Meaning.{Standing, IsSettled, IsDone}
-use Rattle.ksv_memo_rules.specs.Evaluation.{is_among, Told, after, with_reply, with_step, told, if_answered, tells, done, answering}
-use Rattle.ksv_memo_rules.specs.Entry.{Entry}
-use Rattle.ksv_memo.specs.Open.{Open, nodes_in, newly, with_uses, with_answer}
+use Rattle.ksv_memo_rules.specs.Meaning.{IsDone}
+use Rattle.ksv_memo_rules.specs.Evaluation.{after, with_reply, with_step, if_answered}
 use Rattle.ksv_memo.specs.Nodes.{kept_of}
-use Rattle.ksv_memo_rules.specs.Right.{nodes_of, AreDistinct, HasEachOnce, IsRight, fresh, costs, Agrees}
-use Rattle.ksv_memo.specs.Running.{HasCome, IsWaiting, HasEnded, HasStepped, Chain, IsStack, climbed, value_of, value_at, climbed_rest, told_rest, rest_of}
-use Rattle.ksv_memo.specs.Running.{rest_at, to_keep, debt}
-use Rattle.ksv_memo_rules.proofs.Lists.{All-map, All-++, All-left}
-use Rattle.ksv_memo_rules.proofs.Evals.{IsOut, few, out_apart, AreDistinct-cons, tells-open, tells-free, done-free, completed-open}
-use Rattle.ksv_memo_rules.proofs.Keeping.{IsIn, IsIn-append, is_among-append, nodes_of-append, agrees, AreDistinct-none}
+use Rattle.ksv_memo.specs.Running.{HasEnded, HasStepped, Chain, climbed, value_of, value_at, climbed_rest, told_rest, rest_at}
+use Rattle.ksv_memo_rules.proofs.Evals.{few, out_apart, AreDistinct-cons, tells-open, tells-free, done-free, completed-open}
+use Rattle.ksv_memo_rules.proofs.Keeping.{IsIn-append}
 use Rattle.ksv_memo_rules.proofs.Standins.{keep}
-
-pub ++-nil : {X : Type 0} (xs : List X) → xs ++ [] ≡ xs
-++-nil [] = refl
-++-nil (x ∷ xs) = ap (λ ys. x ∷ ys) (++-nil xs)
 
 -- ---- a call tells the next step
 told-more : {N A : Type 0} (w : Standing N A) (g : N → Outcome N A) (n : N) (replies : List A) → length replies ≤ w.replies
@@ -37,7 +26,7 @@ told-more w g n replies few = let eq : suc w.replies - length replies ≡ suc (w
 
 ended : {N A : Type 0} (asked : List N) (uses us : List Use) (a : A)
     → after asked uses (record { outcome = Answered a; asked = []; uses = us }) ≡ record { outcome = Answered a; asked = asked; uses = uses ++ us }
-ended asked uses us a = λ i. record { outcome = Answered a; asked = ++-nil asked i; uses = uses ++ us }
+ended asked uses us a = λ i. record { outcome = Answered a; asked = append-nil asked i; uses = uses ++ us }
 
 waited : {N A : Type 0} (asked : List N) (m : N) (uses us : List Use) (t : Told N A)
     → after asked uses (after (m ∷ []) us t) ≡ after (asked ++ m ∷ []) (uses ++ us) t
@@ -274,7 +263,7 @@ pub covers-drop : {N A : Type 0} (w : Standing N A) (es : List (Entry N A)) (ms 
 covers-drop w es ms rest h = ap (λ r. nodes_of es ++ r) (sym (fresh-drop w (nodes_of es) ms rest h))
 
 pub to_keep-nil : {N A : Type 0} (w : Standing N A) (es : List (Entry N A)) → nodes_of es ≡ to_keep w es []
-to_keep-nil w es = sym (ap (λ r. nodes_of es ++ r) (fresh-nil w.number (nodes_of es)) ∙ ++-nil (nodes_of es))
+to_keep-nil w es = sym (ap (λ r. nodes_of es ++ r) (fresh-nil w.number (nodes_of es)) ∙ append-nil (nodes_of es))
 
 -- ---- the calls
 pub ended-tells : {N A : Type 0} (w : Standing N A) → IsSettled w → (es : List (Entry N A)) (o : Open N A) (st : List (Open N A)) (a : A)

@@ -1,16 +1,15 @@
 -- A list's members, each once.
-use Rattle.std.proofs.Common.{◌≡◌, ◌≢◌, ◌⊎◌, inl, inr, ℕ, ◌+◌, ◌<◌, Bool, true, false, ◌&&◌, nat_eq, List, [], ◌∷◌, ◌++◌, take, length, get_or, refl, sym, ◌∙◌}
-use Rattle.std.proofs.Common.{ap, subst, Contains, true≢false, add-one}
+use Rattle.ksv_memo.proofs.Common.{◌≡◌, ◌≢◌, ◌⊎◌, inl, inr, ℕ, ◌+◌, ◌<◌, Bool, true, false, ◌&&◌, nat_eq, List, [], ◌∷◌, ◌++◌, take, length, get_or, refl, sym}
+use Rattle.ksv_memo.proofs.Common.{◌∙◌, ap, subst, Contains, Use, Bytes, HasEachOnce}
+use Rattle.std.proofs.Common.{true≢false, add-one}
 use Rattle.std.proofs.Math.Seq.{take-suc}
 use Rattle.std.specs.Bool.{Decides}
 use Rattle.std.proofs.lemmas.Bool.Decides.{Decides-eqb, Decides-and, Decides-like}
 use Rattle.std.proofs.lemmas.List.Elements.{Contains-get_or, Contains-push, Contains-push_cases, Contains-append_left, contains_decides, Decides-contains}
 use Rattle.std.proofs.lemmas.List.Quantifiers.{all_pairs_push}
 use Rattle.std.specs.List.{IsAnyAnswer}
-use Rattle.ksv_bytes.specs.declared.uses.Use.{Use}
-use Rattle.ksv_bytes.specs.declared.uses.Use.TheVariants.{Bytes, Reach, Size}
+use Rattle.ksv_bytes.specs.declared.uses.Use.TheVariants.{Reach, Size}
 use Rattle.ksv_bytes.specs.contracts.uses.UsePartialEq.TheImpl.{ghosts}
-use Rattle.ksv_memo_rules.specs.Right.{HasEachOnce}
 
 -- `==` on uses says whether they are the same
 pub use_decides : (a b : Use) → Decides (ghosts.eq a b) (a ≡ b)

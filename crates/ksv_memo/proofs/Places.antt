@@ -1,21 +1,14 @@
 -- An entry among others is as one after them.
-use Rattle.std.proofs.Common.{◌≡◌, ℕ, ◌+◌, ◌-◌, ◌*◌, ◌<◌, Bool, true, false, cond, List, [], ◌∷◌, ◌++◌, length, map, refl, sym, ◌∙◌, ap, subst, nat_eq, ◌||◌}
-use Rattle.std.proofs.Common.{arith, length-append, append_assoc, IsPermutation}
-use Rattle.std.specs.List.{AllByRecursion, IsDistinct}
+use Rattle.ksv_memo.proofs.Common.{◌≡◌, ℕ, ◌+◌, ◌-◌, ◌*◌, ◌<◌, Bool, true, false, cond, List, [], ◌∷◌, ◌++◌, length, map, refl, sym, ◌∙◌, ap, subst, nat_eq}
+use Rattle.ksv_memo.proofs.Common.{◌||◌, arith, length-append, append_assoc, AllByRecursion, IsDistinct, Outcome, Standing, is_among, tells, Entry, Open}
+use Rattle.ksv_memo.proofs.Common.{nodes_in, nodes_of, AreDistinct, StandsIn, IsRight, fresh, costs, Agrees, HasCome, IsWaiting, IsStack, to_keep, debt, GoesOn}
+use Rattle.ksv_memo.proofs.Common.{HasFinished, IsLeft, AreSame, rest_of, All-map, All-++, All-left, All-right, is_among-append, nodes_of-append}
+use Rattle.std.proofs.Common.{IsPermutation}
 use Rattle.std.proofs.lemmas.Cmp.{nat_eq_equiv}
 use Rattle.std.proofs.lemmas.List.{map-append}
 use Rattle.std.proofs.lemmas.List.Sorted.{IsPermutation-to_front, IsPermutation-trans, IsPermutation-sym, IsPermutation-append_left}
 use Rattle.std.proofs.lemmas.Map.Keys.{IsDistinct-IsPermutation}
-use Rattle.ksv_memo_rules.specs.declared.rules.Outcome.{Outcome}
-use Rattle.ksv_memo_rules.specs.Meaning.{Standing}
-use Rattle.ksv_memo_rules.specs.Evaluation.{is_among, tells}
-use Rattle.ksv_memo_rules.specs.Entry.{Entry}
-use Rattle.ksv_memo.specs.Open.{Open, nodes_in}
-use Rattle.ksv_memo_rules.specs.Right.{nodes_of, AreDistinct, StandsIn, IsRight, fresh, costs, Agrees}
-use Rattle.ksv_memo.specs.Running.{HasCome, IsWaiting, Chain, IsStack, calls_left, calls_of, to_keep, debt, Account, GoesOn, HasFinished, IsLeft, AreSame}
-use Rattle.ksv_memo.specs.Running.{rest_of}
-use Rattle.ksv_memo_rules.proofs.Lists.{All-map, All-++, All-left, All-right}
-use Rattle.ksv_memo_rules.proofs.Keeping.{is_among-append, nodes_of-append}
+use Rattle.ksv_memo.specs.Running.{Chain, calls_left, calls_of, Account}
 use Rattle.ksv_memo_rules.proofs.Standins.{stands-among}
 
 or-turned : (a b c : Bool) → ((a || b) || (c || false)) ≡ (a || (c || b))

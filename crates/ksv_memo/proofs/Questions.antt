@@ -1,13 +1,7 @@
 -- What a question keeps, as sets of nodes.
-use Rattle.std.proofs.Common.{◌≡◌, ℕ, Bool, true, false, List, [], ◌∷◌, ◌++◌, refl, sym, ◌∙◌, ap, nat_eq, ◌||◌, append_assoc, map}
-use Rattle.std.specs.List.{list_any}
-use Rattle.ksv_memo_rules.specs.Meaning.{Standing}
-use Rattle.ksv_memo_rules.specs.Evaluation.{is_among}
-use Rattle.ksv_memo_rules.specs.Entry.{Entry}
-use Rattle.ksv_memo_rules.specs.Right.{nodes_of, IsRight, AreExactly, AreBetween, fresh}
-use Rattle.ksv_memo.specs.Running.{to_keep, IsLeft, AreSame}
-use Rattle.ksv_memo_rules.proofs.Evals.{eqb_true}
-use Rattle.ksv_memo_rules.proofs.Keeping.{is_among-append}
+use Rattle.ksv_memo.proofs.Common.{◌≡◌, ℕ, Bool, true, false, List, [], ◌∷◌, ◌++◌, refl, sym, ◌∙◌, ap, nat_eq, ◌||◌, append_assoc, map, list_any, Standing}
+use Rattle.ksv_memo.proofs.Common.{is_among, Entry, nodes_of, IsRight, AreExactly, fresh, to_keep, IsLeft, AreSame, eqb_true, is_among-append}
+use Rattle.ksv_memo_rules.specs.Right.{AreBetween}
 use Rattle.ksv_memo.proofs.Moves.{fresh-out, fresh-in, fresh-nil}
 
 -- a member that is there already adds nothing
@@ -16,7 +10,7 @@ or-again true b c h = refl
 or-again false true c h = let no : false ≡ true = h refl in cc
 or-again false false c h = refl
 
-among-again : {N : Type 0} (number : N → ℕ) (kept ms : List N) (m x : N) → is_among number kept m ≡ true
+pub among-again : {N : Type 0} (number : N → ℕ) (kept ms : List N) (m x : N) → is_among number kept m ≡ true
     → is_among number (kept ++ m ∷ ms) x ≡ is_among number (kept ++ ms) x
 among-again number kept ms m x h =
     is_among-append number kept (m ∷ ms) x

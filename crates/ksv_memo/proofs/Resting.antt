@@ -1,13 +1,8 @@
 -- Frames where no node is open, and a table with nothing in it.
-use Rattle.std.proofs.Common.{◌≡◌, ℕ, false, List, [], ◌∷◌, Some, None, slice_get, length, map, reverse, sym, ◌∙◌, ap, subst, arith}
+use Rattle.ksv_memo.proofs.Common.{◌≡◌, ℕ, false, List, [], ◌∷◌, Some, None, slice_get, length, map, reverse, sym, ◌∙◌, ap, subst, arith, AllByRecursion, Slot}
+use Rattle.ksv_memo.proofs.Common.{is_kept, Linked, Frame, Frames, IsOneOf, AllDiffer, slots_of, node_at, IsKept, IsOpen, opens_in, opens_of, AreNested}
+use Rattle.ksv_memo.proofs.Common.{AreLinked, AreFrames, IsLaidOut}
 use Rattle.std.proofs.lemmas.List.{get_or_past}
-use Rattle.std.specs.List.{AllByRecursion}
-use Rattle.ksv_memo_rules.specs.declared.replies.Slot.{Slot}
-use Rattle.ksv_memo_links.specs.Marking.{is_kept}
-use Rattle.ksv_memo_links.specs.Links.{Linked}
-use Rattle.ksv_memo.specs.declared.frames.Frame.{Frame}
-use Rattle.ksv_memo.specs.declared.frames.Frames.{Frames}
-use Rattle.ksv_memo.specs.Layout.{IsOneOf, AllDiffer, slots_of, node_at, IsKept, IsOpen, opens_in, opens_of, AreNested, AreLinked, AreFrames, IsLaidOut}
 use Rattle.ksv_memo.proofs.Knowing.{some-frames}
 use Rattle.ksv_memo.proofs.Changing.{frames_nodes}
 

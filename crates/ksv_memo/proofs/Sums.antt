@@ -1,10 +1,7 @@
 -- Sums over slots that differ.
-use Rattle.std.proofs.Common.{◌≡◌, ◌≢◌, inl, inr, Bool, true, false, cond, ℕ, zero, suc, ◌+◌, ◌<◌, ◌≤◌, List, [], ◌∷◌, length, get_or, filter, Contains, refl}
-use Rattle.std.proofs.Common.{sym, ◌∙◌, ap, arith, sum_by}
-use Rattle.std.specs.List.{AllByRecursion, AllPairs}
-use Rattle.std.proofs.lemmas.List.Sums.{sum_by-cons}
-use Rattle.ksv_memo_links.specs.Touching.{numbers_from}
-use Rattle.ksv_memo.specs.Layout.{IsOneOf, AllDiffer}
+use Rattle.ksv_memo.proofs.Common.{◌≡◌, ◌≢◌, inl, inr, Bool, true, false, cond, ℕ, zero, suc, ◌+◌, ◌<◌, ◌≤◌, List, [], ◌∷◌, length, get_or, filter, Contains}
+use Rattle.ksv_memo.proofs.Common.{refl, sym, ◌∙◌, ap, arith, sum_by, AllByRecursion, sum_by-cons, numbers_from, IsOneOf, AllDiffer}
+use Rattle.std.specs.List.{AllPairs}
 use Rattle.ksv_memo.proofs.Laying.{one_of-all, All-numbers}
 
 pub one_of-contains : (xs : List ℕ) (x : ℕ) → Contains xs x → IsOneOf xs x

@@ -1,27 +1,18 @@
 -- The slots that were emptied are those of the entries that a change takes.
-use Rattle.std.proofs.Common.{◌≡◌, ◌⊎◌, inl, inr, Bool, true, false, not, cond, ◌||◌, ◌&&◌, ℕ, zero, suc, ◌+◌, ◌-◌, ◌*◌, ◌<◌, ◌≤◌, max, List, [], ◌∷◌, length}
-use Rattle.std.proofs.Common.{map, filter, get_or, Option, Some, None, is_some, All, Contains, refl, sym, ◌∙◌, ap, subst, arith, Result, sum_by, count_by}
-use Rattle.std.specs.Option.{option_map}
-use Rattle.std.specs.List.{AllByRecursion, list_any}
+use Rattle.ksv_memo.proofs.Common.{◌≡◌, ◌⊎◌, inl, inr, Bool, true, false, not, cond, ◌||◌, ◌&&◌, ℕ, zero, suc, ◌+◌, ◌-◌, ◌*◌, ◌<◌, ◌≤◌, List, [], ◌∷◌, length}
+use Rattle.ksv_memo.proofs.Common.{map, filter, get_or, Option, Some, None, is_some, Contains, refl, sym, ◌∙◌, ap, subst, arith, Result, sum_by, count_by}
+use Rattle.ksv_memo.proofs.Common.{option_map, AllByRecursion, list_any, sum_by-cons, Use, Change, Overwrite, Insert, Delete, Append, row, is_use_touched}
+use Rattle.ksv_memo.proofs.Common.{pages_in, numbers_from, AreWithin, is_kept, Linked, Slot, answer_at, with_first, Entry, IsOneOf, slots_of, node_at, nodes_at}
+use Rattle.ksv_memo.proofs.Common.{IsKept, entry_with, entry_at, entries_at, entries_of, AreLinked, Mark, IsMarked, entries_left}
+use Rattle.std.proofs.Common.{max, All}
 use Rattle.std.proofs.lemmas.Bool.{and_parts, cases_Bool, not-true}
 use Rattle.std.proofs.lemmas.List.{get_or_default}
-use Rattle.std.proofs.lemmas.List.Sums.{sum_by-cons, length-filter}
+use Rattle.std.proofs.lemmas.List.Sums.{length-filter}
 use Rattle.std.proofs.lemmas.List.Folds.{Any-from_list_any, list_any-from_Any}
 use Rattle.std.proofs.lemmas.List.Elements.{Contains-get_or}
-use Rattle.ksv_bytes.specs.declared.uses.Use.{Use}
-use Rattle.ksv_bytes.specs.declared.uses.Change.{Change}
-use Rattle.ksv_bytes.specs.declared.uses.Change.TheVariants.{Overwrite, Insert, Delete, Append}
-use Rattle.ksv_memo_links.specs.Shelved.{row}
-use Rattle.ksv_bytes.specs.Uses.{is_use_touched}
-use Rattle.ksv_memo_links.specs.Touching.{pages_in, numbers_from, AreWithin}
-use Rattle.ksv_memo_links.specs.Marking.{is_kept}
-use Rattle.ksv_memo_links.specs.Links.{Linked, Forgets, Reaches, here, through, IsHit, is_hit, IsMove, IsOverwrite, pages_met, met_by, pages_behind, behind_by}
+use Rattle.ksv_memo_links.specs.Links.{Forgets, Reaches, here, through, IsHit, is_hit, IsMove, IsOverwrite, pages_met, met_by, pages_behind, behind_by}
 use Rattle.ksv_memo_links.specs.Links.{ended_by, asks_of}
-use Rattle.ksv_memo_rules.specs.declared.replies.Slot.{Slot}
-use Rattle.ksv_memo_rules.specs.Slots.{answer_at, with_first}
-use Rattle.ksv_memo_rules.specs.Entry.{Entry}
-use Rattle.ksv_memo.specs.Layout.{IsOneOf, slots_of, node_at, nodes_at, IsKept, entry_with, entry_at, entries_at, entries_of, AreLinked}
-use Rattle.ksv_memo.specs.Sweep.{Mark, Says, AllSay, IsMarked, entries_with, entries_left, entries_gone}
+use Rattle.ksv_memo.specs.Sweep.{Says, AllSay, entries_with, entries_gone}
 use Rattle.ksv_memo.specs.Emptying.{IsEmptied, parts_of}
 use Rattle.ksv_memo.proofs.Knowing.{sum-shift, find_entry}
 use Rattle.ksv_memo.proofs.Sums.{one_of-contains, differ, numbers-differ, filter-differ, filter-passes, sum-within, sum-alike}

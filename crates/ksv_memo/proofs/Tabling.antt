@@ -1,22 +1,14 @@
 -- What a look-up says of the kept and the open nodes.
-use Rattle.std.proofs.Common.{◌≡◌, ◌≢◌, ℕ, ◌+◌, ◌≤◌, arith, Bool, true, false, List, reverse, length, Some, None, is_some, refl, sym, ◌∙◌, ap, subst, Result}
-use Rattle.std.proofs.Common.{slice_get}
-use Rattle.std.specs.Option.{option_map}
-use Rattle.std.proofs.lemmas.Option.{slice_get-map, slice_get_within}
-use Rattle.std.specs.Cmp.{IsEquivalence}
-use Rattle.std.specs.List.{AllByRecursion, list_any, IsDistinct}
+use Rattle.ksv_memo.proofs.Common.{◌≡◌, ◌≢◌, ℕ, ◌+◌, ◌≤◌, arith, Bool, true, false, List, reverse, length, Some, None, is_some, refl, sym, ◌∙◌, ap, subst}
+use Rattle.ksv_memo.proofs.Common.{Result, slice_get, option_map, slice_get-map, slice_get_within, IsEquivalence, AllByRecursion, list_any, IsDistinct}
+use Rattle.ksv_memo.proofs.Common.{numbers_from, Linked, Slot, Frames, answer_in, answer_of, answer_at, Entry, slots_of, node_at, nodes_at, IsOpen, IsKept}
+use Rattle.ksv_memo.proofs.Common.{entry_with, entry_at, entries_of, opens_of, AreLinked, AreFrames, IsLaidOut, IsVacant, Heard, Framed, Replies, Opens}
 use Rattle.std.specs.Map.{keys_of}
-use Rattle.ksv_memo_links.specs.Touching.{numbers_from}
-use Rattle.ksv_memo_links.specs.Links.{Linked, Grows}
-use Rattle.ksv_memo_rules.specs.declared.replies.Slot.{Slot}
+use Rattle.ksv_memo_links.specs.Links.{Grows}
 use Rattle.ksv_memo_rules.specs.declared.replies.Slot.TheVariants.{Empty as emptied, Open as opened}
-use Rattle.ksv_memo.specs.declared.frames.Frames.{Frames}
 use Rattle.ksv_memo.specs.declared.slots.Known.TheVariants.{New, Empty, Open, Kept}
-use Rattle.ksv_memo_rules.specs.Slots.{answer_in, answer_of, answer_at}
-use Rattle.ksv_memo_rules.specs.Entry.{Entry}
-use Rattle.ksv_memo.specs.Layout.{slots_of, node_at, nodes_at, IsOpen, IsKept, entry_with, entry_at, entries_of, opens_of, AreLinked, AreFrames, IsLaidOut}
-use Rattle.ksv_memo.specs.Moves.{IsVacant, Knows, IsTheSlot, Heard, Framed}
-use Rattle.ksv_memo.specs.Nodes.{Nodes, IsEntry, HasNoEntry, Replies, Opens}
+use Rattle.ksv_memo.specs.Moves.{Knows, IsTheSlot}
+use Rattle.ksv_memo.specs.Nodes.{Nodes, IsEntry, HasNoEntry}
 use Rattle.ksv_memo.proofs.Finding.{slot_there, node_there, answer_there}
 use Rattle.ksv_memo.proofs.Laying.{some-of, entries_at-same, All-numbers}
 use Rattle.ksv_memo.proofs.Changing.{ChangesAt, none_past, links-stay, entries-stay, frames-push, frames-hear, opens-push, opens-hear}

@@ -1,24 +1,15 @@
 -- What the moves of the table come to for a question.
-use Rattle.std.proofs.Common.{true≢false, ◌⊎◌, ◌≡◌, ℕ, ◌+◌, ◌<◌, nat_lt, arith, Bool, true, false, List, [], ◌∷◌, length, Option, Some, None, refl, sym, ◌∙◌}
-use Rattle.std.proofs.Common.{ap, subst, inl, inr}
-use Rattle.std.proofs.lemmas.Bool.Decides.{Decides-ltb}
-use Rattle.std.specs.Cmp.{IsEquivalence}
-use Rattle.std.specs.List.{list_any}
-use Rattle.ksv_memo_rules.specs.declared.rules.Next.{Next}
-use Rattle.ksv_memo_rules.specs.declared.rules.Next.TheVariants.{Need, Done}
-use Rattle.ksv_memo_rules.specs.declared.rules.Outcome.{Outcome}
-use Rattle.ksv_memo_rules.specs.declared.rules.Outcome.TheVariants.{Answered, Circle}
-use Rattle.ksv_memo_rules.specs.Meaning.{IsLawful, Meaning, Standing, IsSettled, on}
-use Rattle.ksv_memo_rules.proofs.Standing.{law_on}
-use Rattle.ksv_memo_rules.specs.Evaluation.{is_among, tells, done, IsAnswered, answering}
-use Rattle.ksv_memo_rules.specs.Entry.{Entry}
-use Rattle.ksv_memo.specs.Open.{Open, newly, with_uses, with_answer}
-use Rattle.ksv_memo.specs.Nodes.{Nodes, IsEntry, HasNoEntry, Replies, Opens, Circles, Starts, Steps, Closes, MayKeep}
-use Rattle.ksv_memo_rules.specs.Right.{nodes_of, IsRight, counted, Agrees}
-use Rattle.ksv_memo.specs.Running.{account_at, GoesOn, GoesOnWith, HasFinished, Advances, IsLeft, IsRunning, HasReached, AdvancesFrom, AdvancesAt}
-use Rattle.ksv_memo.specs.Running.{LeftFrom, LeftAt, Holds, HoldsWith, Counts, CountsWith, rest_of, to_keep, debt, AreSame, turns_left}
-use Rattle.ksv_memo_rules.proofs.Evals.{IsOut}
-use Rattle.ksv_memo_rules.proofs.Keeping.{IsIn, agrees, self_in}
+use Rattle.ksv_memo.proofs.Common.{◌⊎◌, ◌≡◌, ℕ, ◌+◌, ◌<◌, nat_lt, arith, Bool, true, false, List, [], ◌∷◌, length, Option, Some, None, refl, sym, ◌∙◌, ap}
+use Rattle.ksv_memo.proofs.Common.{subst, inl, inr, Decides-ltb, IsEquivalence, list_any, Next, Need, Done, Outcome, Answered, Circle, IsLawful, Meaning}
+use Rattle.ksv_memo.proofs.Common.{Standing, IsSettled, on, law_on, is_among, tells, done, answering, Entry, Open, newly, with_uses, with_answer, Replies}
+use Rattle.ksv_memo.proofs.Common.{Opens, Circles, Closes, MayKeep, nodes_of, IsRight, Agrees, GoesOn, HasFinished, IsLeft, rest_of, to_keep, debt, AreSame}
+use Rattle.ksv_memo.proofs.Common.{IsOut, IsIn, agrees, self_in}
+use Rattle.std.proofs.Common.{true≢false}
+use Rattle.ksv_memo_rules.specs.Evaluation.{IsAnswered}
+use Rattle.ksv_memo.specs.Nodes.{Nodes, IsEntry, HasNoEntry, Starts, Steps}
+use Rattle.ksv_memo_rules.specs.Right.{counted}
+use Rattle.ksv_memo.specs.Running.{account_at, GoesOnWith, Advances, IsRunning, HasReached, AdvancesFrom, AdvancesAt, LeftFrom, LeftAt, Holds, HoldsWith}
+use Rattle.ksv_memo.specs.Running.{Counts, CountsWith, turns_left}
 use Rattle.ksv_memo.proofs.Laying.{one_of-all}
 use Rattle.ksv_memo.proofs.Turns.{any_entry, waits_among, need-replies, need-opens, need-ends, finish-goes, finish-ends, finish-left, left-same, turn-account}
 use Rattle.ksv_memo.proofs.Turns.{turn-steps, begins, comes, covers-begins, turns-begin, value-begins, counts-end, counts-step, covers-kept, none-owed}

@@ -1,32 +1,20 @@
 -- The last open node: how it is run, kept and taken out.
-use Rattle.std.proofs.Common.{◌≡◌, ℕ, suc, ◌+◌, ◌-◌, ◌≤◌, ◌<◌, true, false, All, List, [], ◌∷◌, ◌++◌, length, map, take, drop, reverse, Option, Some, None}
-use Rattle.std.proofs.Common.{IfOk, OnOk, OnErr, Ok, Err, length-append, is_some, refl, sym, ◌∙◌, ap, subst, Result, slice_get, inr, arith, ◌==◌}
-use Rattle.std.specs.Option.{option_map}
-use Rattle.std.specs.List.{AllByRecursion}
+use Rattle.ksv_memo.proofs.Common.{◌≡◌, ℕ, suc, ◌+◌, ◌-◌, ◌≤◌, ◌<◌, true, false, List, [], ◌∷◌, ◌++◌, length, map, take, drop, reverse, Option, Some, None}
+use Rattle.ksv_memo.proofs.Common.{IfOk, OnOk, length-append, is_some, refl, sym, ◌∙◌, ap, subst, Result, slice_get, inr, arith, option_map, AllByRecursion}
+use Rattle.ksv_memo.proofs.Common.{slice_get-map, slice_get_within, Use, Linked, row, is_kept, Slot, Frame, Frames, answer_in, answer_at, answers_at, Open}
+use Rattle.ksv_memo.proofs.Common.{Standing, Next, HasEachOnce, IsOneOf, AllDiffer, slots_of, node_at, nodes_at, IsOpen, IsKept, entries_of, open_before}
+use Rattle.ksv_memo.proofs.Common.{opens_in, opens_of, AreNested, AreLinked, AreFrames, IsLaidOut, EndsWith, with_slot, Framed, Heard, Closes, MayKeep}
+use Rattle.ksv_memo.proofs.Common.{All-from_recursion, All-map, eqb_true}
+use Rattle.std.proofs.Common.{All, OnErr, Ok, Err, ◌==◌}
 use Rattle.std.proofs.lemmas.List.{reverse-append, take_rest}
-use Rattle.std.proofs.lemmas.Option.{slice_get-map, slice_get_within}
-use Rattle.ksv_bytes.specs.declared.uses.Use.{Use}
-use Rattle.ksv_memo_links.specs.Links.{Linked, Keeps as LinksKeep, IsUnchanged}
-use Rattle.ksv_memo_links.specs.Shelved.{row}
-use Rattle.ksv_memo_links.specs.Marking.{is_kept}
-use Rattle.ksv_memo_rules.specs.declared.replies.Slot.{Slot}
+use Rattle.ksv_memo_links.specs.Links.{Keeps as LinksKeep, IsUnchanged}
 use Rattle.ksv_memo_rules.specs.declared.replies.Slot.TheVariants.{Empty as emptied, Open as opened}
-use Rattle.ksv_memo.specs.declared.frames.Frame.{Frame}
-use Rattle.ksv_memo.specs.declared.frames.Frames.{Frames}
 use Rattle.ksv_memo.specs.declared.frames.Part.{Part}
-use Rattle.ksv_memo_rules.specs.Slots.{answer_in, answer_at, answers_at}
-use Rattle.ksv_memo.specs.Open.{Open, heard}
+use Rattle.ksv_memo.specs.Open.{heard}
 use Rattle.ksv_memo.specs.Calls.{Runs, replies_of}
-use Rattle.ksv_memo_rules.specs.Meaning.{Standing, IsAddedTo}
-use Rattle.ksv_memo_rules.specs.declared.rules.Next.{Next}
-use Rattle.ksv_memo_rules.specs.Right.{HasEachOnce}
-use Rattle.ksv_memo.specs.Layout.{IsOneOf, AllDiffer, slots_of, node_at, nodes_at, IsOpen, IsKept, entries_of, open_before, opens_in, opens_of, AreNested}
-use Rattle.ksv_memo.specs.Layout.{AreLinked, AreFrames, IsLaidOut}
-use Rattle.ksv_memo.specs.Moves.{EndsWith, with_slot, SameFrames, IsPart, Framed, Popped, Heard}
-use Rattle.ksv_memo.specs.Nodes.{Keeps, Closes, MayKeep, TakesFirst}
-use Rattle.std.proofs.lemmas.List.Elements.{All-from_recursion}
-use Rattle.ksv_memo_rules.proofs.Lists.{All-map}
-use Rattle.ksv_memo_rules.proofs.Evals.{eqb_true}
+use Rattle.ksv_memo_rules.specs.Meaning.{IsAddedTo}
+use Rattle.ksv_memo.specs.Moves.{SameFrames, IsPart, Popped}
+use Rattle.ksv_memo.specs.Nodes.{Keeps, TakesFirst}
 use Rattle.ksv_memo.proofs.Finding.{node_there, answer_there}
 use Rattle.ksv_memo.proofs.Laying.{All-drop}
 use Rattle.ksv_memo.proofs.Changing.{ChangesAt, set_at, set_count, grown, links-stay, links-keep, entries-stay, entries-keep, frames-pop, frames-hear}

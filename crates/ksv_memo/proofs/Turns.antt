@@ -1,26 +1,18 @@
 -- What the code's tests and moves say of kept and open nodes.
-use Rattle.std.proofs.Common.{◌≡◌, ℕ, suc, ◌+◌, ◌-◌, ◌*◌, ◌<◌, ◌≤◌, Bool, true, false, List, [], ◌∷◌, ◌++◌, length, refl, sym, ◌∙◌, ap, subst, nat_eq, arith}
-use Rattle.std.proofs.Common.{◌||◌, length-append, eq-eqb, Option, Result, Ok, Err, OnErr}
-use Rattle.std.specs.Cmp.{IsEquivalence}
-use Rattle.std.specs.List.{AllByRecursion, list_any}
-use Rattle.ksv_bytes.specs.declared.uses.Use.{Use}
-use Rattle.ksv_memo_rules.specs.declared.rules.Next.{Next}
-use Rattle.ksv_memo_rules.specs.declared.rules.Next.TheVariants.{Need, Done}
-use Rattle.ksv_memo_rules.specs.declared.rules.Outcome.{Outcome}
-use Rattle.ksv_memo_rules.specs.declared.rules.Outcome.TheVariants.{Answered, Circle}
-use Rattle.ksv_memo_rules.specs.Meaning.{Standing, IsSettled}
-use Rattle.ksv_memo_rules.specs.Evaluation.{is_among, Told, told, tells, done, answering}
-use Rattle.ksv_memo_rules.specs.Entry.{Entry}
-use Rattle.ksv_memo.specs.Open.{Open, nodes_in, newly, with_uses, with_answer}
+use Rattle.ksv_memo.proofs.Common.{◌≡◌, ℕ, suc, ◌+◌, ◌-◌, ◌*◌, ◌<◌, ◌≤◌, Bool, true, false, List, [], ◌∷◌, ◌++◌, length, refl, sym, ◌∙◌, ap, subst, nat_eq}
+use Rattle.ksv_memo.proofs.Common.{arith, ◌||◌, length-append, eq-eqb, Option, Result, IsEquivalence, AllByRecursion, list_any, append-nil, Use, Next, Need}
+use Rattle.ksv_memo.proofs.Common.{Done, Outcome, Answered, Circle, Standing, IsSettled, is_among, Told, told, tells, done, answering, Entry, Open, nodes_in}
+use Rattle.ksv_memo.proofs.Common.{newly, with_uses, with_answer, nodes_of, HasEachOnce, IsRight, fresh, costs, Agrees, HasCome, IsWaiting, IsStack, rest_of}
+use Rattle.ksv_memo.proofs.Common.{to_keep, debt, HasFinished, GoesOn, IsLeft, All-right, IsOut, eqb_true, IsIn, AreDistinct-none, agrees, self_in}
+use Rattle.ksv_memo.proofs.Common.{nodes_of-append}
+use Rattle.std.proofs.Common.{Ok, Err, OnErr}
 use Rattle.ksv_memo.specs.Nodes.{kept_of}
-use Rattle.ksv_memo_rules.specs.Right.{nodes_of, HasEachOnce, IsRight, fresh, costs, counted, Agrees}
-use Rattle.ksv_memo.specs.Running.{HasCome, IsWaiting, HasEnded, HasStepped, IsStack, climbed, value_of, calls_of, calls_left, climbed_rest, rest_of, rest_at}
-use Rattle.ksv_memo.specs.Running.{to_keep, debt, made, Counts, account_of, account_at, HasFinished, GoesOn, IsLeft}
-use Rattle.ksv_memo_rules.proofs.Lists.{All-right}
-use Rattle.ksv_memo_rules.proofs.Evals.{IsOut, eqb_true, AreDistinct-cons, tells-free}
-use Rattle.ksv_memo_rules.proofs.Keeping.{IsIn, IsIn-append, AreDistinct-none, done-kept, agrees, self_in, nodes_of-append}
+use Rattle.ksv_memo_rules.specs.Right.{counted}
+use Rattle.ksv_memo.specs.Running.{HasEnded, HasStepped, climbed, value_of, calls_of, calls_left, climbed_rest, rest_at, made, Counts, account_of, account_at}
+use Rattle.ksv_memo_rules.proofs.Evals.{AreDistinct-cons, tells-free}
+use Rattle.ksv_memo_rules.proofs.Keeping.{IsIn-append, done-kept}
 use Rattle.ksv_memo.proofs.Places.{goes-moved, finished-moved, left-moved}
-use Rattle.ksv_memo.proofs.Moves.{++-nil, stepped, value-stepped, rest-stepped, rest-replied, rest-starts, rest-circle, covers-keep, covers-drop, to_keep-nil}
+use Rattle.ksv_memo.proofs.Moves.{stepped, value-stepped, rest-stepped, rest-replied, rest-starts, rest-circle, covers-keep, covers-drop, to_keep-nil}
 use Rattle.ksv_memo.proofs.Moves.{fresh-nil, debt-keep, debt-drop, replied, value-replied, value-circle, starts, value-starts, room, opens, keeps, closes}
 use Rattle.ksv_memo.proofs.Moves.{IsWaiting-keep}
 
@@ -278,7 +270,7 @@ module _ {N A : Type 0} (w : Standing N A) (law : IsSettled w) where
 
   rest-begins : (n : N) (o : Open N A) (st : List (Open N A)) → o ≡ newly n → st ≡ [] → rest_of w o st ≡ done w [] n
   rest-begins n o st e f = ap (λ q. rest_of w q st) e ∙ ap (λ below. rest_of w (newly n) below) f ∙ rest-starts w law [] n (AreDistinct-none w) refl
-      ∙ ++-nil (done w [] n)
+      ∙ append-nil (done w [] n)
 
   pub covers-begins : (es : List (Entry N A)) (n : N) (o : Open N A) (st : List (Open N A)) → o ≡ newly n → st ≡ []
       → to_keep w es (rest_of w o st) ≡ to_keep w es (done w [] n)
@@ -295,12 +287,12 @@ module _ {N A : Type 0} (w : Standing N A) (law : IsSettled w) where
   -- ---- a kept node is asked
   pub covers-kept : (es : List (Entry N A)) (n : N) → IsRight w es → IsIn w (nodes_of es) n → nodes_of es ≡ to_keep w es (done w [] n)
   covers-kept es n right is_in = to_keep-nil w es ∙ covers-drop w es (done w [] n) [] (done-kept w law es right [] tt n is_in)
-      ∙ ap (to_keep w es) (++-nil (done w [] n))
+      ∙ ap (to_keep w es) (append-nil (done w [] n))
 
   pub none-owed : (es : List (Entry N A)) (n : N) → IsRight w es → IsIn w (nodes_of es) n → (turns : Option ℕ) → turns ≡ counted (debt w es (done w [] n)) turns
   none-owed es n right is_in turns =
       let none : 0 ≡ debt w es (done w [] n) = sym (ap (costs w) (fresh-nil w.number (nodes_of es)))
-      ∙ debt-drop w es (done w [] n) [] (done-kept w law es right [] tt n is_in) ∙ ap (debt w es) (++-nil (done w [] n)) in
+      ∙ debt-drop w es (done w [] n) [] (done-kept w law es right [] tt n is_in) ∙ ap (debt w es) (append-nil (done w [] n)) in
       ap (λ k. counted k turns) none
 
 pub counts-end : (before now new : Option ℕ) (owed so_far total : ℕ) → Counts before now owed so_far total → so_far + 1 ≡ owed → new ≡ counted 1 now

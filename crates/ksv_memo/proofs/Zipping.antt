@@ -1,10 +1,8 @@
 -- Nodes beside their slots.
-use Rattle.std.proofs.Common.{◌≡◌, ℕ, zero, suc, Bool, ◌||◌, List, [], ◌∷◌, ◌++◌, length, map, slice_set, get_or, Some, refl, ◌∙◌, ap, arith, slice_get}
-use Rattle.std.specs.Option.{option_map}
-use Rattle.std.specs.List.{zip, list_any}
-use Rattle.std.proofs.lemmas.Option.{slice_get_read, slice_get_within}
+use Rattle.ksv_memo.proofs.Common.{◌≡◌, ℕ, zero, suc, Bool, ◌||◌, List, [], ◌∷◌, ◌++◌, length, map, slice_set, get_or, Some, refl, ◌∙◌, ap, arith, slice_get}
+use Rattle.ksv_memo.proofs.Common.{option_map, zip, list_any, slice_get_within, with_slot}
+use Rattle.std.proofs.lemmas.Option.{slice_get_read}
 use Rattle.std.proofs.lemmas.Slice.Zip.{length-zip}
-use Rattle.ksv_memo.specs.Moves.{with_slot}
 
 module _ {N X : Type 0} where
   pub slots-zip : (ns : List N) (ss : List X) → length ss ≡ length ns → map (λ (p : N × X). p.1) (zip ns ss) ≡ ss

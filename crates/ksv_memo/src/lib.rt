@@ -46,6 +46,7 @@
 //!
 //! - `Change`: what is still right when the bytes change
 //! - `Changing`: links and frames after one slot has changed
+//! - `Common`: what many of them name, of definitions and of other crates
 //! - `Emptying`: slots are emptied one after another
 //! - `Ends`: what is kept ends by the engine's reach
 //! - `Finding`: what the slot at a place says

@@ -1,8 +1,7 @@
 -- A chain of entries: what is left of it when one is taken out, and with one more before it.
-use Rattle.std.proofs.Common.{◌≡◌, ◌≢◌, ◌⊎◌, inl, inr, ℕ, zero, suc, ◌+◌, ◌-◌, ◌<◌, ◌≤◌, List, length, refl, sym, ◌∙◌, ap, subst, arith}
-use Rattle.std.proofs.lemmas.Bool.{cases_lt}
-use Rattle.ksv_memo_links.specs.declared.blocks.Entry.{Entry}
-use Rattle.ksv_memo_links.specs.Chained.{entry_at, first_at, hop, before_of, IsChain, Unlinks, Links}
+use Rattle.ksv_memo_links.proofs.Common.{◌≡◌, ◌≢◌, ◌⊎◌, inl, inr, ℕ, zero, suc, ◌+◌, ◌-◌, ◌<◌, ◌≤◌, List, length, refl, sym, ◌∙◌, ap, subst, arith, cases_lt}
+use Rattle.ksv_memo_links.proofs.Common.{Entry, entry_at, first_at, hop, IsChain}
+use Rattle.ksv_memo_links.specs.Chained.{before_of, Unlinks, Links}
 
 -- two steps of a chain lead to two places
 pub apart : (a : List Entry) (l p n : ℕ) → IsChain a l p n → (i j : ℕ) → i < n → j < n → hop a p i ≡ hop a p j → i ≡ j

@@ -1,7 +1,6 @@
 -- A row that is cut from its end.
-use Rattle.std.proofs.Common.{◌≡◌, ℕ, ◌-◌, ◌<◌, ◌≤◌, List, [], length, take, set, sym, ◌∙◌, ap, arith}
-use Rattle.std.proofs.lemmas.List.{set-set, take-take, length-take-le}
-use Rattle.ksv_memo_links.specs.Shelved.{row, pop_row}
+use Rattle.ksv_memo_links.proofs.Common.{◌≡◌, ℕ, ◌-◌, ◌<◌, ◌≤◌, List, length, take, set, sym, ◌∙◌, ap, arith, set-set, row, pop_row}
+use Rattle.std.proofs.lemmas.List.{take-take, length-take-le}
 use Rattle.ksv_memo_links.proofs.Edits.{row_set}
 
 -- of row o the first elements are left

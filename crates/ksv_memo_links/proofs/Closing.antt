@@ -1,25 +1,14 @@
 -- What was marked is what has to go.
-use Rattle.std.proofs.Common.{◌≡◌, ◌≢◌, ◌⊎◌, inl, inr, Bool, true, false, cond, eqb, ℕ, suc, ◌+◌, ◌-◌, ◌*◌, ◌<◌, ◌≤◌, max, min, List, [], ◌∷◌, length, map}
-use Rattle.std.proofs.Common.{take, get_or, Contains, refl, sym, ◌∙◌, ap, subst, arith, true≢false, sum_by, count_by, nat_eq, nat_lt, nat_le, ◌||◌}
-use Rattle.std.proofs.lemmas.List.Sums.{sum_by-cons}
-use Rattle.std.proofs.lemmas.Bool.{cases_lt, cases_Bool}
-use Rattle.std.proofs.lemmas.Bool.Decides.{eqb_tells}
-use Rattle.std.proofs.lemmas.List.{take_all, get_or_default}
-use Rattle.ksv_bytes.specs.declared.uses.Use.{Use}
-use Rattle.ksv_bytes.specs.declared.uses.Change.{Change}
+use Rattle.ksv_memo_links.proofs.Common.{◌≡◌, ◌≢◌, ◌⊎◌, inl, inr, Bool, true, false, cond, eqb, ℕ, suc, ◌+◌, ◌-◌, ◌*◌, ◌<◌, ◌≤◌, max, min, List, [], ◌∷◌}
+use Rattle.ksv_memo_links.proofs.Common.{length, map, take, get_or, Contains, refl, sym, ◌∙◌, ap, subst, arith, true≢false, sum_by, count_by, nat_lt}
+use Rattle.ksv_memo_links.proofs.Common.{sum_by-cons, cases_lt, eqb_tells, take_all, get_or_default, Use, Change, Item, Parts, row, pages_in, ends_in}
+use Rattle.ksv_memo_links.proofs.Common.{lists_of_uses, end_lists, page_lists, one_if, first_page, end_page, is_kept, IsMarking, IsListed, item_at, SameLinks}
+use Rattle.ksv_memo_links.proofs.Common.{MarksMore, Why, HitsRows, Spreads, looks, sizes}
+use Rattle.std.proofs.Common.{nat_eq, nat_le, ◌||◌}
+use Rattle.std.proofs.lemmas.Bool.{cases_Bool}
 use Rattle.ksv_bytes.specs.declared.uses.Change.TheVariants.{Overwrite, Insert, Delete, Append}
-use Rattle.ksv_memo_links.specs.declared.blocks.Item.{Item}
-use Rattle.ksv_memo_links.specs.declared.parts.Parts.{Parts}
-use Rattle.ksv_memo_links.specs.Shelved.{row}
-use Rattle.ksv_memo_links.specs.Touching.{pages_in, ends_in}
-use Rattle.ksv_memo_links.specs.Placed.{lists_of_uses, end_lists, page_lists}
-use Rattle.ksv_memo_links.specs.Linked.{one_if}
-use Rattle.ksv_memo_links.specs.Links.{is_hit, IsHit, here, through, Forgets, first_page, end_page, pages_met, met_by}
-use Rattle.ksv_memo_links.specs.Marking.{is_kept, IsMarking}
-use Rattle.ksv_memo_links.specs.Chained.{IsListed}
-use Rattle.ksv_memo_links.specs.Linked.{item_at}
-use Rattle.ksv_memo_links.specs.Forgetting.{SameLinks, MarksMore, IsEdit, Why, AreAllWithin, HitsRows, HitsBehind, HitsTouched, Spreads, IsWhole, IsNear}
-use Rattle.ksv_memo_links.specs.Forgetting.{IsBehind, linked_of, lengths, looks, sizes}
+use Rattle.ksv_memo_links.specs.Links.{is_hit, IsHit, here, through, Forgets, pages_met, met_by}
+use Rattle.ksv_memo_links.specs.Forgetting.{IsEdit, AreAllWithin, HitsBehind, HitsTouched, IsWhole, IsNear, IsBehind, linked_of, lengths}
 use Rattle.ksv_memo_links.proofs.Edits.{row_there}
 use Rattle.ksv_memo_links.proofs.Turns.{row_of, few-pages, few-ends, page-item, end-item}
 use Rattle.ksv_memo_links.proofs.Mark.{stays-out}

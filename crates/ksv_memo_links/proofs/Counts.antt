@@ -1,9 +1,7 @@
 -- How often a list is named, after one more and one less.
-use Rattle.std.proofs.Common.{◌≡◌, ℕ, ◌+◌, ◌-◌, ◌<◌, List, [], ◌∷◌, ◌++◌, length, take, get_or, ap, arith, sum_by}
-use Rattle.std.proofs.lemmas.List.{take_all}
-use Rattle.std.proofs.lemmas.List.Sums.{sum_by-set, sum_by_more, sum_by_push}
-use Rattle.ksv_memo_links.specs.Shelved.{row, pop_row, push_row}
-use Rattle.ksv_memo_links.specs.Linked.{one_if, naming}
+use Rattle.ksv_memo_links.proofs.Common.{◌≡◌, ℕ, ◌+◌, ◌-◌, ◌<◌, List, [], ◌∷◌, ◌++◌, length, take, get_or, ap, arith, sum_by, take_all, sum_by-set, row}
+use Rattle.ksv_memo_links.proofs.Common.{pop_row, push_row, one_if, naming}
+use Rattle.std.proofs.lemmas.List.Sums.{sum_by_more, sum_by_push}
 
 pub naming-push : (rows : List (List ℕ)) (o n l : ℕ) → o < length rows → naming (push_row rows o n) l ≡ naming rows l + one_if l n
 naming-push rows o n l lt =

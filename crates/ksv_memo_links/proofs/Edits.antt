@@ -1,8 +1,6 @@
 -- What rows are after a write to one.
-use Rattle.std.proofs.Common.{◌≡◌, ◌≢◌, ◌⊎◌, inl, inr, ℕ, ◌<◌, ◌≤◌, List, [], length, set, ap, arith}
-use Rattle.std.proofs.lemmas.List.{get_or-set_same, get_or-set_other, get_or_past}
-use Rattle.std.proofs.lemmas.Bool.{cases_lt}
-use Rattle.ksv_memo_links.specs.Shelved.{row}
+use Rattle.ksv_memo_links.proofs.Common.{◌≡◌, ◌≢◌, ◌⊎◌, inl, inr, ℕ, ◌<◌, ◌≤◌, List, [], length, set, ap, arith, get_or-set_same, get_or-set_other, get_or_past}
+use Rattle.ksv_memo_links.proofs.Common.{cases_lt, row}
 
 pub row_set : {X : Type 0} (rows : List (List X)) (r : ℕ) (xs : List X) → r < length rows → row (set rows r xs) r ≡ xs
 row_set rows r xs lt = get_or-set_same rows r xs [] lt

@@ -1,7 +1,6 @@
 -- A row that is filled number by number.
-use Rattle.std.proofs.Common.{◌≡◌, ℕ, ◌+◌, ◌<◌, List, length, ◌∷◌, ◌++◌, [], take, set, get_or, sym, ◌∙◌, ap}
-use Rattle.std.proofs.lemmas.List.{set-set, take_more}
-use Rattle.ksv_memo_links.specs.Shelved.{row, push_row}
+use Rattle.ksv_memo_links.proofs.Common.{◌≡◌, ℕ, ◌+◌, ◌<◌, List, length, ◌∷◌, ◌++◌, [], take, set, get_or, sym, ◌∙◌, ap, set-set, row, push_row}
+use Rattle.std.proofs.lemmas.List.{take_more}
 use Rattle.ksv_memo_links.proofs.Edits.{row_set}
 
 filled : (before now : List (List ℕ)) (o i n : ℕ) (ns : List ℕ) → o < length before → i < length ns → n ≡ get_or ns i 0 → now ≡ set before o (take i ns)

@@ -1,12 +1,9 @@
 -- The chains stay whole when owners and lists are added.
-use Rattle.std.proofs.Common.{◌≡◌, ℕ, zero, suc, ◌≤◌, List, [], ◌++◌, length, replicate, refl, sym, ◌∙◌, ap, subst, arith, sum_by, Result, Ok, Err, OnOk, OnErr}
-use Rattle.std.proofs.lemmas.List.{append-nil, map-append, length-append}
-use Rattle.std.proofs.lemmas.List.Sums.{sum_by-append, sum_by-cons}
-use Rattle.ksv_memo_links.specs.declared.blocks.Entry.{Entry}
-use Rattle.ksv_memo_links.specs.declared.blocks.Block.{Block}
-use Rattle.ksv_memo_links.specs.Shelved.{HasSameRows}
-use Rattle.ksv_memo_links.specs.Linked.{naming, one_if}
-use Rattle.ksv_memo_links.specs.Chained.{entry_at, block_at, first_at, lists_in, named_of, hop, IsChain, IsLive, IsChained}
+use Rattle.ksv_memo_links.proofs.Common.{◌≡◌, ℕ, zero, suc, ◌≤◌, List, [], ◌++◌, length, replicate, refl, sym, ◌∙◌, ap, subst, arith, sum_by, append-nil}
+use Rattle.ksv_memo_links.proofs.Common.{map-append, length-append, sum_by-cons, Entry, Block, HasSameRows, naming, one_if, entry_at, block_at, first_at}
+use Rattle.ksv_memo_links.proofs.Common.{lists_in, named_of, hop, IsChain, IsLive, IsChained}
+use Rattle.std.proofs.Common.{Result, Ok, Err, OnOk, OnErr}
+use Rattle.std.proofs.lemmas.List.Sums.{sum_by-append}
 use Rattle.ksv_memo_links.proofs.Padding.{padded}
 use Rattle.ksv_memo_links.proofs.Linking.{named-row, live-as}
 

@@ -1,19 +1,12 @@
 -- Why the marks of the code are right, one upon another.
-use Rattle.std.proofs.Common.{◌≡◌, ◌≢◌, ◌⊎◌, inl, inr, Bool, true, false, eqb, ℕ, suc, ◌+◌, ◌*◌, ◌<◌, ◌≤◌, max, min, List, [], ◌∷◌, length, map, get_or, refl}
-use Rattle.std.proofs.Common.{sym, ◌∙◌, ap, subst, arith}
-use Rattle.std.proofs.lemmas.Bool.Decides.{eqb_tells}
-use Rattle.ksv_bytes.specs.declared.uses.Use.{Use}
-use Rattle.ksv_bytes.specs.declared.uses.Change.{Change}
-use Rattle.ksv_memo_links.specs.declared.blocks.Item.{Item}
-use Rattle.ksv_memo_links.specs.declared.parts.Parts.{Parts}
-use Rattle.ksv_memo_links.specs.Shelved.{row}
-use Rattle.ksv_memo_links.specs.Placed.{Used, lists_of_uses, end_lists, page_lists}
-use Rattle.ksv_memo_links.specs.Linked.{at}
-use Rattle.ksv_memo_links.specs.Links.{is_hit, here, through, first_page}
-use Rattle.ksv_memo_links.specs.Marking.{is_kept, IsCounted}
-use Rattle.ksv_memo_links.specs.Chained.{Chained, IsListed}
-use Rattle.ksv_memo_links.specs.Linked.{item_at}
-use Rattle.ksv_memo_links.specs.Forgetting.{SameLinks, looks, Why, MarksMore, IsEdit, HitsSlot, HitsRow, HitsRows, HitsBehind, sizes}
+use Rattle.ksv_memo_links.proofs.Common.{◌≡◌, ◌≢◌, ◌⊎◌, inl, inr, Bool, true, false, eqb, ℕ, suc, ◌+◌, ◌*◌, ◌<◌, ◌≤◌, max, min, List, [], ◌∷◌, length, map}
+use Rattle.ksv_memo_links.proofs.Common.{get_or, refl, sym, ◌∙◌, ap, subst, arith, eqb_tells, Use, Change, Item, Parts, row, lists_of_uses, end_lists}
+use Rattle.ksv_memo_links.proofs.Common.{page_lists, at, first_page, is_kept, Chained, IsListed, item_at, SameLinks, looks, Why, MarksMore, HitsRow, HitsRows}
+use Rattle.ksv_memo_links.proofs.Common.{sizes}
+use Rattle.ksv_memo_links.specs.Placed.{Used}
+use Rattle.ksv_memo_links.specs.Links.{is_hit, here, through}
+use Rattle.ksv_memo_links.specs.Marking.{IsCounted}
+use Rattle.ksv_memo_links.specs.Forgetting.{IsEdit, HitsSlot, HitsBehind}
 use Rattle.ksv_memo_links.proofs.Mark.{stays-out}
 use Rattle.ksv_memo_links.proofs.More.{more-trans, no-mark, MarksOne, one-mark, one-out, below-more}
 use Rattle.ksv_memo_links.proofs.Turns.{row_of}

@@ -1,13 +1,8 @@
 -- The items of a list, as the chain of its entries has them.
-use Rattle.std.proofs.Common.{◌≡◌, ◌≢◌, ◌⊎◌, inl, inr, ℕ, zero, suc, ◌+◌, ◌-◌, ◌<◌, ◌≤◌, List, [], ◌∷◌, length, get_or, refl, sym, ◌∙◌, ap, subst, arith}
-use Rattle.std.proofs.lemmas.Bool.{cases_lt}
-use Rattle.std.proofs.lemmas.List.{get_or_past}
-use Rattle.ksv_memo_links.specs.declared.blocks.Item.{Item}
-use Rattle.ksv_memo_links.specs.declared.blocks.Entry.{Entry}
-use Rattle.ksv_memo_links.specs.declared.blocks.Block.{Block}
-use Rattle.ksv_memo_links.specs.Shelved.{row}
-use Rattle.ksv_memo_links.specs.Linked.{at, naming}
-use Rattle.ksv_memo_links.specs.Chained.{entry_at, block_at, first_at, named_of, hop, items_from, rows_from, lists_of, IsLive, IsChained, IsListed}
+use Rattle.ksv_memo_links.proofs.Common.{◌≡◌, ◌≢◌, ◌⊎◌, inl, inr, ℕ, zero, suc, ◌+◌, ◌-◌, ◌<◌, ◌≤◌, List, [], ◌∷◌, length, get_or, refl, sym, ◌∙◌, ap, subst}
+use Rattle.ksv_memo_links.proofs.Common.{arith, cases_lt, get_or_past, Item, Entry, Block, row, at, naming, entry_at, block_at, first_at, named_of, hop, IsLive}
+use Rattle.ksv_memo_links.proofs.Common.{IsChained, IsListed}
+use Rattle.ksv_memo_links.specs.Chained.{items_from, rows_from, lists_of}
 use Rattle.ksv_memo_links.proofs.Chaining.{apart}
 use Rattle.ksv_memo_links.proofs.Linking.{block-get, named-row, row-length}
 

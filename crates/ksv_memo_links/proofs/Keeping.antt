@@ -1,15 +1,12 @@
 -- A slot upon another is taken or kept, and the links stay whole.
-use Rattle.std.proofs.Common.{◌≡◌, ◌≢◌, ◌⊎◌, inl, inr, Bool, true, false, eqb, ℕ, ◌<◌, ◌≤◌, List, [], ◌∷◌, ◌++◌, length, set, get_or, Contains, All, refl, sym}
-use Rattle.std.proofs.Common.{◌∙◌, ap, subst, arith, true≢false}
-use Rattle.std.specs.List.{AllPairs}
-use Rattle.std.proofs.lemmas.List.{length-set, get_or-set_same, get_or-set_other, set-set, set-get_or, length_push, get_or_append_left}
-use Rattle.std.proofs.lemmas.List.Elements.{Contains-append_left, Contains-push, Contains-push_cases}
-use Rattle.std.proofs.lemmas.Bool.Decides.{eqb_tells}
-use Rattle.ksv_bytes.specs.declared.uses.Use.{Use}
-use Rattle.ksv_memo_links.specs.declared.parts.Parts.{Parts}
-use Rattle.ksv_memo_links.specs.Shelved.{row, HasSameRows}
-use Rattle.ksv_memo_links.specs.Marking.{is_kept, HasMore}
-use Rattle.ksv_memo_links.specs.Forgetting.{IsShaped, IsWhole, Clears, IsAsBefore, Fills}
+use Rattle.ksv_memo_links.proofs.Common.{◌≡◌, ◌≢◌, ◌⊎◌, inl, inr, Bool, true, false, eqb, ℕ, ◌<◌, ◌≤◌, List, [], ◌∷◌, ◌++◌, length, set, get_or, Contains, refl}
+use Rattle.ksv_memo_links.proofs.Common.{sym, ◌∙◌, ap, subst, arith, true≢false, AllPairs, length-set, get_or-set_same, get_or-set_other, set-set, set-get_or}
+use Rattle.ksv_memo_links.proofs.Common.{get_or_append_left, Contains-append_left, Contains-push, eqb_tells, Use, Parts, row, HasSameRows, is_kept, IsShaped}
+use Rattle.std.proofs.Common.{All}
+use Rattle.std.proofs.lemmas.List.{length_push}
+use Rattle.std.proofs.lemmas.List.Elements.{Contains-push_cases}
+use Rattle.ksv_memo_links.specs.Marking.{HasMore}
+use Rattle.ksv_memo_links.specs.Forgetting.{IsWhole, Clears, IsAsBefore, Fills}
 use Rattle.ksv_memo_links.proofs.Edits.{row_set, row_other}
 
 -- what a whole thing needs, in the words of the views

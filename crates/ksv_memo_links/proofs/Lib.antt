@@ -1,3 +1,4 @@
+pub mod Common
 pub mod Writing
 pub mod Edits
 pub mod Members

@@ -1,15 +1,12 @@
 -- The chains stay whole when one entry is linked or unlinked.
-use Rattle.std.proofs.Common.{◌≡◌, ◌≢◌, ◌⊎◌, inl, inr, true, false, eqb, cond, ℕ, zero, suc, ◌+◌, ◌-◌, ◌^◌, ◌<◌, ◌≤◌, List, [], ◌∷◌, ◌++◌, length, take, set}
-use Rattle.std.proofs.Common.{get_or, refl, sym, ◌∙◌, ap, subst, arith}
-use Rattle.std.proofs.lemmas.Bool.{cases_lt, cases_eq}
-use Rattle.std.proofs.lemmas.Bool.Decides.{eqb_tells}
-use Rattle.std.proofs.lemmas.List.{same_lists, length-map, map-set, get_or-map, get_or_past, get_or-set_same, get_or-set_other, take_at, get_or_push}
-use Rattle.std.proofs.lemmas.List.{get_or_default}
-use Rattle.ksv_memo_links.specs.declared.blocks.Entry.{Entry}
-use Rattle.ksv_memo_links.specs.declared.blocks.Block.{Block}
-use Rattle.ksv_memo_links.specs.Shelved.{row, push_row, pop_row}
-use Rattle.ksv_memo_links.specs.Linked.{naming, one_if}
-use Rattle.ksv_memo_links.specs.Chained.{entry_at, block_at, first_at, lists_in, named_of, hop, before_of, IsChain, IsLive, IsChained, IsFree, Unlinks, Links}
+use Rattle.ksv_memo_links.proofs.Common.{◌≡◌, ◌≢◌, ◌⊎◌, inl, inr, true, false, eqb, cond, ℕ, zero, suc, ◌+◌, ◌-◌, ◌<◌, ◌≤◌, List, [], ◌∷◌, ◌++◌, length, take}
+use Rattle.ksv_memo_links.proofs.Common.{set, get_or, refl, sym, ◌∙◌, ap, subst, arith, cases_lt, eqb_tells, length-map, get_or-map, get_or_past}
+use Rattle.ksv_memo_links.proofs.Common.{get_or-set_same, get_or-set_other, get_or_default, Entry, Block, row, push_row, pop_row, naming, one_if, entry_at}
+use Rattle.ksv_memo_links.proofs.Common.{block_at, first_at, lists_in, named_of, hop, IsChain, IsLive, IsChained, IsFree}
+use Rattle.std.proofs.Common.{◌^◌}
+use Rattle.std.proofs.lemmas.Bool.{cases_eq}
+use Rattle.std.proofs.lemmas.List.{same_lists, map-set, take_at, get_or_push}
+use Rattle.ksv_memo_links.specs.Chained.{before_of, Unlinks, Links}
 use Rattle.ksv_memo_links.proofs.Counts.{naming-push, naming-pop}
 use Rattle.ksv_memo_links.proofs.Chaining.{apart, IsSameFor, same-hop, same-chain, hop-low, hop-high, skip, cut-chain, more-hop, more-chain}
 

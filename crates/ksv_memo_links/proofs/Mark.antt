@@ -1,13 +1,11 @@
 -- One more mark.
-use Rattle.std.proofs.Common.{◌≡◌, ◌≢◌, ◌⊎◌, inl, inr, Bool, true, false, eqb, ℕ, ◌<◌, ◌≤◌, List, [], ◌∷◌, ◌++◌, length, set, get_or, refl, sym, ◌∙◌, ap, subst}
-use Rattle.std.proofs.Common.{arith, Contains, true≢false}
-use Rattle.std.proofs.lemmas.List.{append-nil, length-set, get_or-set_same, get_or-set_other, length_push, get_or_append_left, get_or_push, set-get_or}
-use Rattle.std.proofs.lemmas.List.{set_past, get_or_past, get_or_default}
-use Rattle.std.proofs.lemmas.List.Elements.{Contains-push, Contains-append_left}
+use Rattle.ksv_memo_links.proofs.Common.{◌≡◌, ◌≢◌, ◌⊎◌, inl, inr, Bool, true, false, eqb, ℕ, ◌<◌, ◌≤◌, List, [], ◌∷◌, ◌++◌, length, set, get_or, refl, sym, ◌∙◌}
+use Rattle.ksv_memo_links.proofs.Common.{ap, subst, arith, Contains, true≢false, append-nil, length-set, get_or-set_same, get_or-set_other, get_or_append_left}
+use Rattle.ksv_memo_links.proofs.Common.{set-get_or, get_or_past, get_or_default, Contains-push, Contains-append_left, cases_lt, eqb_tells, is_kept, IsMarking}
+use Rattle.std.proofs.lemmas.List.{length_push, get_or_push, set_past}
 use Rattle.std.proofs.lemmas.List.Quantifiers.{all_pairs_push}
-use Rattle.std.proofs.lemmas.Bool.{cases_lt, cases_Bool}
-use Rattle.std.proofs.lemmas.Bool.Decides.{eqb_tells}
-use Rattle.ksv_memo_links.specs.Marking.{is_kept, marked_work, IsMarking}
+use Rattle.std.proofs.lemmas.Bool.{cases_Bool}
+use Rattle.ksv_memo_links.specs.Marking.{marked_work}
 
 pub kept-fewer : (kept : List Bool) (s t : ℕ) → is_kept (set kept s false) t ≡ true → is_kept kept t ≡ true
 kept-fewer kept s t h = by (eqb_tells t s) (cases_lt s (length kept))

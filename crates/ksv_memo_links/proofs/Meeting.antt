@@ -1,13 +1,9 @@
 -- Each slot is linked to the lists of its uses, also when one more has uses, or has none any more.
-use Rattle.std.proofs.Common.{◌≡◌, ◌≢◌, ◌⊎◌, inl, inr, true, false, eqb, ℕ, ◌-◌, ◌^◌, ◌<◌, List, Option, length, map, set, sym, ◌∙◌, ap, arith}
-use Rattle.std.proofs.lemmas.Bool.Decides.{eqb_tells}
-use Rattle.std.proofs.lemmas.List.{length-set, length-map, length-append}
+use Rattle.ksv_memo_links.proofs.Common.{◌≡◌, ◌≢◌, ◌⊎◌, inl, inr, true, false, eqb, ℕ, ◌-◌, ◌<◌, List, length, map, set, sym, ◌∙◌, ap, arith, eqb_tells}
+use Rattle.ksv_memo_links.proofs.Common.{length-set, length-map, length-append, Use, Item, row, pages_in, ends_in, lists_of_uses, list_of_page}
+use Rattle.std.proofs.Common.{◌^◌, Option}
 use Rattle.std.specs.Option.{option_to_list}
-use Rattle.ksv_bytes.specs.declared.uses.Use.{Use}
-use Rattle.ksv_memo_links.specs.declared.blocks.Item.{Item}
-use Rattle.ksv_memo_links.specs.Shelved.{row}
-use Rattle.ksv_memo_links.specs.Touching.{pages_in, ends_in}
-use Rattle.ksv_memo_links.specs.Placed.{IsMet, lists_of_uses, list_of_page, list_of_end}
+use Rattle.ksv_memo_links.specs.Placed.{IsMet, list_of_end}
 use Rattle.ksv_memo_links.proofs.Edits.{row_set, row_other}
 
 pub met-put : (rows then : List (List Use)) (named now : List (List ℕ)) (lists lists2 : List (List Item)) (slot : ℕ) (us : List Use) → IsMet rows named lists

@@ -1,16 +1,10 @@
 -- Marks upon marks.
-use Rattle.std.proofs.Common.{◌≡◌, ◌≢◌, ◌⊎◌, inl, inr, Bool, true, false, eqb, ℕ, ◌+◌, ◌<◌, ◌≤◌, List, [], ◌++◌, length, set, sym, ◌∙◌, ap, subst, arith}
+use Rattle.ksv_memo_links.proofs.Common.{◌≡◌, ◌≢◌, ◌⊎◌, inl, inr, Bool, true, false, eqb, ℕ, ◌+◌, ◌<◌, ◌≤◌, List, [], ◌++◌, length, set, sym, ◌∙◌, ap, subst}
+use Rattle.ksv_memo_links.proofs.Common.{arith, length-set, append-nil, eqb_tells, Use, Change, Item, Parts, row, is_kept, IsMarking, IsShaped, SameLinks}
+use Rattle.ksv_memo_links.proofs.Common.{looks, Why, MarksMore}
 use Rattle.std.proofs.Common.{append_assoc}
-use Rattle.std.proofs.lemmas.List.{length-set, append-nil}
-use Rattle.std.proofs.lemmas.Bool.Decides.{eqb_tells}
-use Rattle.ksv_bytes.specs.declared.uses.Use.{Use}
-use Rattle.ksv_bytes.specs.declared.uses.Change.{Change}
-use Rattle.ksv_memo_links.specs.declared.blocks.Item.{Item}
-use Rattle.ksv_memo_links.specs.declared.parts.Parts.{Parts}
-use Rattle.ksv_memo_links.specs.Shelved.{row}
 use Rattle.ksv_memo_links.specs.Links.{IsHit, Reaches}
-use Rattle.ksv_memo_links.specs.Marking.{is_kept, marked_work, IsMarking, IsCounted}
-use Rattle.ksv_memo_links.specs.Forgetting.{IsShaped, SameLinks, looks, Why, MarksMore}
+use Rattle.ksv_memo_links.specs.Marking.{marked_work, IsCounted}
 use Rattle.ksv_memo_links.proofs.Mark.{kept-fewer, kept-marked, marked-grows, mark-step}
 
 pub same-trans : (p q r : Parts) → SameLinks p q → SameLinks q r → SameLinks p r

@@ -1,10 +1,7 @@
 -- Rows that are copied one upon another.
-use Rattle.std.proofs.Common.{◌≡◌, ◌≢◌, ◌⊎◌, inl, inr, true, false, eqb, ℕ, ◌+◌, ◌<◌, ◌≤◌, List, [], length, set, get_or, sym, ◌∙◌, ap, arith}
-use Rattle.std.proofs.lemmas.Bool.Decides.{eqb_tells}
-use Rattle.std.proofs.lemmas.List.{same_lists, length-set, get_or_default}
-use Rattle.ksv_memo_links.specs.declared.blocks.Item.{Item}
-use Rattle.ksv_memo_links.specs.Shelved.{row}
-use Rattle.ksv_memo_links.specs.Chained.{IsListed}
+use Rattle.ksv_memo_links.proofs.Common.{◌≡◌, ◌≢◌, ◌⊎◌, inl, inr, true, false, eqb, ℕ, ◌+◌, ◌<◌, ◌≤◌, List, [], length, set, get_or, sym, ◌∙◌, ap, arith}
+use Rattle.ksv_memo_links.proofs.Common.{eqb_tells, length-set, get_or_default, Item, row, IsListed}
+use Rattle.std.proofs.lemmas.List.{same_lists}
 use Rattle.ksv_memo_links.proofs.Edits.{row_set, row_other, row_there}
 
 -- the rows before one are copied, and the others are empty

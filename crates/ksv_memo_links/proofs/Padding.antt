@@ -1,10 +1,7 @@
 -- More rows at the end, which are empty.
-use Rattle.std.proofs.Common.{◌≡◌, ◌⊎◌, inl, inr, ℕ, ◌-◌, ◌<◌, ◌≤◌, List, [], ◌++◌, length, map, get_or, replicate}
-use Rattle.std.proofs.Common.{refl, sym, ◌∙◌, ap, subst, arith}
-use Rattle.std.proofs.lemmas.Bool.{cases_lt}
-use Rattle.std.proofs.lemmas.List.{length-append, length-map, length-replicate, get_or_append_left, get_or-append_right, get_or-replicate, get_or_past}
-use Rattle.std.proofs.lemmas.List.{get_or-map}
-use Rattle.ksv_memo_links.specs.Shelved.{row, HasSameRows}
+use Rattle.ksv_memo_links.proofs.Common.{◌≡◌, ◌⊎◌, inl, inr, ℕ, ◌-◌, ◌<◌, ◌≤◌, List, [], ◌++◌, length, map, get_or, replicate, refl, sym, ◌∙◌, ap, subst, arith}
+use Rattle.ksv_memo_links.proofs.Common.{cases_lt, length-append, length-map, get_or_append_left, get_or_past, get_or-map, row, HasSameRows}
+use Rattle.std.proofs.lemmas.List.{length-replicate, get_or-append_right, get_or-replicate}
 
 -- what lies after is what is found where there is nothing
 pub padded : {X : Type 0} (xs : List X) (n r : ℕ) (d : X) → get_or (xs ++ replicate n d) r d ≡ get_or xs r d

@@ -1,16 +1,10 @@
 -- The users of marked slots, one slot upon another.
-use Rattle.std.proofs.Common.{◌≡◌, ◌≢◌, ◌⊎◌, inl, inr, Bool, true, false, eqb, ℕ, ◌+◌, ◌*◌, ◌<◌, ◌≤◌, List, ◌++◌, length, take, get_or, refl, sym, ◌∙◌, ap}
-use Rattle.std.proofs.Common.{subst, arith}
-use Rattle.std.proofs.lemmas.List.{length-append, get_or_append_left, take-append-le, get_or_read}
+use Rattle.ksv_memo_links.proofs.Common.{◌≡◌, ◌≢◌, ◌⊎◌, inl, inr, Bool, true, false, eqb, ℕ, ◌+◌, ◌*◌, ◌<◌, ◌≤◌, List, ◌++◌, length, take, get_or, refl, sym}
+use Rattle.ksv_memo_links.proofs.Common.{◌∙◌, ap, subst, arith, length-append, get_or_append_left, get_or_read, eqb_tells, Item, Parts, row, IsListed, is_kept}
+use Rattle.ksv_memo_links.proofs.Common.{item_at, looks, IsShaped, SameLinks, Why, MarksMore, HitsUsers, Spreads}
+use Rattle.std.proofs.lemmas.List.{take-append-le}
 use Rattle.std.proofs.lemmas.List.Sums.{sum_by_more}
-use Rattle.std.proofs.lemmas.Bool.Decides.{eqb_tells}
-use Rattle.ksv_memo_links.specs.declared.blocks.Item.{Item}
-use Rattle.ksv_memo_links.specs.declared.parts.Parts.{Parts}
-use Rattle.ksv_memo_links.specs.Shelved.{row}
-use Rattle.ksv_memo_links.specs.Chained.{IsListed}
-use Rattle.ksv_memo_links.specs.Marking.{is_kept}
-use Rattle.ksv_memo_links.specs.Linked.{item_at}
-use Rattle.ksv_memo_links.specs.Forgetting.{looks, IsShaped, SameLinks, Why, MarksMore, HitsUsers, Spreads, lengths}
+use Rattle.ksv_memo_links.specs.Forgetting.{lengths}
 use Rattle.ksv_memo_links.proofs.Mark.{stays-out}
 use Rattle.ksv_memo_links.proofs.More.{more-trans, no-mark, why-along, MarksOne, one-mark, one-out, below-more}
 use Rattle.ksv_memo_links.proofs.Hits.{Peeks, peek-more, user-why}

@@ -1,10 +1,8 @@
 -- The items of pages are no more than the pages that uses meet.
-use Rattle.std.proofs.Common.{◌≡◌, ℕ, zero, suc, ◌+◌, ◌-◌, ◌≤◌, Bool, true, false, cond, ◌&&◌, nat_lt, nat_le, nat_eq, List, [], ◌∷◌, length, refl, ap, arith}
-use Rattle.std.proofs.Common.{sum_by, count_by, ◌||◌}
-use Rattle.std.proofs.lemmas.List.Sums.{sum_by-cons, sum_by-le-sum_by}
-use Rattle.ksv_memo_links.specs.Shelved.{row}
-use Rattle.ksv_memo_links.specs.Linked.{one_if, naming}
-use Rattle.ksv_memo_links.specs.Forgetting.{sizes}
+use Rattle.ksv_memo_links.proofs.Common.{◌≡◌, ℕ, zero, suc, ◌+◌, ◌-◌, ◌≤◌, Bool, true, false, cond, nat_lt, List, [], ◌∷◌, length, refl, ap, arith, sum_by}
+use Rattle.ksv_memo_links.proofs.Common.{count_by, sum_by-cons, row, one_if, naming, sizes}
+use Rattle.std.proofs.Common.{◌&&◌, nat_le, nat_eq, ◌||◌}
+use Rattle.std.proofs.lemmas.List.Sums.{sum_by-le-sum_by}
 
 -- a page is from a on and before b
 abbrev pub within : ℕ → ℕ → ℕ → Bool

@@ -1,17 +1,14 @@
 -- A touched use meets a page that the overwrite meets, or meets a page or ends after the insert or the delete.
-use Rattle.std.proofs.Common.{◌≡◌, ◌⊎◌, inl, inr, ℕ, zero, suc, ◌+◌, ◌-◌, ◌/◌, ◌<◌, ◌≤◌, max, Bool, true, false, cond, nat_lt, List, [], ◌∷◌, length, get_or}
-use Rattle.std.proofs.Common.{Contains, refl, sym, ap, subst, arith}
+use Rattle.ksv_memo_links.proofs.Common.{◌≡◌, ◌⊎◌, inl, inr, ℕ, zero, suc, ◌+◌, ◌-◌, ◌/◌, ◌<◌, ◌≤◌, max, Bool, true, false, cond, nat_lt, List, [], ◌∷◌, length}
+use Rattle.ksv_memo_links.proofs.Common.{get_or, Contains, refl, sym, ap, subst, arith, cases_lt, Contains-append_left, Contains-append_right, Contains-push}
+use Rattle.ksv_memo_links.proofs.Common.{Use, Bytes, numbers_from, pages_in, farthest, ends_in, first_page, end_page}
 use Rattle.std.specs.List.{list_any}
-use Rattle.std.proofs.lemmas.Bool.{cases_lt}
 use Rattle.std.proofs.lemmas.Bool.Decides.{Decides-and, Decides-ltb}
 use Rattle.std.proofs.lemmas.List.Folds.{Any-from_list_any, list_any-from_Any}
-use Rattle.std.proofs.lemmas.List.Elements.{Contains-append_left, Contains-append_right, Contains-push}
-use Rattle.ksv_bytes.specs.declared.uses.Use.{Use}
-use Rattle.ksv_bytes.specs.declared.uses.Use.TheVariants.{Bytes, Reach, Size}
+use Rattle.ksv_bytes.specs.declared.uses.Use.TheVariants.{Reach, Size}
 use Rattle.ksv_bytes.specs.declared.uses.Change.TheVariants.{Overwrite, Insert, Delete, Append}
 use Rattle.ksv_bytes.specs.Uses.{is_use_touched}
-use Rattle.ksv_memo_links.specs.Touching.{numbers_from, pages_end, pages_of, pages_in, is_size, reach_of, farthest, end_at, ends_in}
-use Rattle.ksv_memo_links.specs.Links.{first_page, end_page}
+use Rattle.ksv_memo_links.specs.Touching.{pages_end, pages_of, is_size, reach_of, end_at}
 
 head-in : {X : Type 0} (x : X) (xs : List X) → Contains (x ∷ xs) x
 head-in x xs = Contains-append_left (x ∷ []) xs x (Contains-push [] x)

@@ -1,18 +1,10 @@
 -- Lists that take turns: those of ends, and those of pages.
-use Rattle.std.proofs.Common.{◌≡◌, ◌≢◌, ◌⊎◌, inl, inr, true, false, cond, eqb, ℕ, zero, suc, ◌+◌, ◌*◌, ◌/◌, ◌<◌, ◌≤◌, List, [], ◌∷◌, length, map, get_or}
-use Rattle.std.proofs.Common.{Contains, refl, sym, ◌∙◌, ap, subst, arith, sum_by}
-use Rattle.std.proofs.lemmas.Bool.{cases_lt}
-use Rattle.std.proofs.lemmas.Bool.Decides.{eqb_tells}
-use Rattle.std.proofs.lemmas.List.{get_or-map, get_or_past, get_or_read, length-map}
-use Rattle.std.proofs.lemmas.List.Elements.{Contains-append_left, Contains-append_right}
-use Rattle.std.proofs.lemmas.List.Sums.{sum_by-cons, sum_by-append}
-use Rattle.ksv_bytes.specs.declared.uses.Use.{Use}
-use Rattle.ksv_memo_links.specs.declared.blocks.Item.{Item}
-use Rattle.ksv_memo_links.specs.Shelved.{row}
-use Rattle.ksv_memo_links.specs.Touching.{pages_in, ends_in}
-use Rattle.ksv_memo_links.specs.Linked.{at, item_at, one_if, naming}
-use Rattle.ksv_memo_links.specs.Chained.{IsListed}
-use Rattle.ksv_memo_links.specs.Placed.{list_of_end, list_of_page, lists_of_uses, every_other, end_lists, page_lists}
+use Rattle.ksv_memo_links.proofs.Common.{◌≡◌, ◌≢◌, ◌⊎◌, inl, inr, true, false, cond, eqb, ℕ, zero, suc, ◌+◌, ◌*◌, ◌/◌, ◌<◌, ◌≤◌, List, [], ◌∷◌, length, map}
+use Rattle.ksv_memo_links.proofs.Common.{get_or, Contains, refl, sym, ◌∙◌, ap, subst, arith, sum_by, cases_lt, eqb_tells, get_or-map, get_or_past, get_or_read}
+use Rattle.ksv_memo_links.proofs.Common.{length-map, Contains-append_left, Contains-append_right, sum_by-cons, Use, Item, row, pages_in, ends_in, at, item_at}
+use Rattle.ksv_memo_links.proofs.Common.{one_if, naming, IsListed, list_of_page, lists_of_uses, end_lists, page_lists}
+use Rattle.std.proofs.lemmas.List.Sums.{sum_by-append}
+use Rattle.ksv_memo_links.specs.Placed.{list_of_end, every_other}
 use Rattle.ksv_memo_links.proofs.Tallies.{rows-le}
 
 -- the number of an end and that of a page differ

@@ -1,7 +1,6 @@
 -- A write to one row, as the list of rows sees it.
-use Rattle.std.proofs.Common.{◌≡◌, ℕ, ◌<◌, List, length, map, set, get_or, sym, ◌∙◌, ap}
-use Rattle.std.proofs.lemmas.List.{map-set, get_or-map, length-map}
-use Rattle.ksv_memo_links.specs.Shelved.{row}
+use Rattle.ksv_memo_links.proofs.Common.{◌≡◌, ℕ, ◌<◌, List, length, map, set, get_or, sym, ◌∙◌, ap, get_or-map, length-map, row}
+use Rattle.std.proofs.lemmas.List.{map-set}
 
 pub row_written : {X V : Type 0} (items : V → List X) (f : List X → List X) (vs : List V) (rows : List (List X)) (r : ℕ) (v w : V) → rows ≡ map items vs
     → v ≡ get_or vs r v → r < length rows → items w ≡ f (items v) → map items (set vs r w) ≡ set rows r (f (row rows r))

@@ -40,6 +40,7 @@
 //! - `Chaining`: what is left of a chain when an entry is taken out, and with one more before it
 //! - `Clearing`: a row that is shortened from its end
 //! - `Closing`: what is marked is what has to go
+//! - `Common`: what many of them name, of definitions and of other crates
 //! - `Counting`: users of slots that go are no more than what these slots asked
 //! - `Counts`: how many names a list has after one more and one less
 //! - `Cursors`: where a walk along the items of a list is, and how it goes on

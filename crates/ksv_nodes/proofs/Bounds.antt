@@ -1,16 +1,12 @@
 -- How many nodes rules ask, and that a run with as many replies has no open question.
-use Rattle.std.proofs.Common.{◌≡◌, ℕ, zero, suc, ◌+◌, ◌≤◌, Bool, true, false, if◌then◌else◌, List, [], ◌∷◌, ◌++◌, length, Option, Some, None, Result, Ok, Err}
-use Rattle.std.proofs.Common.{sym, subst, arith}
-use Rattle.ksv_basics.specs.Plan.{Plan, Answer, Fail, Ask, bind, translate, AsksAtMost, next, run, IsEnded}
-use Rattle.ksv_expr_value.specs.Trail.{Trail, child}
-use Rattle.ksv_expr_value.specs.declared.fault.Fault.{Fault}
+use Rattle.ksv_nodes.proofs.Common.{◌≡◌, ℕ, zero, suc, ◌+◌, ◌≤◌, Bool, true, false, if◌then◌else◌, List, [], ◌∷◌, ◌++◌, length, Option, Some, None, Result, Ok}
+use Rattle.ksv_nodes.proofs.Common.{Err, sym, subst, arith, Answer, Fail, Ask, next, run, Trail, Fault, Given, Node, look, Rule, Of, See, part, State, replied}
+use Rattle.ksv_nodes.proofs.Common.{seen_in, turns}
+use Rattle.ksv_basics.specs.Plan.{Plan, bind, translate, AsksAtMost, IsEnded}
+use Rattle.ksv_expr_value.specs.Trail.{child}
 use Rattle.ksv_expr_value.specs.declared.step.Step.{Step}
-use Rattle.ksv_nodes.specs.declared.given.Given.{Given}
 use Rattle.ksv_nodes.specs.declared.given.Given.TheVariants as givens
-use Rattle.ksv_nodes.specs.declared.node.Node.{Node}
-use Rattle.ksv_nodes.specs.Reading.{look}
-use Rattle.ksv_nodes.specs.Rule.{Rule, Raised, Of, See, ask_head, ask_value, ask_end, ask_rest, in_path, part}
-use Rattle.ksv_nodes.specs.Turning.{State, replied, seen_in, turns}
+use Rattle.ksv_nodes.specs.Rule.{Raised, ask_head, ask_value, ask_end, ask_rest, in_path}
 use Rattle.ksv_nodes.specs.Bounds.{NodesAtMost}
 
 -- a larger bound holds too

@@ -1,10 +1,9 @@
 -- The first byte of a value in a list that is cut in two.
-use Rattle.std.proofs.Common.{◌≡◌, ℕ, suc, ◌+◌, ◌<◌, List, [], ◌∷◌, ◌++◌, length, Option, Some, None, Bool, true, false, ◌==◌, if◌then◌else◌, option_map, min}
-use Rattle.std.proofs.Common.{◌≤◌, ◌-◌, take, drop, refl, ap, ◌∙◌, arith, inl, inr}
+use Rattle.ksv_nodes.proofs.Common.{◌≡◌, ℕ, suc, ◌+◌, ◌<◌, List, [], ◌∷◌, ◌++◌, length, Option, Some, None, Bool, true, false, ◌==◌, if◌then◌else◌, ◌≤◌, take}
+use Rattle.ksv_nodes.proofs.Common.{drop, refl, ap, ◌∙◌, arith, slice_range, first_at}
+use Rattle.std.proofs.Common.{option_map, min, ◌-◌, inl, inr}
 use Rattle.std.proofs.lemmas.List.{length-drop, take_all, take_min, drop_all}
 use Rattle.std.proofs.lemmas.Bool.{cases_lt}
-use Rattle.std.specs.Prelude.{slice_range}
-use Rattle.ksv_nodes.specs.Reading.{first_at}
 
 -- a place in what comes after n bytes
 abbrev pub moved_on : ℕ → Option ℕ → Option ℕ

@@ -1,4 +1,5 @@
 -- The lemmas on readings, rules and turns.
+pub mod Common
 pub mod First
 pub mod Turns
 pub mod Truth

@@ -1,17 +1,13 @@
 -- A run on bytes that agree on all that it used yields the same, with the same uses.
-use Rattle.std.proofs.Common.{◌≡◌, List, [], ◌∷◌, ◌++◌, Option, Some, None, Result, Ok, Err, ℕ, refl, ap, subst, ◌∙◌}
-use Rattle.ksv_basics.specs.Plan.{Answer, Fail, Ask, next, run, behind}
-use Rattle.ksv_bytes.specs.declared.uses.Use.{Use}
-use Rattle.ksv_bytes.specs.Uses.{AgreeOn}
-use Rattle.ksv_expr_value.specs.declared.fault.Fault.{Fault}
-use Rattle.ksv_nodes.specs.declared.given.Given.{Given}
-use Rattle.ksv_nodes.specs.declared.node.Node.{Node}
-use Rattle.ksv_nodes.specs.Reading.{Reading, Seen, look}
-use Rattle.ksv_nodes.specs.Rule.{Rule, Of, See, Here, There}
-use Rattle.ksv_nodes.specs.Turning.{State, seen_in, looked, replied, turns}
+use Rattle.ksv_nodes.proofs.Common.{◌≡◌, List, [], ◌∷◌, ◌++◌, Option, Some, None, Result, Ok, Err, ℕ, refl, ap, subst, ◌∙◌, Answer, Fail, Ask, next, run}
+use Rattle.ksv_nodes.proofs.Common.{behind, Use, AgreeOn, Fault, Given, Node, Reading, look, Rule, Of, See, State, seen_in, replied, turns}
+use Rattle.ksv_nodes.specs.Reading.{Seen}
+use Rattle.ksv_nodes.specs.Rule.{Here, There}
+use Rattle.ksv_nodes.specs.Turning.{looked}
 use Rattle.ksv_nodes.specs.Laws.{state_on, ran_on}
 use Rattle.ksv_nodes.proofs.Turns.{Grows, run_grows}
-use Rattle.ksv_nodes.proofs.Looks.{Agree, all_front, all_back, look_same}
+use Rattle.ksv_nodes.proofs.Looks.{Agree, look_same}
+use Rattle.ksv_memo_rules.proofs.Lists.{All-left, All-right}
 
 abbrev pub IsLocal : {A : Type 0} → List ℕ → Rule A → Type 0
 IsLocal others p = (s : State) → Agree s.bytes others (behind (run turns p s)).uses → run turns p (state_on others s) ≡ ran_on others (run turns p s)
@@ -31,7 +27,7 @@ module _ (others : List ℕ) where
   used_before k s (Some x) h =
       let g : Grows s (behind (run turns (k x) s)) = run_grows (k x) s in
       let P : List Use → Type 0 = λ us. Agree s.bytes others us in
-      all_front (AgreeOn s.bytes others) s.uses g.added (subst P g.uses h)
+      All-left (AgreeOn s.bytes others) s.uses g.added (subst P g.uses h)
 
   seen_local : {A X : Type 0} (k : X → Rule A) → ((x : X) → IsLocal others (k x)) → (s : State) (o : Option X)
       → Agree s.bytes others (behind (next (seen_in o s) (λ x t. run turns (k x) t))).uses
@@ -43,7 +39,7 @@ module _ (others : List ℕ) where
   look_local : {A : Type 0} (r : Reading) (k : Seen r → Rule A) → ((x : Seen r) → IsLocal others (k x)) → IsLocal others (Ask (See r) k)
   look_local r k same s h =
       let t : State = record s { uses = s.uses ++ (look r s.bytes).uses } in
-      let used = all_back (AgreeOn s.bytes others) s.uses (look r s.bytes).uses (used_before k t (look r s.bytes).seen h) in
+      let used = All-right (AgreeOn s.bytes others) s.uses (look r s.bytes).uses (used_before k t (look r s.bytes).seen h) in
       ap (λ l. next (looked l (state_on others s)) (λ x u. run turns (k x) u)) (look_same s.bytes others r used)
       ∙ seen_local k same t (look r s.bytes).seen h
 

@@ -1,29 +1,18 @@
 -- Readings on bytes that agree on what they rest on.
-use Rattle.std.proofs.Common.{◌≡◌, ℕ, ◌+◌, ◌-◌, ◌≤◌, ◌<◌, min, List, [], ◌∷◌, ◌++◌, length, take, drop, Option, Some, None, Bool, true, false, ◌&&◌, ◌==◌}
-use Rattle.std.proofs.Common.{nat_lt, nat_le, if◌then◌else◌, option_map, refl, sym, ap, ◌∙◌, arith}
-use Rattle.std.specs.Prelude.{slice_range}
-use Rattle.std.specs.List.{AllByRecursion}
+use Rattle.ksv_nodes.proofs.Common.{◌≡◌, ℕ, ◌+◌, ◌≤◌, ◌<◌, List, [], ◌∷◌, ◌++◌, length, take, drop, Option, Some, None, Bool, true, false, ◌==◌, if◌then◌else◌}
+use Rattle.ksv_nodes.proofs.Common.{refl, sym, ap, ◌∙◌, arith, slice_range, AllByRecursion, Use, AgreeOn, Reading, first_at, look}
+use Rattle.std.proofs.Common.{◌-◌, min, ◌&&◌, nat_lt, nat_le, option_map}
 use Rattle.std.proofs.lemmas.Bool.{le-leb, eqb-true}
 use Rattle.std.proofs.lemmas.Bool.Decides.{nat_tests}
 use Rattle.std.proofs.lemmas.List.{take-take, take-append-drop, length-take, length-drop}
-use Rattle.ksv_bytes.specs.declared.uses.Use.{Use}
 use Rattle.ksv_bytes.specs.declared.uses.Use.TheVariants as uses
-use Rattle.ksv_bytes.specs.Uses.{AgreeOn}
 use Rattle.ksv_expr_value.specs.Places.{byte_in}
 use Rattle.ksv_nodes.specs.declared.turn.readings.Found.{Found}
 use Rattle.ksv_nodes.specs.declared.turn.readings.Found.TheVariants as founds
-use Rattle.ksv_nodes.specs.Reading.{Reading, Reach, Finish, Done, Peek, Find, Look, gives, ends_before, reach_file, reach_within, finish_of, done_at, cut_uses}
-use Rattle.ksv_nodes.specs.Reading.{peek_at, first_at, end_in, found_none, found_from, find_at, look}
+use Rattle.ksv_nodes.specs.Reading.{Reach, Finish, Done, Peek, Find, Look, gives, ends_before, reach_file, reach_within, finish_of, done_at, cut_uses, peek_at}
+use Rattle.ksv_nodes.specs.Reading.{end_in, found_none, found_from, find_at}
 use Rattle.ksv_nodes.proofs.First.{or_behind, first_at_append, first_at_below, range_cut, range_none}
-
--- uses of a beginning, and of an end
-pub all_front : {X : Type 0} (P : X → Type 0) (us vs : List X) → AllByRecursion P (us ++ vs) → AllByRecursion P us
-all_front P [] vs h = tt
-all_front P (u ∷ us) vs h = (h.0, all_front P us vs h.1)
-
-pub all_back : {X : Type 0} (P : X → Type 0) (us vs : List X) → AllByRecursion P (us ++ vs) → AllByRecursion P vs
-all_back P [] vs h = h
-all_back P (u ∷ us) vs h = all_back P us vs h.1
+use Rattle.ksv_memo_rules.proofs.Lists.{All-left, All-right}
 
 and_right : (x y : Bool) → x && y ≡ true → y ≡ true
 and_right true y e = e
@@ -204,8 +193,8 @@ module _ (b b' : List ℕ) where
       let held : s + i + 1 ≤ length b' = h.0.1 in
       let reaches = end_reaches to s (i + 1) (omega arith) cut.0 in
       ap (found_from b' to s (end_in b' to)) (found_on b' s (end_in b' to) x i reaches (ap (first_at x) same ∙ cut.1))
-  found_same to s x None e h = found_missing to s x e (all_front (AgreeOn b b') (finish_of b to).uses (peek_at b s (end_in b to)).uses h)
-      (all_back (AgreeOn b b') (finish_of b to).uses (peek_at b s (end_in b to)).uses h)
+  found_same to s x None e h = found_missing to s x e (All-left (AgreeOn b b') (finish_of b to).uses (peek_at b s (end_in b to)).uses h)
+      (All-right (AgreeOn b b') (finish_of b to).uses (peek_at b s (end_in b to)).uses h)
 
   find_same : (to : Option ℕ) (s x : ℕ) → Agree (find_at b to s x).uses → find_at b' to s x ≡ find_at b to s x
   unfolding find_at

@@ -1,17 +1,16 @@
 -- What is asked of a part of what is at a path.
-use Rattle.std.proofs.Common.{◌≡◌, true, false, Some, None, Result, Ok, Err, is_some, Option, refl, ap, ◌∙◌}
-use Rattle.ksv_basics.specs.Plan.{Fail, Ask, Ran, Done, Failed, Need, next, run, ◌>>=◌}
+use Rattle.ksv_nodes.proofs.Common.{◌≡◌, true, false, Some, None, Result, Ok, Err, Option, refl, ap, ◌∙◌, Fail, Ask, Done, Need, next, run, Trail, Fault, Given}
+use Rattle.ksv_nodes.proofs.Common.{Node, Of, part, Rule, State, come, turns}
+use Rattle.std.proofs.Common.{is_some}
+use Rattle.ksv_basics.specs.Plan.{Ran, Failed, ◌>>=◌}
 use Rattle.ksv_basics.proofs.Running.{run_bind}
-use Rattle.ksv_expr_value.specs.Trail.{Trail, child}
+use Rattle.ksv_expr_value.specs.Trail.{child}
 use Rattle.ksv_expr_value.specs.declared.step.Step.{Step}
-use Rattle.ksv_expr_value.specs.declared.fault.Fault.{Fault}
 use Rattle.ksv_expr_value.specs.declared.fault.FaultKind.{FaultKind}
 use Rattle.ksv_expr_value.specs.declared.fault.FaultKind.TheVariants as kinds
-use Rattle.ksv_nodes.specs.declared.given.Given.{Given}
-use Rattle.ksv_nodes.specs.declared.node.Node.{Node}
 use Rattle.ksv_nodes.specs.declared.node.NodeKind.{NodeKind}
-use Rattle.ksv_nodes.specs.Rule.{Of, There, in_path, part, raise, Rule}
-use Rattle.ksv_nodes.specs.Turning.{State, ask, come, fault_at, turns, Runs}
+use Rattle.ksv_nodes.specs.Rule.{There, in_path, raise}
+use Rattle.ksv_nodes.specs.Turning.{ask, fault_at, Runs}
 use Rattle.ksv_nodes.specs.declared.turn.Halt.{Halt}
 use Rattle.ksv_nodes.specs.declared.turn.Halt.TheVariants as halts
 

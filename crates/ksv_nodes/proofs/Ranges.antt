@@ -1,28 +1,17 @@
 -- What a run uses fits the bytes: a used range isn't empty, and the bytes reach each used place.
-use Rattle.std.proofs.Common.{◌≡◌, ℕ, ◌+◌, ◌<◌, List, [], ◌∷◌, ◌++◌, length, Option, Some, None, Result, Ok, Err, Bool, true, false, ◌&&◌, ◌==◌, nat_lt, nat_le}
-use Rattle.std.proofs.Common.{if◌then◌else◌, refl, arith}
-use Rattle.std.specs.Prelude.{slice_range}
-use Rattle.std.specs.List.{AllByRecursion}
+use Rattle.ksv_nodes.proofs.Common.{◌≡◌, ℕ, ◌+◌, ◌<◌, List, [], ◌∷◌, ◌++◌, length, Option, Some, None, Result, Ok, Err, Bool, true, false, ◌==◌, if◌then◌else◌}
+use Rattle.ksv_nodes.proofs.Common.{refl, arith, slice_range, AllByRecursion, Answer, Fail, Ask, next, run, behind, Use, Fault, Given, Node, Reading, first_at}
+use Rattle.ksv_nodes.proofs.Common.{look, Rule, Of, See, State, replied, seen_in, turns}
+use Rattle.std.proofs.Common.{◌&&◌, nat_lt, nat_le}
 use Rattle.std.proofs.lemmas.Bool.{leb-true, ltb-true}
-use Rattle.ksv_basics.specs.Plan.{Answer, Fail, Ask, next, run, behind}
-use Rattle.ksv_bytes.specs.declared.uses.Use.{Use}
 use Rattle.ksv_bytes.specs.declared.uses.Use.TheVariants as uses
 use Rattle.ksv_bytes.specs.Uses.{CanUse}
-use Rattle.ksv_expr_value.specs.declared.fault.Fault.{Fault}
 use Rattle.ksv_expr_value.specs.Places.{byte_in}
-use Rattle.ksv_nodes.specs.declared.given.Given.{Given}
-use Rattle.ksv_nodes.specs.declared.node.Node.{Node}
-use Rattle.ksv_nodes.specs.Reading.{Reading, Reach, Finish, Done, Peek, Find, gives, ends_before, reach_file, reach_within, finish_of, done_at, cut_uses}
-use Rattle.ksv_nodes.specs.Reading.{peek_at, first_at, end_in, found_none, found_from, find_at, look}
-use Rattle.ksv_nodes.specs.Rule.{Rule, Of, See}
-use Rattle.ksv_nodes.specs.Turning.{State, replied, seen_in, turns}
+use Rattle.ksv_nodes.specs.Reading.{Reach, Finish, Done, Peek, Find, gives, ends_before, reach_file, reach_within, finish_of, done_at, cut_uses, peek_at}
+use Rattle.ksv_nodes.specs.Reading.{end_in, found_none, found_from, find_at}
 use Rattle.ksv_nodes.proofs.First.{first_at_below}
 use Rattle.ksv_nodes.proofs.Looks.{range_reaches}
-
--- all uses of two lists
-pub all_append : {X : Type 0} (P : X → Type 0) (us vs : List X) → AllByRecursion P us → AllByRecursion P vs → AllByRecursion P (us ++ vs)
-all_append P [] vs h g = g
-all_append P (u ∷ us) vs h g = (h.0, all_append P us vs h.1 g)
+use Rattle.ksv_memo_rules.proofs.Lists.{All-++}
 
 module _ (b : List ℕ) where
   abbrev pub Fit : List Use → Type 0
@@ -81,7 +70,7 @@ module _ (b : List ℕ) where
   found_fits : (to : Option ℕ) (s x : ℕ) (o : Option ℕ) → first_at x (slice_range b s (end_in b to)) ≡ o → Fit (found_from b to s (end_in b to) o).uses
   unfolding found_from found_none
   found_fits to s x (Some i) e = ((omega arith, range_reaches b s (end_in b to) i (first_at_below x (slice_range b s (end_in b to)) i e)), tt)
-  found_fits to s x None e = all_append (CanUse b) (finish_of b to).uses (peek_at b s (end_in b to)).uses (finish_fits to) (peek_fits s (end_in b to))
+  found_fits to s x None e = All-++ (CanUse b) (finish_of b to).uses (peek_at b s (end_in b to)).uses (finish_fits to) (peek_fits s (end_in b to))
 
   find_fits : (to : Option ℕ) (s x : ℕ) → Fit (find_at b to s x).uses
   unfolding find_at
@@ -116,4 +105,4 @@ within (Answer a) s h = h
 within (Fail e) s h = h
 within (Ask (Of n) k) s h = given_within n k (λ g. within (k g)) s h s.replies
 within (Ask (See r) k) s h = seen_within k (λ x. within (k x)) (record s { uses = s.uses ++ (look r s.bytes).uses })
-    (all_append (CanUse s.bytes) s.uses (look r s.bytes).uses h (look_fits s.bytes r)) (look r s.bytes).seen
+    (All-++ (CanUse s.bytes) s.uses (look r s.bytes).uses h (look_fits s.bytes r)) (look r s.bytes).seen

@@ -1,13 +1,7 @@
 -- The next of the replies that are left.
-use Rattle.std.proofs.Common.{◌≡◌, ℕ, zero, suc, ◌+◌, List, [], ◌∷◌, Some, None, Result, Ok, Err, refl, ap, ◌∙◌, drop, arith}
+use Rattle.ksv_nodes.proofs.Common.{◌≡◌, ℕ, zero, suc, ◌+◌, List, [], ◌∷◌, Some, None, Result, Ok, Err, refl, ap, ◌∙◌, drop, arith, Need, Done, next, Use}
+use Rattle.ksv_nodes.proofs.Common.{Trail, Fault, Given, Node, State, replied, come}
 use Rattle.std.specs.Prelude.{slice_get}
-use Rattle.ksv_basics.specs.Plan.{Need, Done, next}
-use Rattle.ksv_bytes.specs.declared.uses.Use.{Use}
-use Rattle.ksv_expr_value.specs.Trail.{Trail}
-use Rattle.ksv_expr_value.specs.declared.fault.Fault.{Fault}
-use Rattle.ksv_nodes.specs.declared.given.Given.{Given}
-use Rattle.ksv_nodes.specs.declared.node.Node.{Node}
-use Rattle.ksv_nodes.specs.Turning.{State, replied, come}
 
 -- what is left from a place where there is none, and from one where there is one
 left_none : {X : Type 0} (xs : List X) (k : ℕ) → slice_get xs k ≡ None → drop k xs ≡ []

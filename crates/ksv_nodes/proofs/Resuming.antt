@@ -1,13 +1,7 @@
 -- The laws of runs, for a run from its beginning.
-use Rattle.std.proofs.Common.{◌≡◌, ℕ, ◌≤◌, ◌<◌, List, [], length, Result}
-use Rattle.std.specs.List.{AllByRecursion}
+use Rattle.ksv_nodes.proofs.Common.{◌≡◌, ℕ, ◌≤◌, ◌<◌, List, [], length, Result, AllByRecursion, AgreeOn, Trail, Fault, Given, Node, Rule}
 use Rattle.ksv_basics.specs.Plan.{IsEnded}
-use Rattle.ksv_bytes.specs.Uses.{AgreeOn, CanUse}
-use Rattle.ksv_expr_value.specs.Trail.{Trail}
-use Rattle.ksv_expr_value.specs.declared.fault.Fault.{Fault}
-use Rattle.ksv_nodes.specs.declared.given.Given.{Given}
-use Rattle.ksv_nodes.specs.declared.node.Node.{Node}
-use Rattle.ksv_nodes.specs.Rule.{Rule}
+use Rattle.ksv_bytes.specs.Uses.{CanUse}
 use Rattle.ksv_nodes.specs.Turning.{fresh}
 use Rattle.ksv_nodes.specs.Bounds.{NodesAtMost}
 use Rattle.ksv_nodes.specs.Laws.{resumed, used, ran_on, asked, NeedsNext, MeetsTruth}

@@ -1,18 +1,13 @@
 -- With true replies a rule asks what it asks where each node has its answer, uses what it uses there, and answers what it
 -- answers there.
-use Rattle.std.proofs.Common.{◌≡◌, ℕ, zero, suc, ◌<◌, List, [], ◌∷◌, ◌++◌, length, map, take, slice_get, Result, Ok, Err, Option, Some, None, refl, sym, ap}
-use Rattle.std.proofs.Common.{◌∙◌, arith, append_assoc, append-nil}
-use Rattle.ksv_basics.specs.Plan.{Answer, Fail, Ask, Need, next, run}
+use Rattle.ksv_nodes.proofs.Common.{◌≡◌, ℕ, zero, suc, ◌<◌, List, [], ◌∷◌, ◌++◌, length, take, Result, Ok, Err, Option, Some, None, refl, sym, ap, ◌∙◌, arith}
+use Rattle.ksv_nodes.proofs.Common.{Answer, Fail, Ask, Need, next, run, Use, Trail, Fault, Given, Node, Reading, look, Rule, Of, See, State, replied, seen_in}
+use Rattle.ksv_nodes.proofs.Common.{turns}
+use Rattle.std.proofs.Common.{map, slice_get, append_assoc, append-nil}
 use Rattle.ksv_basics.specs.Asking.{ended}
-use Rattle.ksv_bytes.specs.declared.uses.Use.{Use}
-use Rattle.ksv_expr_value.specs.Trail.{Trail}
-use Rattle.ksv_expr_value.specs.declared.fault.Fault.{Fault}
 use Rattle.ksv_expr_value.specs.declared.fault.FaultKind.TheVariants as kinds
-use Rattle.ksv_nodes.specs.declared.given.Given.{Given}
-use Rattle.ksv_nodes.specs.declared.node.Node.{Node}
-use Rattle.ksv_nodes.specs.Reading.{Reading, Seen, look}
-use Rattle.ksv_nodes.specs.Rule.{Rule, Of, See}
-use Rattle.ksv_nodes.specs.Turning.{State, fault_at, raised, replied, seen_in, turns}
+use Rattle.ksv_nodes.specs.Reading.{Seen}
+use Rattle.ksv_nodes.specs.Turning.{fault_at, raised}
 use Rattle.ksv_nodes.specs.Truth.{plain_answer, asks_of, uses_of, with_given, plain_seen, behind_given, behind_seen}
 
 -- at a path, on these bytes, where each asked node has the answer that `met` gives

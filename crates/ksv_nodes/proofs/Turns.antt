@@ -1,13 +1,10 @@
 -- What turns keep, and what they add.
-use Rattle.std.proofs.Common.{◌≡◌, List, [], ◌∷◌, ◌++◌, Result, Ok, Err, Option, Some, None, refl, sym, ap, ◌∙◌, append_assoc, append-nil}
-use Rattle.ksv_basics.specs.Plan.{Answer, Fail, Ask, Ran, Need, Failed, Done, next, run, behind}
-use Rattle.ksv_bytes.specs.declared.uses.Use.{Use}
-use Rattle.ksv_expr_value.specs.declared.fault.Fault.{Fault}
-use Rattle.ksv_nodes.specs.declared.given.Given.{Given}
-use Rattle.ksv_nodes.specs.declared.node.Node.{Node}
-use Rattle.ksv_nodes.specs.Reading.{look}
-use Rattle.ksv_nodes.specs.Rule.{Rule, Query, Of, See}
-use Rattle.ksv_nodes.specs.Turning.{State, seen_in, replied, reply, turns}
+use Rattle.ksv_nodes.proofs.Common.{◌≡◌, List, [], ◌∷◌, ◌++◌, Result, Ok, Err, Option, Some, None, refl, sym, ap, ◌∙◌, Answer, Fail, Ask, Need, Done, next, run}
+use Rattle.ksv_nodes.proofs.Common.{behind, Use, Fault, Given, Node, look, Rule, Of, See, State, seen_in, replied, turns}
+use Rattle.std.proofs.Common.{append_assoc, append-nil}
+use Rattle.ksv_basics.specs.Plan.{Ran, Failed}
+use Rattle.ksv_nodes.specs.Rule.{Query}
+use Rattle.ksv_nodes.specs.Turning.{reply}
 
 -- the second state has the path and the bytes of the first, and perhaps more uses
 pub record Grows (s t : State) : Type 0 where

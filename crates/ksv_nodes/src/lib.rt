@@ -42,6 +42,7 @@
 //! Lemmas (`proofs/`):
 //!
 //! - `Bounds`: a run with as many replies as its bound has no open question
+//! - `Common`: what many of them name, of definitions and of other crates
 //! - `First`: the first byte of a value in two slices
 //! - `Local`: a run is the same on bytes that agree on its uses
 //! - `Looks`: readings on bytes that agree on their uses

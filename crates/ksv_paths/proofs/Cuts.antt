@@ -3,11 +3,10 @@ use Rattle.std.proofs.Common.{◌≡◌, ◌∙◌, ◌+◌, ◌<◌, ◌≤◌,
 use Rattle.std.proofs.Common.{refl}
 use Rattle.std.specs.Prelude.{position}
 use Rattle.std.specs.List.{onto_first, position_or_len, slice_split}
-use Rattle.std.proofs.lemmas.Bool.{cases_lt, lt-ltb}
+use Rattle.std.proofs.lemmas.Bool.{cases_lt, lt-ltb, le-ltb}
 use Rattle.std.proofs.lemmas.Option.{same_Some}
 use Rattle.std.proofs.lemmas.List.Splits.{slice_split_first, slice_split_none}
 use Rattle.std.proofs.lemmas.List.Sums.{fails_before_first}
-use Rattle.ksv_paths.proofs.Digits.{not_below}
 
 -- where an element that passes is found, it is the first; where none is, none passes
 pub found_at : {X : Type 0} (p : X → Bool) (xs : List X) (n : ℕ) → position p xs ≡ Some n → (position_or_len p xs ≡ n) × (n < length xs)
@@ -16,7 +15,7 @@ found_at p xs n h = elim (cases_lt (position_or_len p xs) (length xs)) [
       let is : position_or_len p xs ≡ n = same_Some _ _ (sym (rw (lt-ltb _ _ lt) refl) ∙ h) in
       (is, omega arith)
   | inr ge ↦
-      let none : position p xs ≡ None = rw (not_below (position_or_len p xs) (length xs) ge) refl in
+      let none : position p xs ≡ None = rw (le-ltb (position_or_len p xs) (length xs) ge) refl in
       let differ : None ≡ Some n = sym none ∙ h in absurd (cc)
 ]
 

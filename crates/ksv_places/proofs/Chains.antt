@@ -1,8 +1,8 @@
 -- The members of a path in a chain.
-use Rattle.std.proofs.Common.{◌≡◌, ℕ, zero, suc, ◌+◌, ◌<◌, List, ◌++◌, true, false, cond, length, refl, ◌∙◌, ap, arith}
-use Rattle.std.proofs.lemmas.List.{get_or_append_left}
-use Rattle.ksv_places.specs.declared.links.Link.{Link}
-use Rattle.ksv_places.specs.Tree.{link_at, chain, chain_length, is_name}
+use Rattle.ksv_places.proofs.Common.{◌≡◌, ℕ, zero, suc, ◌+◌, ◌<◌, List, ◌++◌, true, false, length, refl, ◌∙◌, ap, arith, get_or_append_left, Link, link_at}
+use Rattle.ksv_places.proofs.Common.{chain, is_name}
+use Rattle.std.proofs.Common.{cond}
+use Rattle.ksv_places.specs.Tree.{chain_length}
 
 -- each member leads to one of a smaller number
 abbrev pub Falls : List Link → Type 0

@@ -1,18 +1,11 @@
 -- Nodes by their paths' rows.
-use Rattle.std.proofs.Common.{◌≡◌, ℕ, ◌+◌, ◌-◌, ◌<◌, ◌≤◌, ◌⊎◌, inl, inr, ◌≢◌, true, false, eqb, set, List, [], ◌∷◌, ◌++◌, length, get_or, Some, refl, sym, ◌∙◌}
-use Rattle.std.proofs.Common.{ap, subst, arith, slice_get}
-use Rattle.std.specs.Option.{option_map}
-use Rattle.std.proofs.lemmas.List.{get_or_past, length-map, get_or-map, same_lists, get_or_append_left, length_push, length-set, get_or-set_same}
-use Rattle.std.proofs.lemmas.List.{get_or-set_other, map-append, map-set, get_or_push}
-use Rattle.std.proofs.lemmas.Bool.Decides.{eqb_tells}
-use Rattle.std.proofs.lemmas.Bool.{cases_lt}
-use Rattle.std.proofs.lemmas.Option.{slice_get-map, slice_get-get_or, slice_get_within, get_or_from_slice_get}
-use Rattle.ksv_expr_value.specs.declared.step.Step.{Step}
-use Rattle.ksv_nodes.specs.declared.node.NodeKind.{NodeKind}
-use Rattle.ksv_nodes.specs.declared.node.NodeKind.TheVariants.{Head, Value, End, Rest}
-use Rattle.ksv_places.specs.declared.links.Row.{Row}
-use Rattle.ksv_places.specs.declared.links.Spot.{Spot}
-use Rattle.ksv_places.specs.Spots.{mark_in, with_mark, row_at, spot_at, node_of, nodes_of, no_row, IsSpotted, IsFiled, IsRoomed, IsOpen}
+use Rattle.ksv_places.proofs.Common.{◌≡◌, ℕ, ◌+◌, ◌-◌, ◌<◌, ◌≤◌, ◌⊎◌, inl, inr, ◌≢◌, true, false, eqb, set, List, [], ◌∷◌, ◌++◌, length, get_or, Some, refl}
+use Rattle.ksv_places.proofs.Common.{sym, ◌∙◌, ap, subst, arith, slice_get, option_map, length-map, get_or_append_left, length_push, length-set}
+use Rattle.ksv_places.proofs.Common.{get_or-set_same, get_or-set_other, get_or_push, eqb_tells, cases_lt, slice_get-map, slice_get-get_or, slice_get_within}
+use Rattle.ksv_places.proofs.Common.{get_or_from_slice_get, Step, NodeKind, Head, Row, Spot, with_mark, row_at, spot_at, node_of, nodes_of, IsFiled}
+use Rattle.std.proofs.lemmas.List.{get_or_past, get_or-map, same_lists, map-append, map-set}
+use Rattle.ksv_nodes.specs.declared.node.NodeKind.TheVariants.{Value, End, Rest}
+use Rattle.ksv_places.specs.Spots.{mark_in, no_row, IsSpotted, IsRoomed, IsOpen}
 
 mark_none : (k : NodeKind) → mark_in no_row k ≡ 0
 mark_none Head = refl

@@ -1,14 +1,10 @@
 -- A further path.
-use Rattle.std.proofs.Common.{◌≡◌, ◌≢◌, ◌⊎◌, inl, inr, ℕ, ◌+◌, ◌<◌, ◌≤◌, true, false, nat_eq, List, [], ◌∷◌, ◌++◌, length, sym, ◌∙◌, ap, subst, arith}
-use Rattle.std.proofs.Common.{eqb}
-use Rattle.std.proofs.lemmas.List.{length_push, get_or_append_left}
+use Rattle.ksv_places.proofs.Common.{◌≡◌, ◌≢◌, ◌⊎◌, inl, inr, ℕ, ◌+◌, ◌<◌, ◌≤◌, true, false, List, [], ◌∷◌, ◌++◌, length, sym, ◌∙◌, ap, subst, arith, eqb}
+use Rattle.ksv_places.proofs.Common.{length_push, get_or_append_left, cases_lt, eqb_tells, nat_tests, Step, Name, Index, Link, link_at, chain, look, is_name}
+use Rattle.ksv_places.proofs.Common.{IsTree}
+use Rattle.std.proofs.Common.{nat_eq}
 use Rattle.std.proofs.Math.Seq.{get_or-append_seam}
-use Rattle.std.proofs.lemmas.Bool.{cases_lt}
-use Rattle.std.proofs.lemmas.Bool.Decides.{eqb_tells, nat_tests}
-use Rattle.ksv_expr_value.specs.declared.step.Step.{Step}
-use Rattle.ksv_expr_value.specs.declared.step.Step.TheVariants.{Name, Index}
-use Rattle.ksv_places.specs.declared.links.Link.{Link}
-use Rattle.ksv_places.specs.Tree.{link_at, chain, look, is_name, IsTree, IsChild}
+use Rattle.ksv_places.specs.Tree.{IsChild}
 use Rattle.ksv_places.proofs.Chains.{Falls, any_fuel, more_links, step_on, found_at}
 
 pub nat_other : (x y : ℕ) → x ≢ y → nat_eq x y ≡ false

@@ -1,12 +1,7 @@
 -- What leads where once a path was hooked to the one a step shorter.
-use Rattle.std.proofs.Common.{◌≡◌, ◌≢◌, ◌⊎◌, inl, inr, ℕ, zero, suc, ◌+◌, ◌<◌, true, false, List, [], ◌∷◌, ◌++◌, length, refl, sym, ◌∙◌, ap, subst, arith, eqb}
-use Rattle.std.proofs.lemmas.List.{length_push}
-use Rattle.std.proofs.lemmas.Bool.Decides.{eqb_tells}
-use Rattle.ksv_expr_value.specs.declared.step.Step.{Step}
-use Rattle.ksv_expr_value.specs.declared.step.Step.TheVariants.{Name, Index}
-use Rattle.ksv_places.specs.declared.links.Link.{Link}
-use Rattle.ksv_places.specs.Table.{IsPut, IsPutAt, first_of_both}
-use Rattle.ksv_places.specs.Tree.{chain, look, is_name, IsTree, Hooks}
+use Rattle.ksv_places.proofs.Common.{◌≡◌, ◌≢◌, ◌⊎◌, inl, inr, ℕ, zero, suc, ◌+◌, ◌<◌, true, false, List, [], ◌∷◌, ◌++◌, length, refl, sym, ◌∙◌, ap, subst}
+use Rattle.ksv_places.proofs.Common.{arith, eqb, length_push, eqb_tells, Step, Name, Index, Link, IsPut, IsPutAt, first_of_both, chain, look, is_name, IsTree}
+use Rattle.ksv_places.specs.Tree.{Hooks}
 use Rattle.ksv_places.proofs.Growing.{nat_other, nat_self, Leads, grown_tree, same_chain, new_chain, past_new}
 
 -- a sum of two numbers whose first is some, or none

@@ -1,24 +1,20 @@
 -- Nodes and their kinds and steps.
-use Rattle.std.proofs.Common.{◌≡◌, ◌≢◌, eqb, ℕ, zero, suc, ◌<◌, ◌≤◌, ◌⊎◌, inl, inr, Bool, true, false, List, [], ◌∷◌, ◌++◌, length, get_or, set, reverse, Some}
-use Rattle.std.proofs.Common.{refl, sym, ◌∙◌, ap, arith, slice_get, Result, Ok, Err, OnOk, OnErr}
-use Rattle.std.specs.List.{list_any, IsDistinct}
-use Rattle.std.specs.Option.{option_map}
-use Rattle.std.proofs.lemmas.Bool.{cases_lt}
-use Rattle.std.proofs.lemmas.List.{length-map, length_push, length-set, get_or_append_left, get_or-set_same, get_or-set_other, map-append, map-set}
-use Rattle.std.proofs.lemmas.List.{reverse-reverse, get_or_push}
-use Rattle.std.proofs.lemmas.Bool.Decides.{eqb_tells}
+use Rattle.ksv_places.proofs.Common.{◌≡◌, ◌≢◌, eqb, ℕ, zero, suc, ◌<◌, ◌≤◌, ◌⊎◌, inl, inr, true, false, List, [], ◌∷◌, ◌++◌, length, get_or, set, reverse, Some}
+use Rattle.ksv_places.proofs.Common.{refl, sym, ◌∙◌, ap, arith, slice_get, Result, Ok, Err, OnErr, list_any, option_map, cases_lt, length-map, length_push}
+use Rattle.ksv_places.proofs.Common.{length-set, get_or_append_left, get_or-set_same, get_or-set_other, get_or_push, eqb_tells, slice_get-map, slice_get-get_or}
+use Rattle.ksv_places.proofs.Common.{slice_get_within, get_or_from_slice_get, Step, NodeKind, all_named, AllFit}
+use Rattle.std.proofs.Common.{Bool, OnOk}
+use Rattle.std.specs.List.{IsDistinct}
+use Rattle.std.proofs.lemmas.List.{map-append, map-set, reverse-reverse}
 use Rattle.std.proofs.lemmas.List.Elements.{recursion_from_All}
 use Rattle.std.proofs.lemmas.List.Folds.{list_any_none, list_any_at}
 use Rattle.std.proofs.lemmas.Map.Keys.{IsDistinct-cons}
-use Rattle.std.proofs.lemmas.Option.{slice_get-map, slice_get-get_or, slice_get_within, get_or_from_slice_get}
-use Rattle.ksv_expr_value.specs.declared.step.Step.{Step}
 use Rattle.ksv_expr_value.specs.Trail.{Trail, fits, trail_of-true}
 use Rattle.ksv_nodes.specs.declared.node.Node.{Node}
-use Rattle.ksv_nodes.specs.declared.node.NodeKind.{NodeKind}
 use Rattle.ksv_nodes.specs.contracts.node.NodePartialEq.TheImpl.{ghosts as node_tests}
 use Rattle.ksv_nodes.specs.contracts.node.NodeEq.TheImpl.Laws.{laws-law as node_laws}
 use Rattle.ksv_nodes.specs.Exact.{node_exact}
-use Rattle.ksv_places.specs.Nodes.{some_trail, trail_at, named, all_named, AllFit}
+use Rattle.ksv_places.specs.Nodes.{some_trail, trail_at, named}
 
 -- what follows where a call succeeds and where it doesn't
 pub either_way : {A E : Type 0} (r : Result A E) (P Q R : Type 0) → (P → R) → (Q → R) → OnOk r P → OnErr r Q → R

@@ -1,10 +1,11 @@
 -- A number put into a page of a table, whose descent doesn't take its index.
-use Rattle.std.proofs.Common.{◌≡◌, ◌≢◌, ◌⊎◌, inl, inr, ℕ, ◌-◌, ◌/◌, ◌%◌, ◌≤◌, true, false, eqb, cond, List, [], length, get_or, set, sym, ◌∙◌, ap, arith}
+use Rattle.ksv_places.proofs.Common.{◌≡◌, ◌≢◌, ◌⊎◌, inl, inr, ℕ, ◌-◌, ◌≤◌, true, false, eqb, List, [], length, get_or, set, sym, ◌∙◌, ap, arith, eqb_tells}
+use Rattle.ksv_places.proofs.Common.{nat_tests, number_at, part_at, first_of_both, table_at, Pages, IsPut, IsApart, IsPartOf}
+use Rattle.std.proofs.Common.{◌/◌, ◌%◌, cond}
 use Rattle.std.specs.Prelude.{nat_lt}
 use Rattle.std.proofs.lemmas.Grind.{common_steps}
-use Rattle.std.proofs.lemmas.Bool.Decides.{eqb_tells, nat_tests}
 use Rattle.std.proofs.lemmas.List.{get_or_past}
-use Rattle.ksv_places.specs.Table.{number_at, part_at, descent_at, first_of_both, takes, page_at, table_at, Downwards, Pages, IsPut, IsApart, IsPartOf}
+use Rattle.ksv_places.specs.Table.{descent_at, takes, page_at, Downwards}
 use Rattle.ksv_places.proofs.Replacing as parts
 
 -- such an index has no number in the descent

@@ -1,8 +1,6 @@
 -- Spots, of which the paths and the kinds are lists of their own.
-use Rattle.std.proofs.Common.{◌≡◌, ℕ, zero, suc, ◌<◌, List, [], ◌∷◌, ◌++◌, length, get_or, set, refl, ap, arith, Result, Ok, Err, OnErr}
-use Rattle.ksv_nodes.specs.declared.node.NodeKind.{NodeKind}
-use Rattle.ksv_places.specs.declared.links.Spot.{Spot}
-use Rattle.ksv_places.specs.Spots.{spots_of}
+use Rattle.ksv_places.proofs.Common.{◌≡◌, ℕ, zero, suc, ◌<◌, List, [], ◌∷◌, ◌++◌, length, get_or, set, refl, ap, arith, Result, Ok, Err, OnErr, NodeKind, Spot}
+use Rattle.ksv_places.proofs.Common.{spots_of}
 
 pub count : (rs : List ℕ) (ks : List NodeKind) → length ks ≡ length rs → length (spots_of rs ks) ≡ length rs
 count [] ks e = refl

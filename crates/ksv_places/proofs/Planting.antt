@@ -1,10 +1,6 @@
 -- The first path, the root.
-use Rattle.std.proofs.Common.{◌≡◌, ℕ, zero, suc, ◌<◌, [], ◌∷◌, length, refl, ◌∙◌, ap, subst, arith}
-use Rattle.ksv_expr_value.specs.declared.step.Step.{Step}
-use Rattle.ksv_expr_value.specs.declared.step.Step.TheVariants.{Name, Index}
-use Rattle.ksv_places.specs.declared.links.Link.{Link}
-use Rattle.ksv_places.specs.Table.{first_of_both}
-use Rattle.ksv_places.specs.Tree.{chain, look, IsTree}
+use Rattle.ksv_places.proofs.Common.{◌≡◌, ℕ, zero, suc, ◌<◌, [], ◌∷◌, length, refl, ◌∙◌, ap, subst, arith, Step, Name, Index, Link, first_of_both, chain, look}
+use Rattle.ksv_places.proofs.Common.{IsTree}
 use Rattle.ksv_places.proofs.Chains.{ended}
 
 -- where there are no links nothing leads anywhere, and so it is with the root alone

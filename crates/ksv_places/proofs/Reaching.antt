@@ -1,12 +1,11 @@
 -- More paths with numbers, and where a search goes on among them.
-use Rattle.std.proofs.Common.{◌≡◌, ℕ, ◌+◌, ◌<◌, ◌≤◌, ◌⊎◌, inl, inr, List, [], ◌∷◌, ◌++◌, Some, length, get_or, take, reverse, refl, sym, ◌∙◌, ap, arith}
-use Rattle.std.proofs.Common.{append_assoc, slice_get}
-use Rattle.std.proofs.lemmas.List.{length_push, length-append, get_or_append_left, take_all, get_or_push}
-use Rattle.std.proofs.lemmas.Option.{slice_get-get_or, slice_get_within, get_or_from_slice_get}
-use Rattle.ksv_expr_value.specs.declared.step.Step.{Step}
-use Rattle.ksv_places.specs.declared.links.Link.{Link}
+use Rattle.ksv_places.proofs.Common.{◌≡◌, ℕ, ◌+◌, ◌<◌, ◌≤◌, ◌⊎◌, inl, inr, List, [], ◌∷◌, ◌++◌, Some, length, get_or, take, reverse, refl, sym, ◌∙◌, ap, arith}
+use Rattle.ksv_places.proofs.Common.{slice_get, length_push, get_or_append_left, take_all, get_or_push, slice_get-get_or, slice_get_within}
+use Rattle.ksv_places.proofs.Common.{get_or_from_slice_get, Step, Link, paths_of, IsMore, EndsAt}
+use Rattle.std.proofs.Common.{append_assoc}
+use Rattle.std.proofs.lemmas.List.{length-append}
 use Rattle.ksv_places.specs.declared.trace.Trace.{Trace}
-use Rattle.ksv_places.specs.Tree.{paths_from, paths_of, IsGrown, IsMore, IsFurther, EndsAt}
+use Rattle.ksv_places.specs.Tree.{paths_from, IsGrown, IsFurther}
 use Rattle.ksv_places.proofs.Walking.{length-paths, root_at}
 
 pub same_more : (ps : List (List Step)) → IsMore ps ps

@@ -1,7 +1,6 @@
 -- One part put in another's place: a page of a table, or a path's table.
-use Rattle.std.proofs.Common.{◌≡◌, ◌≢◌, ℕ, zero, suc, ◌-◌, ◌<◌, ◌≤◌, List, length, get_or, set, refl, sym, ◌∙◌, ap, arith}
-use Rattle.std.proofs.lemmas.List.{get_or-set_same, get_or-set_other}
-use Rattle.ksv_places.specs.Table.{number_at, part_at, IsApart, IsPartOf}
+use Rattle.ksv_places.proofs.Common.{◌≡◌, ◌≢◌, ℕ, zero, suc, ◌-◌, ◌<◌, ◌≤◌, List, length, get_or, set, refl, sym, ◌∙◌, ap, arith, get_or-set_same}
+use Rattle.ksv_places.proofs.Common.{get_or-set_other, number_at, part_at, IsApart, IsPartOf}
 
 module _ {T : Type 0} (none : T) where
   -- the part that was set, and another one

@@ -1,7 +1,7 @@
 -- A number put into a path's table.
-use Rattle.std.proofs.Common.{◌≡◌, ◌≢◌, ◌⊎◌, inl, inr, ℕ, ◌-◌, true, false, eqb, List, length, get_or, set, sym, ◌∙◌, ap}
-use Rattle.std.proofs.lemmas.Bool.Decides.{eqb_tells}
-use Rattle.ksv_places.specs.Table.{number_at, part_at, no_pages, table_at, shelf_at, Pages, Shelf, IsPut, IsPutAt, IsApart, IsPartOf}
+use Rattle.ksv_places.proofs.Common.{◌≡◌, ◌≢◌, ◌⊎◌, inl, inr, ℕ, ◌-◌, true, false, eqb, List, length, get_or, set, sym, ◌∙◌, ap, eqb_tells, number_at, part_at}
+use Rattle.ksv_places.proofs.Common.{table_at, shelf_at, Pages, IsPut, IsPutAt, IsApart, IsPartOf}
+use Rattle.ksv_places.specs.Table.{no_pages, Shelf}
 use Rattle.ksv_places.proofs.Replacing as parts
 
 module _ (s : Shelf) (starts : List ℕ) (tables : List Pages) (r n : ℕ) (apart : IsApart (number_at starts) (length tables))

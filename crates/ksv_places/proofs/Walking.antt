@@ -1,11 +1,10 @@
 -- The paths of links, and what a walk along them finds.
-use Rattle.std.proofs.Common.{◌≡◌, ℕ, zero, suc, ◌+◌, ◌<◌, List, [], ◌∷◌, ◌++◌, length, get_or, take, drop, reverse, refl, sym, ◌∙◌, ap, arith}
-use Rattle.std.proofs.lemmas.List.{length_push, get_or_append_left, take-append-drop, reverse-append}
+use Rattle.ksv_places.proofs.Common.{◌≡◌, ℕ, zero, suc, ◌+◌, ◌<◌, List, [], ◌∷◌, ◌++◌, length, get_or, take, reverse, refl, sym, ◌∙◌, ap, arith, length_push}
+use Rattle.ksv_places.proofs.Common.{get_or_append_left, Step, Name, Link, link_at, paths_of, look, IsTree}
+use Rattle.std.proofs.Common.{drop}
+use Rattle.std.proofs.lemmas.List.{take-append-drop, reverse-append}
 use Rattle.std.proofs.Math.Seq.{get_or-append_seam, take-suc}
-use Rattle.ksv_expr_value.specs.declared.step.Step.{Step}
-use Rattle.ksv_expr_value.specs.declared.step.Step.TheVariants.{Name}
-use Rattle.ksv_places.specs.declared.links.Link.{Link}
-use Rattle.ksv_places.specs.Tree.{link_at, paths_from, paths_of, look, IsTree, IsChild}
+use Rattle.ksv_places.specs.Tree.{paths_from, IsChild}
 
 pub length-from : (ps : List (List Step)) (ls : List Link) → length (paths_from ps ls) ≡ length ps + length ls
 length-from ps [] = omega arith

@@ -37,6 +37,7 @@
 //! Lemmas (`proofs/`):
 //!
 //! - `Chains`: the members of a path in a chain
+//! - `Common`: what many of them name, of definitions and of other crates
 //! - `Filing`: places and marks where a node is added or takes another's place
 //! - `Growing`: a tree with a further path
 //! - `Hooking`: what leads where once a path was hooked to the one a step shorter

@@ -1,29 +1,23 @@
 -- An engine answers what evaluation from nothing gives.
-use Rattle.std.proofs.Common.{◌≡◌, ◌∙◌, ◌++◌, ℕ, false, ◌||◌, List, [], ◌∷◌, Option, None, Result, Ok, Err, ap, refl, subst, sym}
-use Rattle.std.specs.Prelude.{if◌then◌else◌}
-use Rattle.ksv_desc.specs.Description.{Description}
+use Rattle.ksv_questions.proofs.Common.{◌≡◌, ◌∙◌, ◌++◌, ℕ, false, ◌||◌, List, [], ◌∷◌, Option, None, Result, Ok, Err, ap, refl, subst, sym, if◌then◌else◌}
+use Rattle.ksv_questions.proofs.Common.{append-nil, Description, Memo, is_among, IsRight, costs, counted, fresh, Node, answered, bind, Asking, Heard, Runs}
+use Rattle.ksv_questions.proofs.Common.{HasAsked, Ruled, world, Untold}
 use Rattle.ksv_expr_value.specs.declared.fault.Fault.{Fault}
 use Rattle.ksv_memo.specs.Answers.{answer_of, turns_after}
-use Rattle.ksv_memo_rules.specs.Entry.{Memo}
-use Rattle.ksv_memo_rules.specs.Evaluation.{done, is_among, tells}
+use Rattle.ksv_memo_rules.specs.Evaluation.{done, tells}
 use Rattle.ksv_memo_rules.specs.Meaning.{on}
-use Rattle.ksv_memo_rules.specs.Right.{AreExactly, IsRight, costs, counted, fresh, nodes_of}
+use Rattle.ksv_memo_rules.specs.Right.{AreExactly, nodes_of}
 use Rattle.ksv_memo.specs.declared.engine.Answer.{Answer}
 use Rattle.ksv_memo_rules.specs.declared.rules.Outcome.{Outcome}
 use Rattle.ksv_memo_rules.specs.declared.rules.Outcome.TheVariants.{Answered, Circle}
-use Rattle.ksv_memo.proofs.Moves.{++-nil}
 use Rattle.ksv_nodes.specs.Numbers.{node_number}
 use Rattle.ksv_nodes.specs.declared.given.Given.{Given}
-use Rattle.ksv_nodes.specs.declared.node.Node.{Node}
 use Rattle.ksv_rule_meaning.specs.Described.{described}
 use Rattle.ksv_rule_meaning.specs.Direct.{flattened}
 use Rattle.ksv_rule_meaning.proofs.Direct.{answers_are_direct}
-use Rattle.ksv_questions.specs.Answers.{answered}
-use Rattle.ksv_basics.specs.Plan.{bind}
-use Rattle.ksv_questions.specs.Asking.{Asking, Heard, ask, hear, passed}
-use Rattle.ksv_questions.specs.Code.{Hears, IsHeard, Runs, Settles, SettlesHeard, plain_answer}
-use Rattle.ksv_questions.specs.Engines.{HasAsked, Ruled, is_circle, meets_circle, turns_with, world}
-use Rattle.ksv_questions.specs.declared.asking.Untold.{Untold}
+use Rattle.ksv_questions.specs.Asking.{ask, hear, passed}
+use Rattle.ksv_questions.specs.Code.{Hears, IsHeard, Settles, SettlesHeard, plain_answer}
+use Rattle.ksv_questions.specs.Engines.{is_circle, meets_circle, turns_with}
 use Rattle.ksv_questions.specs.declared.asking.Untold.TheVariants as untolds
 use Rattle.ksv_questions.proofs.Steps.{runs_ended, runs_failed}
 
@@ -46,7 +40,7 @@ counted_by E (Circle n) calls turns = refl
 -- one node was asked
 module _ (d : Description) (b : List ℕ) (n : Node) where
   all_done : done (world d b) [] n ++ [] ≡ done (world d b) [] n
-  all_done = ++-nil (done (world d b) [] n)
+  all_done = append-nil (done (world d b) [] n)
 
   pub heard_one : (E : Type 0) (old new : Memo Node Ruled) (answer : Answer Node Given Fault) → answer ≡ answer_of (tells (on (described d) b) [] n).outcome
       → IsRight (world d b) new.kept

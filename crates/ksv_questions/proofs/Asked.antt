@@ -1,17 +1,17 @@
 -- An engine that is asked one list of nodes and then another.
-use Rattle.std.proofs.Common.{◌≡◌, ℕ, ◌+◌, Bool, true, false, List, [], ◌∷◌, ◌++◌, Option, None, refl, sym, ◌∙◌, ap, ◌||◌, append_assoc, subst}
-use Rattle.std.specs.Prelude.{if◌then◌else◌}
+use Rattle.ksv_questions.proofs.Common.{◌≡◌, ℕ, ◌+◌, Bool, true, false, List, [], ◌∷◌, ◌++◌, Option, None, refl, sym, ◌∙◌, ap, ◌||◌, append_assoc, subst}
+use Rattle.ksv_questions.proofs.Common.{if◌then◌else◌, append-nil, Memo, is_among, IsRight, costs, counted, fresh, HasAsked}
 use Rattle.std.proofs.Math.Bool.{or_assoc}
 use Rattle.std.proofs.lemmas.Bool.{or_left}
 use Rattle.std.proofs.lemmas.Grind.{flat_map-append}
-use Rattle.ksv_memo_rules.specs.Entry.{Memo}
-use Rattle.ksv_memo_rules.specs.Evaluation.{done, is_among, tells}
+use Rattle.ksv_memo_rules.specs.Evaluation.{done, tells}
 use Rattle.ksv_memo_rules.specs.Meaning.{Standing}
-use Rattle.ksv_memo_rules.specs.Right.{AreBetween, AreExactly, IsRight, costs, counted, fresh, nodes_of}
+use Rattle.ksv_memo_rules.specs.Right.{AreBetween, AreExactly, nodes_of}
 use Rattle.ksv_memo_rules.proofs.Keeping.{is_among-append}
-use Rattle.ksv_memo.proofs.Moves.{++-nil, fresh-nil}
-use Rattle.ksv_questions.specs.Engines.{HasAsked, HasAskedSome, completed_by, is_circle, meets_circle, turns_with}
-use Rattle.ksv_questions.proofs.Fresh.{among_more, costs_append, counted_more, counted_none, fresh_append, fresh_same}
+use Rattle.ksv_memo.proofs.Moves.{fresh-nil}
+use Rattle.ksv_memo.proofs.Places.{fresh-same}
+use Rattle.ksv_questions.specs.Engines.{HasAskedSome, completed_by, is_circle, meets_circle, turns_with}
+use Rattle.ksv_questions.proofs.Fresh.{among_more, costs_append, counted_more, counted_none, fresh_append}
 
 -- ---- circles
 
@@ -62,7 +62,7 @@ module _ {N A : Type 0} (w : Standing N A) where
   owed old mid xs ys h =
       ap (costs w) (fresh_append w.number old xs ys)
       ∙ costs_append w (fresh w.number old xs) (fresh w.number (old ++ xs) ys)
-      ∙ ap (λ ns. costs w (fresh w.number old xs) + costs w ns) (sym (fresh_same w.number mid (old ++ xs) ys h.same))
+      ∙ ap (λ ns. costs w (fresh w.number old xs) + costs w ns) (sym (fresh-same w.number mid (old ++ xs) ys h.same))
 
   by_circles : (a b : Bool) (j k : ℕ) (before mid new : Option ℕ)
       → mid ≡ (if a then None else counted j before) → new ≡ (if b then None else counted k mid)
@@ -89,7 +89,7 @@ module _ {N A : Type 0} (w : Standing N A) where
   unfolding turns_with meets_circle
   asked_none old right = record {
     right = right;
-    kept = record { once = right.once; same = λ x. ap (λ ms. is_among w.number ms x) (sym (++-nil (nodes_of old.kept))) };
+    kept = record { once = right.once; same = λ x. ap (λ ms. is_among w.number ms x) (sym (append-nil (nodes_of old.kept))) };
     turns = sym (ap (λ ns. counted (costs w ns) old.turns) (fresh-nil w.number (nodes_of old.kept)));
   }
 

@@ -1,9 +1,8 @@
 -- One question after another.
-use Rattle.std.proofs.Common.{◌≡◌, ◌∷◌, ◌++◌, refl, ap}
-use Rattle.ksv_basics.specs.Plan.{Answer, Fail, Ask, bind}
+use Rattle.ksv_questions.proofs.Common.{◌≡◌, ◌∷◌, ◌++◌, refl, ap, Answer, Fail, bind, Node, Asking, Heard}
+use Rattle.ksv_basics.specs.Plan.{Ask}
 use Rattle.ksv_basics.specs.Asking.{and_then, asks_behind}
-use Rattle.ksv_nodes.specs.declared.node.Node.{Node}
-use Rattle.ksv_questions.specs.Asking.{Asking, Failure, Heard, asks_of, result_of}
+use Rattle.ksv_questions.specs.Asking.{Failure, asks_of, result_of}
 
 module _ (met : Node → Heard) where
   pub result_bind : {A B : Type 0} (p : Asking A) (f : A → Asking B) → result_of met (bind p f) ≡ and_then (result_of met p) (λ a. result_of met (f a))

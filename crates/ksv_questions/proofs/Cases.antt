@@ -1,16 +1,12 @@
 -- Questions by what was found, where it needs no further ask.
-use Rattle.std.proofs.Common.{◌≡◌, ℕ, List, codes, Option, refl}
-use Rattle.ksv_basics.specs.Plan.{Answer}
-use Rattle.ksv_desc.specs.Description.{Description}
+use Rattle.ksv_questions.proofs.Common.{◌≡◌, ℕ, List, codes, Option, refl, Answer, Description, Trail, Value, parts_of}
 use Rattle.ksv_expr_value.specs.Places.{Place}
-use Rattle.ksv_expr_value.specs.Trail.{Trail}
-use Rattle.ksv_expr_value.specs.declared.value.Value.{Value}
 use Rattle.ksv_expr_value.specs.declared.value.Value.TheVariants as values
 use Rattle.ksv_nodes.specs.declared.given.Head.{Head}
 use Rattle.ksv_nodes.specs.declared.given.Head.TheVariants as heads
 use Rattle.ksv_nodes.specs.declared.given.List.{List as ListHead}
 use Rattle.ksv_nodes.specs.declared.given.Object.{Object}
-use Rattle.ksv_questions.specs.Questions.{of_value, parts_of, plain_value}
+use Rattle.ksv_questions.specs.Questions.{of_value, plain_value}
 
 module _ (d : Description) (b : List ℕ) (p : Trail) where
   pub of_plain : (v : Value) → ((q : Trail) → v ≡ values.Object q → ⊥) → ((q : Trail) → v ≡ values.List q → ⊥) → of_value d b p v ≡ plain_value d b p v

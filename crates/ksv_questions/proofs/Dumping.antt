@@ -1,24 +1,17 @@
 -- The steps of a dump.
-use Rattle.std.proofs.Common.{◌≡◌, ℕ, zero, suc, ◌+◌, ◌-◌, ◌<◌, ◌≤◌, List, [], ◌∷◌, ◌++◌, drop, get_or, length, map, Option, Result, Ok, Err, refl, sym, ◌∙◌}
-use Rattle.std.proofs.Common.{ap, subst, arith}
-use Rattle.serde_json.specs.Data.{Data, Members, array, object, put}
-use Rattle.serde_json.specs.View.{items_of, view}
+use Rattle.ksv_questions.proofs.Common.{◌≡◌, ℕ, zero, suc, ◌+◌, ◌-◌, ◌<◌, ◌≤◌, List, [], ◌∷◌, ◌++◌, drop, length, map, Option, Result, Ok, Err, refl, sym, ◌∙◌}
+use Rattle.ksv_questions.proofs.Common.{ap, subst, arith, Data, put, view, Answer, bind, Description, Trail, child, Index, Value, Memo, IsRight, Node, Asking}
+use Rattle.ksv_questions.proofs.Common.{Runs, dumped, found_of, Part, begun_part, elements_part, members_part, part, unasked, value_part, written, Ruled, world}
+use Rattle.ksv_questions.proofs.Common.{Untold}
+use Rattle.std.proofs.Common.{get_or}
+use Rattle.serde_json.specs.Data.{Members, array, object}
+use Rattle.serde_json.specs.View.{items_of}
 use Rattle.serde_json.specs.declared.value.Value.{Value as Json}
-use Rattle.ksv_basics.specs.Plan.{Answer, bind}
-use Rattle.ksv_desc.specs.Description.{Description, name}
-use Rattle.ksv_expr_value.specs.Trail.{Trail, child}
-use Rattle.ksv_expr_value.specs.declared.step.Step.TheVariants.{Index, Name}
-use Rattle.ksv_expr_value.specs.declared.value.Value.{Value}
+use Rattle.ksv_desc.specs.Description.{name}
+use Rattle.ksv_expr_value.specs.declared.step.Step.TheVariants.{Name}
 use Rattle.ksv_expr_value.specs.declared.value.Value.TheVariants as values
-use Rattle.ksv_memo_rules.specs.Entry.{Memo}
-use Rattle.ksv_memo_rules.specs.Right.{IsRight}
-use Rattle.ksv_nodes.specs.declared.node.Node.{Node}
 use Rattle.ksv_texts.specs.Parts.{plain_part}
-use Rattle.ksv_questions.specs.Asking.{Asking}
-use Rattle.ksv_questions.specs.Code.{Runs, dumped, found_of}
-use Rattle.ksv_questions.specs.Dumps.{Found, Part, begun_part, elements_part, inner, members_part, or_written, part, unasked, value_part, written}
-use Rattle.ksv_questions.specs.Engines.{Ruled, world}
-use Rattle.ksv_questions.specs.declared.asking.Untold.{Untold}
+use Rattle.ksv_questions.specs.Dumps.{Found, inner, or_written}
 use Rattle.ksv_questions.specs.declared.dump.Dumped.{Dumped}
 use Rattle.ksv_questions.proofs.Steps.{Pending, pending_on, pending_run, pending_start, runs_ended, runs_failed, runs_on, runs_settled}
 

@@ -1,31 +1,28 @@
 -- A dump has no float: its integers are written digit for digit.
-use Rattle.std.proofs.Common.{◌≡◌, ℕ, zero, suc, ◌+◌, ℤ, pos, negsuc, Bool, true, false, ◌||◌, ◌&&◌, List, [], ◌∷◌, ◌++◌, Option, Some, None, Ok, Err, Ordering}
-use Rattle.std.proofs.Common.{Less, Equal, Greater, refl, ap, subst}
+use Rattle.ksv_questions.proofs.Common.{◌≡◌, ℕ, zero, suc, ◌+◌, ℤ, Bool, true, false, ◌||◌, ◌&&◌, List, [], ◌∷◌, ◌++◌, Option, None, Ok, Err, refl, ap, subst}
+use Rattle.ksv_questions.proofs.Common.{if◌then◌else◌, Data, no_members, put, Answer, Fail, bind, Description, Trail, child, Index, Value, Node, answered}
+use Rattle.ksv_questions.proofs.Common.{Asking, Heard, Part, begin, begun_part, elements_part, find_list, members_part, part, unasked, value_part}
+use Rattle.std.proofs.Common.{pos, negsuc, Some, Ordering, Less, Equal, Greater}
 use Rattle.std.proofs.lemmas.Bool.{or_from, or_parts}
-use Rattle.std.specs.Prelude.{if◌then◌else◌}
 use Rattle.std.specs.Ordering.{match_ordering, nat_cmp}
 use Rattle.std.specs.Cmp.Lexicographic.{slice_cmp}
-use Rattle.serde_json.specs.Data.{Data, null, Members, no_members, member, put}
+use Rattle.serde_json.specs.Data.{null, Members, member}
 use Rattle.serde_json.specs.Find.{is_float, of_integer}
 use Rattle.serde_json.specs.View.{items_of}
 use Rattle.serde_json.specs.Written.{has_float, items_have_float, members_have_float}
-use Rattle.ksv_basics.specs.Plan.{Answer, Fail, Ask, bind}
-use Rattle.ksv_desc.specs.Description.{Description, fields, name}
-use Rattle.ksv_expr_value.specs.Trail.{Trail, child}
+use Rattle.ksv_basics.specs.Plan.{Ask}
+use Rattle.ksv_desc.specs.Description.{fields, name}
 use Rattle.ksv_expr_value.specs.contracts.path.PathPartialEq.TheImpl.{ghosts as path_tests}
 use Rattle.ksv_nodes.specs.declared.node_fault.NodeFault.{NodeFault}
 use Rattle.ksv_nodes.specs.NodeFaults.{fault_path}
-use Rattle.ksv_expr_value.specs.declared.step.Step.TheVariants.{Index, Name}
-use Rattle.ksv_expr_value.specs.declared.value.Value.{Value}
+use Rattle.ksv_expr_value.specs.declared.step.Step.TheVariants.{Name}
 use Rattle.ksv_expr_value.specs.declared.value.Value.TheVariants as values
 use Rattle.ksv_nodes.specs.declared.given.Given.TheVariants as givens
 use Rattle.ksv_nodes.specs.declared.given.Head.TheVariants as heads
-use Rattle.ksv_nodes.specs.declared.node.Node.{Node}
 use Rattle.ksv_texts.specs.Parts.{failed_part, fault_part, is_absence, member_part, plain_part}
-use Rattle.ksv_questions.specs.Answers.{answered, outcome}
-use Rattle.ksv_questions.specs.Asking.{Asking, Heard, result_of}
-use Rattle.ksv_questions.specs.Dumps.{Found, Part, asked_part, begin, begun_part, count_in, elements_part, find_list, find_object, find_value, inner, list_part}
-use Rattle.ksv_questions.specs.Dumps.{members_part, object_in, object_part, or_written, part, unasked, value_in, value_part}
+use Rattle.ksv_questions.specs.Answers.{outcome}
+use Rattle.ksv_questions.specs.Asking.{result_of}
+use Rattle.ksv_questions.specs.Dumps.{Found, asked_part, count_in, find_object, find_value, inner, list_part, object_in, object_part, or_written, value_in}
 
 -- ---- what each end of a question is
 

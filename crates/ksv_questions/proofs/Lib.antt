@@ -1,3 +1,4 @@
+pub mod Common
 pub mod Fresh
 pub mod Asked
 pub mod Bound

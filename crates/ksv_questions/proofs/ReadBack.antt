@@ -1,7 +1,8 @@
 -- The bytes of an integer read as that integer.
-use Rattle.std.proofs.Common.{◌≡◌, ◌∙◌, ℕ, zero, suc, ◌+◌, ◌-◌, ◌*◌, ◌/◌, ◌^◌, ◌<◌, ◌≤◌, ℤ, pos, negsuc, Bool, true, false, ◌&&◌, List, length, ap, refl, sym}
-use Rattle.std.proofs.Common.{arith}
-use Rattle.std.specs.Prelude.{nat_le, int_le, int_lt, neg_ℤ, if◌then◌else◌, ◌-ℤ◌}
+use Rattle.ksv_questions.proofs.Common.{◌≡◌, ◌∙◌, ℕ, zero, suc, ◌+◌, ◌-◌, ◌*◌, ◌<◌, ◌≤◌, ℤ, Bool, true, false, ◌&&◌, List, length, ap, refl, sym, arith}
+use Rattle.ksv_questions.proofs.Common.{if◌then◌else◌}
+use Rattle.std.proofs.Common.{◌/◌, ◌^◌, pos, negsuc}
+use Rattle.std.specs.Prelude.{nat_le, int_le, int_lt, neg_ℤ, ◌-ℤ◌}
 use Rattle.std.specs.Cmp.{first_so, second_so}
 use Rattle.std.proofs.lemmas.Bool.Decides.{nat_tests}
 use Rattle.std.proofs.lemmas.Int.{ints}

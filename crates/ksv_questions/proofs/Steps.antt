@@ -1,18 +1,12 @@
 -- What running one question after another yields.
-use Rattle.std.proofs.Common.{◌≡◌, ℕ, List, [], ◌++◌, Result, Ok, Err, append_assoc, refl, sym, ◌∙◌, ap, subst}
-use Rattle.ksv_basics.specs.Plan.{Fail, bind}
+use Rattle.ksv_questions.proofs.Common.{◌≡◌, ℕ, List, [], ◌++◌, Result, Ok, Err, append_assoc, refl, sym, ◌∙◌, ap, subst, append-nil, Fail, bind, Description}
+use Rattle.ksv_questions.proofs.Common.{Memo, IsRight, Node, answered, Asking, Runs, HasAsked, Ruled, world, Untold}
 use Rattle.ksv_basics.specs.Asking.{and_then, asks_behind}
-use Rattle.ksv_desc.specs.Description.{Description}
 use Rattle.ksv_nodes.specs.declared.node_fault.NodeFault.{NodeFault}
-use Rattle.ksv_memo_rules.specs.Entry.{Memo}
-use Rattle.ksv_memo_rules.specs.Right.{IsRight}
-use Rattle.ksv_memo.proofs.Moves.{++-nil}
-use Rattle.ksv_nodes.specs.declared.node.Node.{Node}
-use Rattle.ksv_questions.specs.Answers.{answered, asks, outcome}
-use Rattle.ksv_questions.specs.Asking.{Asking, Failure, Faulty, Refused}
-use Rattle.ksv_questions.specs.Code.{IsFault, Runs, Settles}
-use Rattle.ksv_questions.specs.Engines.{HasAsked, HasAskedSome, Ruled, world}
-use Rattle.ksv_questions.specs.declared.asking.Untold.{Untold}
+use Rattle.ksv_questions.specs.Answers.{asks, outcome}
+use Rattle.ksv_questions.specs.Asking.{Failure, Faulty, Refused}
+use Rattle.ksv_questions.specs.Code.{IsFault, Settles}
+use Rattle.ksv_questions.specs.Engines.{HasAskedSome}
 use Rattle.ksv_questions.specs.declared.asking.Untold.TheVariants as untolds
 use Rattle.ksv_questions.proofs.Asked.{asked_none, asked_then, some_before, some_none, some_of, some_then}
 use Rattle.ksv_questions.proofs.Bound.{asks_bind, bind_fails, result_bind}
@@ -24,7 +18,7 @@ module _ (d : Description) (b : List ℕ) where
 
   -- and where it fails
   asks_failed : {A B : Type 0} (p : Asking A) (f : A → Asking B) (e : Failure) → outcome d b p ≡ Err e → asks d b p ≡ asks d b (bind p f)
-  asks_failed p f e is = sym (asks_bind (answered d b) p f ∙ ap (λ r. asks d b p ++ asks_behind r (λ x. asks d b (f x))) is ∙ ++-nil (asks d b p))
+  asks_failed p f e is = sym (asks_bind (answered d b) p f ∙ ap (λ r. asks d b p ++ asks_behind r (λ x. asks d b (f x))) is ∙ append-nil (asks d b p))
 
   outcome_on : {A B : Type 0} (p : Asking A) (f : A → Asking B) (a : A) (r : Result B Failure) → outcome d b p ≡ Ok a → outcome d b (f a) ≡ r
       → outcome d b (bind p f) ≡ r

@@ -1,12 +1,12 @@
 -- Bits that are written: they are read as their number, and no other bit changes.
-use Rattle.std.proofs.Common.{◌≡◌, ◌∙◌, ℕ, zero, suc, ◌+◌, ◌-◌, ◌*◌, ◌/◌, ◌%◌, ◌^◌, ◌<◌, ◌≤◌, ◌&&◌, ◌==◌, Bool, true, false, if◌then◌else◌, List, [], ◌∷◌, ◌++◌}
-use Rattle.std.proofs.Common.{length, take, drop, reverse, Some, None, Ok, Err, ℤ, refl, ap, sym, subst, arith, append_assoc, length-append}
+use Rattle.ksv_questions.proofs.Common.{◌≡◌, ◌∙◌, ℕ, zero, suc, ◌+◌, ◌-◌, ◌*◌, ◌<◌, ◌≤◌, ◌&&◌, Bool, true, false, List, [], ◌∷◌, ◌++◌, length, drop, None, Ok}
+use Rattle.ksv_questions.proofs.Common.{Err, ℤ, refl, ap, sym, subst, arith, append_assoc, Answer, Fail, Asking}
+use Rattle.std.proofs.Common.{◌/◌, ◌%◌, ◌^◌, ◌==◌, if◌then◌else◌, take, reverse, Some, length-append}
 use Rattle.std.specs.Prelude.{nat_le, nat_lt, slice_range}
 use Rattle.std.proofs.lemmas.Bool.{leb-true}
 use Rattle.std.proofs.lemmas.List.{drop-drop, length-drop, length-reverse, length-take, reverse-append, take-append-drop}
 use Rattle.std.proofs.lemmas.Grind.{pow_more}
 use Rattle.std.proofs.Math.Seq.{drop-append-add, drop-append_seam, take-append-add, take-append_seam}
-use Rattle.ksv_basics.specs.Plan.{Answer, Fail}
 use Rattle.ksv_bytes.specs.Edits.{overwrite}
 use Rattle.ksv_bytes.specs.declared.edit.EditRefusal.TheVariants.{NothingToDo, Outside}
 use Rattle.ksv_texts.specs.declared.refusal.Refusal.TheVariants.{OutOfRange}
@@ -19,7 +19,7 @@ use Rattle.ksv_nodes.specs.declared.given.Leaf.{Leaf}
 use Rattle.ksv_texts.specs.Bits.{bits_hold, magnitude, replaced_bits, with_bits}
 use Rattle.ksv_texts.specs.Integers.{little_endian}
 use Rattle.ksv_texts.proofs.Among.{held}
-use Rattle.ksv_questions.specs.Asking.{Asking, Refused}
+use Rattle.ksv_questions.specs.Asking.{Refused}
 use Rattle.ksv_questions.specs.Writing.{Overwrite, BitsAreWritten, IsWritten, among, met_bytes}
 use Rattle.ksv_questions.proofs.ReadBack.{digits_length}
 

@@ -52,6 +52,7 @@
 //! - `Asked`: asking one list of nodes and then another
 //! - `Bound`: one question after another
 //! - `Cases`: questions that need no further ask
+//! - `Common`: what many of them name, of definitions and of other crates
 //! - `Dumping`: the steps of a dump
 //! - `Exact`: a dump has no float
 //! - `Fresh`: what two questions complete one after the other, and their costs

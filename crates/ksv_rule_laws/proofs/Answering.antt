@@ -1,22 +1,17 @@
 -- What a rule that answers went through: each of its parts answered. With fewer nodes open, a node answers the same.
-use Rattle.std.proofs.Common.{◌≡◌, ◌∙◌, ℕ, zero, suc, ◌≤◌, Bool, true, false, cond, ◌||◌, List, ◌∷◌, Option, Some, None, Result, Ok, Err, refl, sym, ap, arith}
+use Rattle.ksv_rule_laws.proofs.Common.{◌≡◌, ◌∙◌, ℕ, zero, suc, ◌≤◌, Bool, true, false, List, ◌∷◌, Option, Some, None, Result, Ok, Err, refl, sym, ap, arith}
+use Rattle.ksv_rule_laws.proofs.Common.{Answer, Fail, Ask, bind, Trail, Description, Node, NodeFault, Given, Head, Seen, look, Rule, Of, See, ask_head}
+use Rattle.ksv_rule_laws.proofs.Common.{head_node, answer_of, with_given, with_seen, from_nothing}
+use Rattle.std.proofs.Common.{cond, ◌||◌}
 use Rattle.std.specs.Prelude.{nat_eq}
-use Rattle.ksv_basics.specs.Plan.{Answer, Fail, Ask, bind}
+use Rattle.std.proofs.lemmas.Bool.{or_right}
 use Rattle.ksv_basics.specs.Asking.{and_then}
-use Rattle.ksv_expr_value.specs.Trail.{Trail}
-use Rattle.ksv_desc.specs.Description.{Description}
 use Rattle.ksv_memo_rules.specs.Evaluation.{is_among}
-use Rattle.ksv_nodes.specs.declared.node.Node.{Node}
-use Rattle.ksv_nodes.specs.declared.node_fault.NodeFault.{NodeFault}
-use Rattle.ksv_nodes.specs.declared.given.Given.{Given}
 use Rattle.ksv_nodes.specs.declared.given.Given.TheVariants as givens
-use Rattle.ksv_nodes.specs.declared.given.Head.{Head}
 use Rattle.ksv_nodes.specs.Numbers.{node_number, node_bound}
-use Rattle.ksv_nodes.specs.Reading.{Seen, look}
-use Rattle.ksv_nodes.specs.Rule.{Rule, Of, See, in_head, ask_head, head_node}
-use Rattle.ksv_nodes.specs.Truth.{answer_of, with_given, with_seen}
+use Rattle.ksv_nodes.specs.Rule.{in_head}
 use Rattle.ksv_rule_meaning.specs.Meaning.{meaning_of, rule_of}
-use Rattle.ksv_rule_meaning.specs.FromNothing.{circle, answer_within, from_nothing}
+use Rattle.ksv_rule_meaning.specs.FromNothing.{circle, answer_within}
 use Rattle.ksv_rule_laws.specs.Laws.{AreAmong, AnswersStay}
 use Rattle.ksv_rule_laws.proofs.Meeting.{answer_bind}
 
@@ -105,10 +100,6 @@ same_answer met met' here bytes same {A = A} (Ask (See r) k) a h = by_seen (look
 or_more : (b c e : Bool) → (c ≡ true → e ≡ true) → (b || c) ≡ true → (b || e) ≡ true
 or_more true c e f h = refl
 or_more false c e f h = f h
-
-or_right : (b c : Bool) → c ≡ true → (b || c) ≡ true
-or_right true c h = refl
-or_right false c h = h
 
 not_among : (b c : Bool) → (b ≡ true → c ≡ true) → c ≡ false → b ≡ false
 not_among true c f e = let t = f refl in absurd (cc)

@@ -1,26 +1,12 @@
 -- A value that is answered meets what it must.
-use Rattle.std.proofs.Common.{◌≡◌, ◌∙◌, ℕ, Bool, true, false, if◌then◌else◌, List, [], ◌∷◌, Option, Some, None, Result, refl, sym, ap, subst}
-use Rattle.std.specs.List.{AllByRecursion}
-use Rattle.ksv_basics.specs.Plan.{Answer, bind}
-use Rattle.ksv_expr_tree.specs.Tree.{Tree}
-use Rattle.ksv_expr_value.specs.Setting.{Setting}
-use Rattle.ksv_expr_value.specs.Trail.{Trail, parent, last}
-use Rattle.ksv_expr_value.specs.declared.value.Value.{Value}
-use Rattle.ksv_desc.specs.Description.{Description, MemberOfType, MemberKind, Valid, AnyOf, AllOf, valid_of}
-use Rattle.ksv_nodes.specs.declared.node.Node.{Node}
-use Rattle.ksv_nodes.specs.declared.node_fault.NodeFault.{NodeFault}
-use Rattle.ksv_nodes.specs.declared.given.Given.{Given}
-use Rattle.ksv_nodes.specs.declared.given.Head.{Head}
+use Rattle.ksv_rule_laws.proofs.Common.{◌≡◌, ◌∙◌, ℕ, Bool, true, false, if◌then◌else◌, List, [], ◌∷◌, Option, Some, None, Result, refl, sym, ap, subst}
+use Rattle.ksv_rule_laws.proofs.Common.{AllByRecursion, Answer, bind, Tree, Setting, Trail, parent, last, Value, Description, MemberOfType, MemberKind, Node}
+use Rattle.ksv_rule_laws.proofs.Common.{NodeFault, Given, Head, MemberRef, Object, Origin, Rule, kind_of, truth_of, ValueMeets}
+use Rattle.ksv_desc.specs.Description.{Valid, AnyOf, AllOf, valid_of}
 use Rattle.ksv_nodes.specs.declared.given.Head.TheVariants as heads
-use Rattle.ksv_nodes.specs.declared.given.MemberRef.{MemberRef}
-use Rattle.ksv_nodes.specs.declared.given.Object.{Object}
-use Rattle.ksv_nodes.specs.declared.given.Origin.{Origin}
-use Rattle.ksv_nodes.specs.Rule.{Rule}
 use Rattle.ksv_rule_meaning.specs.Checks.{meets_one, meets_each, meets, with_value, checked, checked_if, member_checked, object_checked, value_checked}
-use Rattle.ksv_rule_meaning.specs.Fields.{kind_of}
 use Rattle.ksv_rule_meaning.specs.Heads.{member_setting, holder_setting}
-use Rattle.ksv_rule_meaning.specs.Wanted.{truth_of}
-use Rattle.ksv_rule_laws.specs.Laws.{Gives, HasTrue, IsMet, MeetsMember, ObjectMeets, ValueMeets}
+use Rattle.ksv_rule_laws.specs.Laws.{Gives, HasTrue, IsMet, MeetsMember, ObjectMeets}
 use Rattle.ksv_rule_laws.proofs.Rules.{Answers, join, either, so, truth_is}
 use Rattle.ksv_rule_laws.proofs.Members.{kind_found}
 

@@ -1,20 +1,14 @@
 -- A circle comes from nodes that ask for each other, and from no rule.
-use Rattle.std.proofs.Common.{◌≡◌, ◌∙◌, ℕ, zero, suc, ◌+◌, ◌-◌, ◌<◌, ◌≤◌, Bool, true, false, cond, List, [], ◌∷◌, length, Option, Some, None, Result, Ok, Err}
-use Rattle.std.proofs.Common.{refl, sym, ap, arith, inl, inr}
+use Rattle.ksv_rule_laws.proofs.Common.{◌≡◌, ◌∙◌, ℕ, zero, suc, ◌+◌, ◌-◌, ◌<◌, ◌≤◌, Bool, true, false, List, [], ◌∷◌, length, Option, Some, None, Result, Ok}
+use Rattle.ksv_rule_laws.proofs.Common.{Err, refl, sym, ap, arith, inl, inr, Answer, Fail, Ask, Trail, Description, Node, NodeFault, Given, Seen, look, Rule}
+use Rattle.ksv_rule_laws.proofs.Common.{Of, See, answer_of, with_given, with_seen, from_nothing}
+use Rattle.std.proofs.Common.{cond}
 use Rattle.std.specs.Prelude.{Contains}
 use Rattle.std.proofs.lemmas.List.Elements.{Contains-append_left, Contains-append_right, Contains-append_cases, Contains-push, Contains-push_cases}
-use Rattle.ksv_basics.specs.Plan.{Answer, Fail, Ask}
-use Rattle.ksv_expr_value.specs.Trail.{Trail}
 use Rattle.ksv_expr_value.specs.declared.fault.FaultKind.TheVariants as kinds
-use Rattle.ksv_desc.specs.Description.{Description}
-use Rattle.ksv_nodes.specs.declared.node.Node.{Node}
 use Rattle.ksv_expr_value.specs.declared.fault.Fault.{Fault}
-use Rattle.ksv_nodes.specs.declared.node_fault.NodeFault.{NodeFault}
 use Rattle.ksv_nodes.specs.declared.node_fault.NodeFault.TheVariants as faults
-use Rattle.ksv_nodes.specs.declared.given.Given.{Given}
-use Rattle.ksv_nodes.specs.Reading.{Seen, look}
-use Rattle.ksv_nodes.specs.Rule.{Rule, Of, See}
-use Rattle.ksv_nodes.specs.Truth.{answer_of, asks_of, with_given, with_seen, behind_given, behind_seen}
+use Rattle.ksv_nodes.specs.Truth.{asks_of, behind_given, behind_seen}
 use Rattle.ksv_nodes.specs.Turning.{fault_at, raised}
 use Rattle.ksv_nodes.specs.Numbers.{node_number, node_bound, node_number-one, node_number-below}
 use Rattle.ksv_memo_rules.specs.Evaluation.{is_among}
@@ -22,7 +16,7 @@ use Rattle.ksv_memo_rules.specs.Meaning.{Standing, IsSettled, on}
 use Rattle.ksv_memo_rules.specs.Right.{AreDistinct}
 use Rattle.ksv_memo_rules.proofs.Evals.{few, AreDistinct-cons}
 use Rattle.ksv_rule_meaning.specs.Meaning.{rule_of}
-use Rattle.ksv_rule_meaning.specs.FromNothing.{circle, answer_within, from_nothing}
+use Rattle.ksv_rule_meaning.specs.FromNothing.{circle, answer_within}
 use Rattle.ksv_rule_meaning.specs.Described.{described}
 use Rattle.ksv_rule_meaning.specs.Lemmas.Bounds.{settles}
 use Rattle.ksv_rule_laws.specs.Laws.{NoRuleMakesCircles, LeadsBack, CirclesLeadBack}

@@ -1,27 +1,18 @@
 -- The number of elements that a list is said to have is that of the ends of its elements.
-use Rattle.std.proofs.Common.{◌≡◌, ◌∙◌, ℕ, zero, suc, ◌+◌, ◌==◌, ◌<◌, Bool, true, false, List, [], ◌∷◌, Option, Some, None, Result, Ok, ◌⊎◌, inl, inr, refl}
-use Rattle.std.proofs.Common.{sym, ap, subst, arith}
+use Rattle.ksv_rule_laws.proofs.Common.{◌≡◌, ◌∙◌, ℕ, zero, suc, ◌+◌, ◌==◌, ◌<◌, Bool, true, false, List, [], ◌∷◌, Option, Some, None, Result, Ok, inl, inr}
+use Rattle.ksv_rule_laws.proofs.Common.{refl, sym, ap, subst, arith, nat_tests, Tree, Place, Trail, child, parent, last, Step, Description, Field, Repeat, Once}
+use Rattle.ksv_rule_laws.proofs.Common.{Eos, Expr, Until, Node, NodeFault, NodeKind, Given, head_node, end_node, rest_node, answer_of, is_last, from_nothing}
+use Rattle.ksv_rule_laws.proofs.Common.{IsFieldOf, IsCountedBy}
+use Rattle.std.proofs.Common.{◌⊎◌}
 use Rattle.std.proofs.lemmas.Bool.{cases_lt}
-use Rattle.std.proofs.lemmas.Bool.Decides.{nat_tests}
-use Rattle.ksv_expr_tree.specs.Tree.{Tree}
-use Rattle.ksv_expr_value.specs.Places.{Place}
-use Rattle.ksv_expr_value.specs.Trail.{Trail, child, parent, last, first_step, all_but_last, trail_of, trail_of-true}
-use Rattle.ksv_expr_value.specs.declared.step.Step.{Step}
+use Rattle.ksv_expr_value.specs.Trail.{first_step, all_but_last, trail_of, trail_of-true}
 use Rattle.ksv_expr_value.specs.declared.step.Step.TheVariants as steps
-use Rattle.ksv_desc.specs.Description.{Description, Field, Repeat, Once, Eos, Expr, Until}
-use Rattle.ksv_nodes.specs.declared.node.Node.{Node}
-use Rattle.ksv_nodes.specs.declared.node_fault.NodeFault.{NodeFault}
-use Rattle.ksv_nodes.specs.declared.node.NodeKind.{NodeKind}
 use Rattle.ksv_nodes.specs.declared.node.NodeKind.TheVariants as nodes
-use Rattle.ksv_nodes.specs.declared.given.Given.{Given}
 use Rattle.ksv_nodes.specs.declared.given.Given.TheVariants as givens
 use Rattle.ksv_nodes.specs.declared.given.List as lists
 use Rattle.ksv_nodes.specs.declared.given.Head.TheVariants as heads
-use Rattle.ksv_nodes.specs.Rule.{head_node, end_node, rest_node}
-use Rattle.ksv_nodes.specs.Truth.{answer_of}
-use Rattle.ksv_rule_meaning.specs.Ends.{is_counted, is_last}
-use Rattle.ksv_rule_meaning.specs.FromNothing.{from_nothing}
-use Rattle.ksv_rule_laws.specs.Laws.{EndsAsOf, AreElements, IsEmptyList, RestsCount, IsFieldOf, IsCountedBy, ToldCounts}
+use Rattle.ksv_rule_meaning.specs.Ends.{is_counted}
+use Rattle.ksv_rule_laws.specs.Laws.{EndsAsOf, AreElements, IsEmptyList, RestsCount, ToldCounts}
 use Rattle.ksv_rule_laws.proofs.Answering.{ok_is}
 use Rattle.ksv_rule_laws.proofs.Values.{same_field}
 use Rattle.ksv_rule_laws.proofs.Shapes.{IsLastOf, IsLast, IsRest, IsAnswer}

@@ -1,42 +1,22 @@
 -- What is read lies in the stream of the object or list that holds it.
-use Rattle.std.proofs.Common.{◌≡◌, ◌∙◌, ℕ, ◌+◌, ◌==◌, ◌≤◌, Bool, true, false, if◌then◌else◌, List, [], ◌∷◌, Option, Some, None, Result, Ok, refl, sym, ap}
-use Rattle.std.proofs.Common.{subst, arith, inl, inr}
-use Rattle.std.specs.Prelude.{◌⊎◌}
-use Rattle.std.specs.List.{AllByRecursion}
-use Rattle.std.proofs.lemmas.Bool.Decides.{nat_tests}
-use Rattle.ksv_expr_tree.specs.Tree.{Tree}
-use Rattle.ksv_expr_value.specs.Places.{Place, at_byte, byte_of, further}
-use Rattle.ksv_expr_value.proofs.Places.{of_aligned}
+use Rattle.ksv_rule_laws.proofs.Common.{◌≡◌, ◌∙◌, ℕ, ◌+◌, ◌==◌, ◌≤◌, Bool, true, false, if◌then◌else◌, List, [], ◌∷◌, Option, Some, None, Result, Ok, refl, sym}
+use Rattle.ksv_rule_laws.proofs.Common.{ap, subst, arith, inl, inr, ◌⊎◌, AllByRecursion, nat_tests, Tree, Place, at_byte, byte_of, further, of_aligned, Trail}
+use Rattle.ksv_rule_laws.proofs.Common.{parent, last, Step, Stream, Value, Choice, Description, MemberOfType, MemberKind, Parameter, Attribute, ParseInstance}
+use Rattle.ksv_rule_laws.proofs.Common.{ValueInstance, Field, Node, NodeFault, NodeKind, Given, Origin, ObjectEnd, Object, Head, end_in, head_node, end_node}
+use Rattle.ksv_rule_laws.proofs.Common.{rest_node, answer_of, expression, holds, stream_for, members_of, behind, Sought, sought, last_attribute, origin_of}
+use Rattle.ksv_rule_laws.proofs.Common.{instance_setting, calc, is_last, from_nothing, EndsAt}
 use Rattle.ksv_rule_laws.proofs.Starts.{of_start, at_most, at_least}
-use Rattle.ksv_expr_value.specs.Trail.{Trail, parent, last}
-use Rattle.ksv_expr_value.specs.declared.step.Step.{Step}
 use Rattle.ksv_expr_value.specs.declared.step.Step.TheVariants as steps
-use Rattle.ksv_expr_value.specs.declared.value.Stream.{Stream}
-use Rattle.ksv_expr_value.specs.declared.value.Value.{Value}
 use Rattle.ksv_expr_value.specs.declared.value.Value.TheVariants as values
-use Rattle.ksv_desc.specs.Description.{Choice, Description, MemberOfType, MemberKind, Parameter, Attribute, ParseInstance, ValueInstance, Field}
-use Rattle.ksv_nodes.specs.declared.node.Node.{Node}
-use Rattle.ksv_nodes.specs.declared.node_fault.NodeFault.{NodeFault}
-use Rattle.ksv_nodes.specs.declared.node.NodeKind.{NodeKind}
 use Rattle.ksv_nodes.specs.declared.node.NodeKind.TheVariants as nodes
-use Rattle.ksv_nodes.specs.declared.given.Given.{Given}
 use Rattle.ksv_nodes.specs.declared.given.Given.TheVariants as givens
-use Rattle.ksv_nodes.specs.declared.given.Origin.{Origin}
-use Rattle.ksv_nodes.specs.declared.given.ObjectEnd.{ObjectEnd}
 use Rattle.ksv_nodes.specs.declared.given.ObjectEnd.TheVariants as endings
-use Rattle.ksv_nodes.specs.declared.given.Object.{Object}
-use Rattle.ksv_nodes.specs.declared.given.Head.{Head}
 use Rattle.ksv_nodes.specs.declared.given.Head.TheVariants as heads
-use Rattle.ksv_nodes.specs.Reading.{end_in}
-use Rattle.ksv_nodes.specs.Rule.{head_node, end_node, rest_node}
-use Rattle.ksv_nodes.specs.Truth.{answer_of}
-use Rattle.ksv_rule_meaning.specs.Wanted.{expression, in_stream, holds, stream_for}
-use Rattle.ksv_rule_meaning.specs.Fields.{members_of, is_attribute, behind, Sought, sought, last_attribute}
-use Rattle.ksv_rule_meaning.specs.Heads.{origin_of, instance_setting, calc, within}
-use Rattle.ksv_rule_meaning.specs.Ends.{is_last}
-use Rattle.ksv_rule_meaning.specs.FromNothing.{from_nothing}
+use Rattle.ksv_rule_meaning.specs.Wanted.{in_stream}
+use Rattle.ksv_rule_meaning.specs.Fields.{is_attribute}
+use Rattle.ksv_rule_meaning.specs.Heads.{within}
 use Rattle.ksv_rule_laws.specs.Laws.{IsBetween, LiesIn, IsStreamFor, IsReadIn, IsHeld, AreNamesDistinct, HasDistinctNames, HeadsLieInStreams, EndsLieInStreams}
-use Rattle.ksv_rule_laws.specs.Laws.{IsUnmet, IsUnmetAt, IsLeftOut, EndsAt}
+use Rattle.ksv_rule_laws.specs.Laws.{IsUnmet, IsUnmetAt, IsLeftOut}
 use Rattle.ksv_rule_laws.proofs.Answering.{ok_is, goes_on, same_answer}
 use Rattle.ksv_rule_laws.proofs.Shapes.{IsHeadAt, IsStart, IsOut, IsMember, IsMemberOf, IsElementOf, IsHead, IsFieldsEnd, IsObjectEnd, RestsAt, IsEnd, IsEndOf}
 use Rattle.ksv_rule_laws.proofs.Shapes.{IsRest, IsAnswer}

@@ -1,12 +1,12 @@
 -- What a plan of an expression gives, by its parts: bytes and streams that it was told of.
-use Rattle.std.proofs.Common.{codes, ℕ, ◌+◌, ◌-◌, ◌==◌, Bool, true, false, nat_lt, if◌then◌else◌, ℤ, pos, negsuc, List, [], ◌∷◌, Option, Some, None, Result, Ok}
-use Rattle.std.proofs.Common.{Err, bytes_eq}
+use Rattle.ksv_rule_laws.proofs.Common.{ℕ, ◌+◌, ◌-◌, ◌==◌, Bool, true, false, if◌then◌else◌, List, [], ◌∷◌, Option, Some, None, Result, Ok, Err, Answer, Fail}
+use Rattle.ksv_rule_laws.proofs.Common.{Ask, bind, Tree, byte_of, Trail, Setting, Stream, Value, Want, Heard, Eval, value_of}
+use Rattle.std.proofs.Common.{codes, nat_lt, ℤ, pos, negsuc, bytes_eq}
 use Rattle.std.specs.Ordering.{nat_cmp, int_cmp, int_eq}
 use Rattle.std.specs.Cmp.Lexicographic.{slice_cmp}
 use Rattle.std.specs.declared.cmp.Ordering.{Ordering}
-use Rattle.ksv_basics.specs.Plan.{Answer, Fail, Ask, bind}
-use Rattle.ksv_expr_tree.specs.Tree.{Tree, Word, Constant, integer, truth, string, no_arguments, argument, literal, named, special, member, unary, binary}
-use Rattle.ksv_expr_tree.specs.Tree.{logical, choice, field, special_field, call, index, cast}
+use Rattle.ksv_expr_tree.specs.Tree.{Word, Constant, integer, truth, string, no_arguments, argument, literal, named, special, member, unary, binary, logical}
+use Rattle.ksv_expr_tree.specs.Tree.{choice, field, special_field, call, index, cast}
 use Rattle.ksv_expr_tree.specs.declared.tree.UnaryOperator.{UnaryOperator}
 use Rattle.ksv_expr_tree.specs.declared.tree.UnaryOperator.TheVariants as signs
 use Rattle.ksv_expr_tree.specs.declared.tree.BinaryOperator.{BinaryOperator}
@@ -14,31 +14,27 @@ use Rattle.ksv_expr_tree.specs.declared.tree.BinaryOperator.TheVariants as opera
 use Rattle.ksv_expr_tree.specs.declared.tree.SpecialName.{SpecialName}
 use Rattle.ksv_expr_tree.specs.declared.tree.SpecialName.TheVariants as specials
 use Rattle.ksv_expr_tree.specs.declared.tree.EnumMember.{EnumMember}
-use Rattle.ksv_expr_value.specs.Places.{byte_of}
-use Rattle.ksv_expr_value.specs.Trail.{Trail, holder}
+use Rattle.ksv_expr_value.specs.Trail.{holder}
 use Rattle.ksv_expr_value.specs.Range.{ranged, in_range}
-use Rattle.ksv_expr_value.specs.Setting.{Setting, Element, NoElement, ElementAt, Made}
+use Rattle.ksv_expr_value.specs.Setting.{Element, NoElement, ElementAt, Made}
 use Rattle.ksv_expr_value.specs.Encodings.{encoding_named, decoded}
 use Rattle.ksv_expr_value.specs.declared.encoding.Encoding.{Encoding}
 use Rattle.ksv_expr_value.specs.declared.fault.FaultKind.{FaultKind}
-use Rattle.ksv_expr_value.specs.declared.value.Stream.{Stream}
-use Rattle.ksv_expr_value.specs.declared.value.Value.{Value}
 use Rattle.ksv_expr_value.specs.declared.value.Value.TheVariants as values
-use Rattle.ksv_expr_meaning.specs.declared.want.Want.{Want}
 use Rattle.ksv_expr_meaning.specs.declared.want.Want.TheVariants as wants
 use Rattle.ksv_expr_meaning.specs.Integers.{calculated}
 use Rattle.ksv_expr_meaning.specs.Methods.{method_named}
 use Rattle.ksv_expr_meaning.specs.Texts.{joined, substring, text_number, number_of, written_in}
 use Rattle.ksv_expr_meaning.specs.Operators.{exactly, matched, ordered, ranged_value, compared, integers_of, same_truth, joined_text, texts_of, members_of}
 use Rattle.ksv_expr_meaning.specs.Operators.{unary_of, as_value, substring_of}
-use Rattle.ksv_expr_meaning.specs.Heard.{Heard, Valued, Opened}
-use Rattle.ksv_expr_meaning.specs.Asked.{Eval, given, in_opened, value_for, opened_for, number_for, truth_for, bytes_for}
+use Rattle.ksv_expr_meaning.specs.Heard.{Valued, Opened}
+use Rattle.ksv_expr_meaning.specs.Asked.{given, in_opened, value_for, opened_for, number_for, truth_for, bytes_for}
 use Rattle.ksv_expr_meaning.specs.Meaning.{member_value, element_value, holder_of, stream_of, index_value, element_read, special_value, literal_value}
 use Rattle.ksv_expr_meaning.specs.Meaning.{ranged_member, enum_member, truth_value, decides, bytes_with, integer_and, truth_and, text_and, bytes_and}
 use Rattle.ksv_expr_meaning.specs.Meaning.{member_and, binary_of, distance, size_to, stream_size, at_end, stream_method, list_size, last_element, list_method}
 use Rattle.ksv_expr_meaning.specs.Meaning.{method_of, method_by, field_of, is_own_stream, object_special, special_of, decoded_text, decoded_by, text_in}
 use Rattle.ksv_expr_meaning.specs.Meaning.{bytes_call, call_one, call_two, first_byte, byte_from, byte_at, list_at, bytes_at, item_at, object_of_type}
-use Rattle.ksv_expr_meaning.specs.Meaning.{object_as, cast_to, value_of, member_path, element_path, element_count, in_truth_value, same_bytes}
+use Rattle.ksv_expr_meaning.specs.Meaning.{object_as, cast_to, member_path, element_path, element_count, in_truth_value, same_bytes}
 use Rattle.ksv_expr_value.specs.declared.fault.FaultKind.TheVariants as kinds
 
 -- ---- what a plan gives

@@ -1,26 +1,15 @@
 -- An attribute begins after the one before it in its type, and the first where its object does.
-use Rattle.std.proofs.Common.{◌≡◌, ◌∙◌, ℕ, ◌+◌, ◌*◌, ◌/◌, ◌==◌, true, false, if◌then◌else◌, List, [], ◌∷◌, ◌++◌, Option, Some, None, Result, Ok, refl, sym, ap}
-use Rattle.std.proofs.Common.{subst, arith}
-use Rattle.std.specs.List.{AllByRecursion}
-use Rattle.std.proofs.lemmas.Bool.Decides.{nat_tests}
-use Rattle.ksv_expr_value.specs.Places.{Place, at_byte, byte_of, aligned}
-use Rattle.ksv_expr_value.specs.Trail.{Trail, parent, last}
+use Rattle.ksv_rule_laws.proofs.Common.{◌≡◌, ◌∙◌, ℕ, ◌+◌, ◌==◌, true, false, if◌then◌else◌, List, [], ◌∷◌, Option, Some, None, Result, Ok, refl, sym, ap, subst}
+use Rattle.ksv_rule_laws.proofs.Common.{arith, AllByRecursion, nat_tests, Place, at_byte, byte_of, aligned, Trail, parent, last, Description, MemberOfType}
+use Rattle.ksv_rule_laws.proofs.Common.{MemberKind, Parameter, Attribute, ParseInstance, ValueInstance, Choice, Always, Switch}
+use Rattle.ksv_rule_laws.proofs.Common.{Node, NodeFault, Given, Object, Head, head_node, members_of, behind, Sought, sought, last_attribute, origin_of}
+use Rattle.ksv_rule_laws.proofs.Common.{start_after, start_of, from_nothing}
+use Rattle.std.proofs.Common.{◌*◌, ◌/◌, ◌++◌}
 use Rattle.ksv_expr_value.specs.declared.step.Step.TheVariants.{Name}
-use Rattle.ksv_desc.specs.Description.{Description, MemberOfType, MemberKind, Parameter, Attribute, ParseInstance, ValueInstance, Field, Choice, Always, Switch}
-use Rattle.ksv_desc.specs.Description.{Repeat, Once, Eos, Expr, Until}
 use Rattle.ksv_desc.specs.Description as contents
-use Rattle.ksv_nodes.specs.declared.node.Node.{Node}
-use Rattle.ksv_nodes.specs.declared.node_fault.NodeFault.{NodeFault}
-use Rattle.ksv_nodes.specs.declared.given.Given.{Given}
 use Rattle.ksv_nodes.specs.declared.given.Given.TheVariants as givens
-use Rattle.ksv_nodes.specs.declared.given.Object.{Object}
-use Rattle.ksv_nodes.specs.declared.given.Head.{Head}
 use Rattle.ksv_nodes.specs.declared.given.Head.TheVariants as heads
-use Rattle.ksv_nodes.specs.Rule.{head_node}
-use Rattle.ksv_rule_meaning.specs.Fields.{members_of, is_attribute, behind, Sought, sought, last_attribute}
-use Rattle.ksv_rule_meaning.specs.Heads.{origin_of, start_after}
-use Rattle.ksv_rule_meaning.specs.Ends.{start_of}
-use Rattle.ksv_rule_meaning.specs.FromNothing.{from_nothing}
+use Rattle.ksv_rule_meaning.specs.Fields.{is_attribute}
 use Rattle.ksv_rule_laws.specs.Laws.{AreBits, IsNextByte, BeginsAfter, FirstAttributesBegin, AttributesTouch}
 use Rattle.ksv_rule_laws.proofs.Shapes.{IsStart, IsMember, IsMemberOf, IsHead}
 use Rattle.ksv_rule_laws.proofs.Shaping.{by_shape}

@@ -1,23 +1,15 @@
 -- An answer has its node's form; a value is one of the head at its path, and meets what it must.
-use Rattle.std.proofs.Common.{◌≡◌, ℕ, List, Result, Ok, subst, inl, inr}
-use Rattle.ksv_expr_value.specs.Trail.{Trail}
-use Rattle.ksv_expr_value.specs.declared.value.Value.{Value}
+use Rattle.ksv_rule_laws.proofs.Common.{◌≡◌, ℕ, List, Result, Ok, subst, inl, inr, Trail, Value, Description, Node, NodeFault, NodeKind, Given, Head, head_node}
+use Rattle.ksv_rule_laws.proofs.Common.{from_nothing, ValueMeets, IsNoStream}
 use Rattle.ksv_expr_value.specs.declared.value.Value.TheVariants as values
-use Rattle.ksv_desc.specs.Description.{Description}
-use Rattle.ksv_nodes.specs.declared.node.Node.{Node}
-use Rattle.ksv_nodes.specs.declared.node_fault.NodeFault.{NodeFault}
-use Rattle.ksv_nodes.specs.declared.node.NodeKind.{NodeKind}
 use Rattle.ksv_nodes.specs.declared.node.NodeKind.TheVariants as nodes
-use Rattle.ksv_nodes.specs.declared.given.Given.{Given}
 use Rattle.ksv_nodes.specs.declared.given.Given.TheVariants as givens
-use Rattle.ksv_nodes.specs.declared.given.Head.{Head}
 use Rattle.ksv_nodes.specs.declared.given.Head.TheVariants as heads
-use Rattle.ksv_nodes.specs.Rule.{head_node, value_node}
-use Rattle.ksv_rule_meaning.specs.FromNothing.{from_nothing}
+use Rattle.ksv_nodes.specs.Rule.{value_node}
 use Rattle.ksv_rule_laws.proofs.Shapes.{IsPlain, IsValueAt, IsMadeOf, IsAnswer}
 use Rattle.ksv_rule_laws.proofs.Shaping.{by_shape}
 use Rattle.ksv_rule_laws.proofs.Sources.{heads_are_read}
-use Rattle.ksv_rule_laws.specs.Laws.{ValueMeets, ValuesMeetChecks, IsNoStream, HasForm, AnswersHaveForms, IsRead, IsOfHead, HasHead, ValuesHaveHeads}
+use Rattle.ksv_rule_laws.specs.Laws.{ValuesMeetChecks, HasForm, AnswersHaveForms, IsRead, IsOfHead, HasHead, ValuesHaveHeads}
 
 module _ (d : Description) (met : Node → Result Given NodeFault) (here : Trail) (bytes : List ℕ) where
   plain_is : (w v : Value) → IsPlain d met here bytes w v → IsNoStream v

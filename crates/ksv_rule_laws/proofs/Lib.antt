@@ -1,4 +1,5 @@
 -- The lemmas of this crate.
+pub mod Common
 pub mod Meeting
 pub mod Starts
 pub mod Answering

@@ -1,24 +1,16 @@
 -- What an expression answers in a rule, where each node that it asks has an answer.
-use Rattle.std.proofs.Common.{◌≡◌, ℕ, List, [], ◌∷◌, ◌++◌, flat_map, Result, Ok, Err, Option, Some, None, refl, sym, ap, ◌∙◌, append_assoc, append-nil}
-use Rattle.ksv_basics.specs.Plan.{Answer, Fail, Ask, bind, translate}
+use Rattle.ksv_rule_laws.proofs.Common.{◌≡◌, ℕ, List, [], ◌∷◌, Result, Ok, Err, Option, Some, None, refl, sym, ap, ◌∙◌, Answer, Fail, Ask, bind, Trail, Heard}
+use Rattle.ksv_rule_laws.proofs.Common.{Setting, Eval, value_of, Want, look, Rule, Of, See, answer_of, with_given, with_seen, Node, NodeFault, Given}
+use Rattle.ksv_rule_laws.proofs.Common.{expression}
+use Rattle.std.proofs.Common.{◌++◌, flat_map, append_assoc, append-nil}
+use Rattle.ksv_basics.specs.Plan.{translate}
 use Rattle.ksv_basics.specs.Asking.{and_then, asks_behind}
 use Rattle.ksv_basics.specs.Asking.{answer_of as plan_answer, asks_of as plan_asks}
 use Rattle.ksv_bytes.specs.declared.uses.Use.{Use}
-use Rattle.ksv_expr_value.specs.Trail.{Trail}
-use Rattle.ksv_expr_meaning.specs.Heard.{Heard}
-use Rattle.ksv_expr_value.specs.Setting.{Setting}
-use Rattle.ksv_expr_meaning.specs.Asked.{Eval}
 use Rattle.ksv_nodes.specs.NodeFaults.{raised_at}
-use Rattle.ksv_expr_meaning.specs.Meaning.{value_of}
-use Rattle.ksv_expr_meaning.specs.declared.want.Want.{Want}
-use Rattle.ksv_nodes.specs.Reading.{look}
-use Rattle.ksv_nodes.specs.Rule.{Rule, Of, See, Here}
-use Rattle.ksv_nodes.specs.Truth.{answer_of, asks_of, uses_of, with_given, with_seen}
-use Rattle.ksv_nodes.specs.Truth.{behind_given as given_list, behind_seen as seen_list}
-use Rattle.ksv_nodes.specs.declared.node.Node.{Node}
-use Rattle.ksv_nodes.specs.declared.node_fault.NodeFault.{NodeFault}
-use Rattle.ksv_nodes.specs.declared.given.Given.{Given}
-use Rattle.ksv_rule_meaning.specs.Wanted.{wanted, expression}
+use Rattle.ksv_nodes.specs.Rule.{Here}
+use Rattle.ksv_nodes.specs.Truth.{asks_of, uses_of, behind_given as given_list, behind_seen as seen_list}
+use Rattle.ksv_rule_meaning.specs.Wanted.{wanted}
 use Rattle.ksv_rule_laws.specs.Expressions.{ExpressionsAreMet}
 
 -- going on after an answer by two functions that agree

@@ -1,23 +1,13 @@
 -- How the members of a description read: the member of a place or a name, and the case that a switch chose.
-use Rattle.std.proofs.Common.{◌≡◌, ◌∙◌, ℕ, suc, ◌+◌, Bool, true, false, if◌then◌else◌, List, [], ◌∷◌, slice_get, Option, Some, None, Result, refl, sym, ap}
-use Rattle.std.proofs.Common.{subst, arith}
+use Rattle.ksv_rule_laws.proofs.Common.{◌≡◌, ◌∙◌, ℕ, suc, ◌+◌, Bool, true, false, if◌then◌else◌, List, [], ◌∷◌, slice_get, Option, Some, None, Result, refl}
+use Rattle.ksv_rule_laws.proofs.Common.{sym, ap, subst, arith, Tree, Setting, Trail, Value, Description, MemberOfType, MemberKind, Parameter, Attribute}
+use Rattle.ksv_rule_laws.proofs.Common.{ParseInstance, ValueInstance, Content, Choice, Always, Switch, Node, NodeFault, Given, MemberRef, Rule, expression}
+use Rattle.ksv_rule_laws.proofs.Common.{members_of, Sought, kind_of, field_of, Reads, IsFieldOf, IsContentOf}
 use Rattle.std.specs.Prelude.{option_map, option_and_then}
-use Rattle.ksv_expr_tree.specs.Tree.{Tree}
-use Rattle.ksv_expr_value.specs.Setting.{Setting}
-use Rattle.ksv_expr_value.specs.Trail.{Trail}
-use Rattle.ksv_expr_value.specs.declared.value.Value.{Value}
-use Rattle.ksv_desc.specs.Description.{Description, MemberOfType, MemberKind, Parameter, Attribute, ParseInstance, ValueInstance, Content, Case}
-use Rattle.ksv_desc.specs.Description.{Choice, Always, Switch, field_in}
+use Rattle.ksv_desc.specs.Description.{Case, field_in}
 use Rattle.ksv_desc.specs.Description as contents
-use Rattle.ksv_nodes.specs.declared.node.Node.{Node}
-use Rattle.ksv_nodes.specs.declared.node_fault.NodeFault.{NodeFault}
-use Rattle.ksv_nodes.specs.declared.given.Given.{Given}
-use Rattle.ksv_nodes.specs.declared.given.MemberRef.{MemberRef}
-use Rattle.ksv_nodes.specs.Rule.{Rule}
-use Rattle.ksv_rule_meaning.specs.Wanted.{expression}
 use Rattle.ksv_rule_meaning.specs.Choosing.{Chosen, is_case_of, is_default, first_case, or_default, case_for, switched, choose, in_content, content_of}
-use Rattle.ksv_rule_meaning.specs.Fields.{members_of, Sought, in_sought, in_field, in_kind, kind_of, field_of}
-use Rattle.ksv_rule_laws.specs.Laws.{Reads, IsFieldOf, IsContentOf}
+use Rattle.ksv_rule_meaning.specs.Fields.{in_sought, in_field, in_kind}
 use Rattle.ksv_rule_laws.proofs.Rules.{Answers, join, exact}
 
 -- what was chosen is a case of these, of which the first has this number

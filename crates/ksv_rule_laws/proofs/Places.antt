@@ -1,35 +1,16 @@
 -- Each place in an answer lies in the file.
-use Rattle.std.proofs.Common.{◌≡◌, ℕ, ◌≤◌, true, List, length, Option, Some, None, Result, Ok, subst, sym, arith, inl, inr}
-use Rattle.ksv_expr_value.specs.Places.{Place, at_byte, byte_of}
-use Rattle.ksv_expr_value.proofs.Places.{of_aligned}
-use Rattle.ksv_expr_value.specs.Trail.{Trail, parent, last}
-use Rattle.ksv_expr_value.specs.declared.step.Step.{Step}
+use Rattle.ksv_rule_laws.proofs.Common.{◌≡◌, ℕ, ◌≤◌, true, List, length, Option, Some, None, Result, Ok, subst, sym, arith, inl, inr, Place, at_byte, byte_of}
+use Rattle.ksv_rule_laws.proofs.Common.{of_aligned, Trail, parent, last, Step, Stream, Value, Choice, Description, MemberKind, Parameter, Attribute}
+use Rattle.ksv_rule_laws.proofs.Common.{ParseInstance, ValueInstance, Field, Node, NodeFault, NodeKind, Given, Holder, Leaf, Origin, ObjectEnd, Object, Head}
+use Rattle.ksv_rule_laws.proofs.Common.{end_in, head_node, end_node, rest_node, members_of, Sought, last_attribute, origin_of, instance_setting, from_nothing}
+use Rattle.ksv_rule_laws.proofs.Common.{IsOfLeaf, EndsAt}
 use Rattle.ksv_expr_value.specs.declared.step.Step.TheVariants as steps
-use Rattle.ksv_expr_value.specs.declared.value.Stream.{Stream}
-use Rattle.ksv_expr_value.specs.declared.value.Value.{Value}
 use Rattle.ksv_expr_value.specs.declared.value.Value.TheVariants as values
-use Rattle.ksv_desc.specs.Description.{Choice, Description, MemberKind, Parameter, Attribute, ParseInstance, ValueInstance, Field}
-use Rattle.ksv_nodes.specs.declared.node.Node.{Node}
-use Rattle.ksv_nodes.specs.declared.node_fault.NodeFault.{NodeFault}
-use Rattle.ksv_nodes.specs.declared.node.NodeKind.{NodeKind}
 use Rattle.ksv_nodes.specs.declared.node.NodeKind.TheVariants as nodes
-use Rattle.ksv_nodes.specs.declared.given.Given.{Given}
 use Rattle.ksv_nodes.specs.declared.given.Given.TheVariants as givens
-use Rattle.ksv_nodes.specs.declared.given.Holder.{Holder}
-use Rattle.ksv_nodes.specs.declared.given.Leaf.{Leaf}
-use Rattle.ksv_nodes.specs.declared.given.Origin.{Origin}
-use Rattle.ksv_nodes.specs.declared.given.ObjectEnd.{ObjectEnd}
 use Rattle.ksv_nodes.specs.declared.given.ObjectEnd.TheVariants as endings
-use Rattle.ksv_nodes.specs.declared.given.Object.{Object}
-use Rattle.ksv_nodes.specs.declared.given.Head.{Head}
 use Rattle.ksv_nodes.specs.declared.given.Head.TheVariants as heads
-use Rattle.ksv_nodes.specs.Reading.{end_in}
-use Rattle.ksv_nodes.specs.Rule.{head_node, end_node, rest_node}
-use Rattle.ksv_rule_meaning.specs.Fields.{members_of, Sought, last_attribute}
-use Rattle.ksv_rule_meaning.specs.Heads.{origin_of, instance_setting}
-use Rattle.ksv_rule_meaning.specs.FromNothing.{from_nothing}
-use Rattle.ksv_rule_laws.specs.Laws.{IsOfLeaf, IsOfHead, IsEndIn, IsPlaceIn, IsStreamIn, IsHomeIn, IsHolderIn, IsHeadIn, IsValueIn, IsIn, PlacesAreInFile}
-use Rattle.ksv_rule_laws.specs.Laws.{EndsAt}
+use Rattle.ksv_rule_laws.specs.Laws.{IsOfHead, IsEndIn, IsPlaceIn, IsStreamIn, IsHomeIn, IsHolderIn, IsHeadIn, IsValueIn, IsIn, PlacesAreInFile}
 use Rattle.ksv_rule_laws.proofs.Starts.{of_start, at_most}
 use Rattle.ksv_rule_laws.proofs.Forms.{value_fits, no_stream}
 use Rattle.ksv_rule_laws.proofs.Sources.{heads_are_read}

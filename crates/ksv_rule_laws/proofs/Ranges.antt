@@ -1,28 +1,17 @@
 -- The value of an expression lies in the file, where its stream does and all that it is told.
-use Rattle.std.proofs.Common.{◌≡◌, ℕ, ◌≤◌, List, Option, Some, None, Result, Ok, Err, refl, subst, length}
-use Rattle.ksv_basics.specs.Plan.{Answer, Fail, Ask, translate}
-use Rattle.ksv_expr_tree.specs.Tree.{Tree}
-use Rattle.ksv_expr_value.specs.Trail.{Trail}
-use Rattle.ksv_expr_value.specs.Setting.{Setting, Element}
-use Rattle.ksv_expr_value.specs.declared.value.Stream.{Stream}
-use Rattle.ksv_expr_value.specs.declared.value.Value.{Value}
+use Rattle.ksv_rule_laws.proofs.Common.{◌≡◌, ℕ, ◌≤◌, List, Option, Some, None, Result, Ok, Err, refl, subst, length, Answer, Fail, Ask, Tree, Trail, Setting}
+use Rattle.ksv_rule_laws.proofs.Common.{Stream, Value, Want, Heard, Eval, value_of, Node, NodeFault, Given, Head, Object, ask_head, ask_rest, answer_of}
+use Rattle.ksv_rule_laws.proofs.Common.{with_given, expression, stream_for, IsNoStream}
+use Rattle.ksv_basics.specs.Plan.{translate}
+use Rattle.ksv_expr_value.specs.Setting.{Element}
 use Rattle.ksv_expr_value.specs.declared.value.Value.TheVariants as values
-use Rattle.ksv_expr_meaning.specs.declared.want.Want.{Want}
 use Rattle.ksv_expr_meaning.specs.declared.want.Want.TheVariants as wants
-use Rattle.ksv_expr_meaning.specs.Heard.{Heard, Valued, Opened, Numbered, Decided, Read}
-use Rattle.ksv_expr_meaning.specs.Asked.{Eval}
-use Rattle.ksv_expr_meaning.specs.Meaning.{value_of}
-use Rattle.ksv_nodes.specs.declared.node.Node.{Node}
-use Rattle.ksv_nodes.specs.declared.node_fault.NodeFault.{NodeFault}
-use Rattle.ksv_nodes.specs.declared.given.Given.{Given}
+use Rattle.ksv_expr_meaning.specs.Heard.{Valued, Opened, Numbered, Decided, Read}
 use Rattle.ksv_nodes.specs.declared.given.Given.TheVariants as givens
-use Rattle.ksv_nodes.specs.declared.given.Head.{Head}
 use Rattle.ksv_nodes.specs.declared.given.Head.TheVariants as heads
-use Rattle.ksv_nodes.specs.declared.given.Object.{Object}
-use Rattle.ksv_nodes.specs.Rule.{Here, in_value, ask_head, ask_value, ask_rest, value_node, finish, done, peek}
-use Rattle.ksv_nodes.specs.Truth.{answer_of, with_given}
-use Rattle.ksv_rule_meaning.specs.Wanted.{whole, in_object, wanted, expression, in_stream, stream_for}
-use Rattle.ksv_rule_laws.specs.Laws.{IsNoStream, IsStreamIn, IsObjectIn, IsHeadIn, IsValueIn, IsIn}
+use Rattle.ksv_nodes.specs.Rule.{Here, in_value, ask_value, value_node, finish, done, peek}
+use Rattle.ksv_rule_meaning.specs.Wanted.{whole, in_object, wanted, in_stream}
+use Rattle.ksv_rule_laws.specs.Laws.{IsStreamIn, IsObjectIn, IsHeadIn, IsValueIn, IsIn}
 use Rattle.ksv_rule_laws.proofs.Answering.{ok_is, goes_on, asked_head}
 use Rattle.ksv_rule_laws.proofs.Expressions.{GivesIn, IsSoValue, IsSoHeard, IsSoElement, IsSoSetting, value_ranges}
 

@@ -1,23 +1,13 @@
 -- What is so of each answer of a rule, by its parts: a rule whose parts answer so answers so.
-use Rattle.std.proofs.Common.{◌≡◌, ◌∙◌, Bool, true, false, if◌then◌else◌, List, Option, Some, None, Result, Ok, Err, refl, ap, subst, ℕ}
-use Rattle.ksv_basics.specs.Plan.{Answer, Fail, Ask, bind}
-use Rattle.ksv_expr_tree.specs.Tree.{Tree}
-use Rattle.ksv_expr_value.specs.Setting.{Setting}
-use Rattle.ksv_expr_value.specs.Trail.{Trail}
-use Rattle.ksv_expr_value.specs.declared.value.Value.{Value}
+use Rattle.ksv_rule_laws.proofs.Common.{◌≡◌, ◌∙◌, Bool, true, false, if◌then◌else◌, List, Option, Some, None, Result, Ok, Err, refl, ap, subst, ℕ, Answer, Fail}
+use Rattle.ksv_rule_laws.proofs.Common.{Ask, bind, Tree, Setting, Trail, Value, Node, NodeFault, Given, Seen, look, Rule, Of, See, ask_head, ask_rest}
+use Rattle.ksv_rule_laws.proofs.Common.{head_node, end_node, rest_node, answer_of, with_given, with_seen, expression, truth_of}
 use Rattle.ksv_expr_value.specs.declared.value.Value.TheVariants as values
-use Rattle.ksv_nodes.specs.declared.node.Node.{Node}
-use Rattle.ksv_nodes.specs.declared.node_fault.NodeFault.{NodeFault}
-use Rattle.ksv_nodes.specs.declared.given.Given.{Given}
 use Rattle.ksv_nodes.specs.declared.given.Given.TheVariants as givens
-use Rattle.ksv_nodes.specs.declared.given.Head.{Head}
 use Rattle.ksv_nodes.specs.declared.given.Ended.{Ended}
 use Rattle.ksv_nodes.specs.declared.given.Rested.{Rested}
-use Rattle.ksv_nodes.specs.Reading.{Seen, look}
-use Rattle.ksv_nodes.specs.Rule.{Rule, Of, See, in_path, ask_head, ask_end, ask_rest, head_node}
-use Rattle.ksv_nodes.specs.Rule.{end_node, rest_node}
-use Rattle.ksv_nodes.specs.Truth.{answer_of, with_given, with_seen}
-use Rattle.ksv_rule_meaning.specs.Wanted.{expression, in_truth, truth_of}
+use Rattle.ksv_nodes.specs.Rule.{in_path, ask_end}
+use Rattle.ksv_rule_meaning.specs.Wanted.{in_truth}
 use Rattle.ksv_rule_laws.proofs.Answering.{ok_is}
 
 -- ---- what a rule answers

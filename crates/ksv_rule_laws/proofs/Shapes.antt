@@ -1,39 +1,21 @@
 -- What an answered head, value, end and rest is: where it comes from, where it begins and ends, and what was asked for it. These are the
 -- shapes of answers. Shaping, Values and Checking have the lemmas that rules answer so, one a rule; laws are cases over shapes.
-use Rattle.std.specs.Prelude.{◌≡◌, ℕ, ◌+◌, ◌≤◌, ◌⊎◌, ℤ, Bool, true, false, List, Option, Some, None, Result, Ok}
-use Rattle.ksv_expr_tree.specs.Tree.{Tree}
-use Rattle.ksv_expr_value.specs.Places.{Place, at_byte, byte_of, aligned}
-use Rattle.ksv_expr_value.specs.Setting.{Setting, NoElement}
-use Rattle.ksv_expr_value.specs.Trail.{Trail, child, parent, last}
-use Rattle.ksv_expr_value.specs.declared.step.Step.{Step}
+use Rattle.ksv_rule_laws.proofs.Common.{◌⊎◌, Tree, Place, at_byte, byte_of, aligned, Setting, Trail, child, parent, last, Step, Stream, Value, Choice}
+use Rattle.ksv_rule_laws.proofs.Common.{Description, MemberKind, Parameter, Attribute, ParseInstance, ValueInstance, Field, Node, NodeFault, NodeKind, Given}
+use Rattle.ksv_rule_laws.proofs.Common.{Holder, Leaf, Origin, ObjectEnd, Object, Head, end_in, head_node, end_node, rest_node, answer_of, expression, holds}
+use Rattle.ksv_rule_laws.proofs.Common.{stream_for, members_of, Sought, sought, last_attribute, is_last, start_after, origin_of, instance_setting, calc}
+use Rattle.ksv_rule_laws.proofs.Common.{IsOfLeaf, ValueMeets, IsNoStream, IsFieldOf, IsLeafOf, IsCountedBy, EndsAt}
+use Rattle.std.specs.Prelude.{◌≡◌, ℕ, ◌+◌, ◌≤◌, ℤ, Bool, true, false, List, Option, Some, None, Result, Ok}
+use Rattle.ksv_expr_value.specs.Setting.{NoElement}
 use Rattle.ksv_expr_value.specs.declared.step.Step.TheVariants as steps
-use Rattle.ksv_expr_value.specs.declared.value.Stream.{Stream}
-use Rattle.ksv_expr_value.specs.declared.value.Value.{Value}
 use Rattle.ksv_expr_value.specs.declared.value.Value.TheVariants as values
-use Rattle.ksv_desc.specs.Description.{Choice, Description, MemberKind, Parameter, Attribute, ParseInstance, ValueInstance, Field}
-use Rattle.ksv_nodes.specs.declared.node.Node.{Node}
-use Rattle.ksv_nodes.specs.declared.node_fault.NodeFault.{NodeFault}
-use Rattle.ksv_nodes.specs.declared.node.NodeKind.{NodeKind}
 use Rattle.ksv_nodes.specs.declared.node.NodeKind.TheVariants as nodes
-use Rattle.ksv_nodes.specs.declared.given.Given.{Given}
 use Rattle.ksv_nodes.specs.declared.given.Given.TheVariants as givens
-use Rattle.ksv_nodes.specs.declared.given.Holder.{Holder}
-use Rattle.ksv_nodes.specs.declared.given.Leaf.{Leaf}
-use Rattle.ksv_nodes.specs.declared.given.Origin.{Origin}
-use Rattle.ksv_nodes.specs.declared.given.ObjectEnd.{ObjectEnd}
 use Rattle.ksv_nodes.specs.declared.given.ObjectEnd.TheVariants as endings
-use Rattle.ksv_nodes.specs.declared.given.Object.{Object}
 use Rattle.ksv_nodes.specs.declared.given.List as lists
-use Rattle.ksv_nodes.specs.declared.given.Head.{Head}
 use Rattle.ksv_nodes.specs.declared.given.Head.TheVariants as heads
-use Rattle.ksv_nodes.specs.Reading.{end_in}
-use Rattle.ksv_nodes.specs.Rule.{head_node, end_node, rest_node}
-use Rattle.ksv_nodes.specs.Truth.{answer_of}
-use Rattle.ksv_rule_meaning.specs.Wanted.{expression, holds, stream_for}
-use Rattle.ksv_rule_meaning.specs.Fields.{members_of, Sought, sought, last_attribute}
-use Rattle.ksv_rule_meaning.specs.Ends.{is_last}
-use Rattle.ksv_rule_meaning.specs.Heads.{start_after, origin_of, instance_setting, calc, root_head}
-use Rattle.ksv_rule_laws.specs.Laws.{IsReadBy, IsOfLeaf, ValueMeets, IsNoStream, IsFieldOf, IsLeafOf, IsObjectOf, IsCountedBy, EndsAt, IsEmptyList}
+use Rattle.ksv_rule_meaning.specs.Heads.{root_head}
+use Rattle.ksv_rule_laws.specs.Laws.{IsReadBy, IsObjectOf, IsEmptyList}
 
 -- ---- what is read at a place
 

@@ -1,58 +1,46 @@
 -- What rules answer has a shape: one lemma a rule.
-use Rattle.std.proofs.Common.{◌≡◌, ◌∙◌, ℕ, ◌+◌, ◌-◌, ◌==◌, ◌≤◌, ◌<◌, Bool, true, false, if◌then◌else◌, ◌||◌, List, ◌∷◌, length, drop, Option, Some, None}
-use Rattle.std.proofs.Common.{Result, Ok, refl, sym, ap, subst, arith, inl, inr, nat_lt}
-use Rattle.std.specs.Prelude.{slice_range, ◌⊎◌}
+use Rattle.ksv_rule_laws.proofs.Common.{◌≡◌, ◌∙◌, ℕ, ◌+◌, ◌-◌, ◌==◌, ◌≤◌, ◌<◌, Bool, true, false, if◌then◌else◌, List, ◌∷◌, length, Option, Some, None, Result}
+use Rattle.ksv_rule_laws.proofs.Common.{Ok, refl, sym, ap, subst, arith, inl, inr, ◌⊎◌, nat_tests, bind, Tree, Place, at_byte, byte_of, further, Setting, Trail}
+use Rattle.ksv_rule_laws.proofs.Common.{child, parent, last, Step, Stream, Choice, Description, MemberKind, Parameter, Attribute, ParseInstance}
+use Rattle.ksv_rule_laws.proofs.Common.{ValueInstance, Field, Content, Repeat, Once, Eos, Expr, Until, Node, NodeFault, NodeKind, Given, Leaf, Origin}
+use Rattle.ksv_rule_laws.proofs.Common.{ObjectEnd, Object, Head, end_in, Rule, ask_head, ask_rest, head_node, end_node, answer_of, truth_of, holds, stream_for}
+use Rattle.ksv_rule_laws.proofs.Common.{members_of, Sought, sought, last_attribute, field_of, origin_of, instance_setting, is_last, start_of, from_nothing}
+use Rattle.ksv_rule_laws.proofs.Common.{IsContentOf, IsLeafOf, IsCountedBy, EndsAt}
+use Rattle.std.proofs.Common.{◌||◌, drop, nat_lt}
+use Rattle.std.specs.Prelude.{slice_range}
 use Rattle.std.proofs.lemmas.List.{length-take}
-use Rattle.std.proofs.lemmas.Bool.Decides.{nat_tests}
 use Rattle.std.proofs.lemmas.Grind.{common_steps}
-use Rattle.ksv_basics.specs.Plan.{bind}
-use Rattle.ksv_expr_tree.specs.Tree.{Tree, Arguments}
-use Rattle.ksv_expr_value.specs.Places.{Place, at_byte, byte_of, further, is_same}
+use Rattle.ksv_expr_tree.specs.Tree.{Arguments}
+use Rattle.ksv_expr_value.specs.Places.{is_same}
 use Rattle.ksv_expr_value.proofs.Places.{of_further}
-use Rattle.ksv_expr_value.specs.Setting.{Setting}
-use Rattle.ksv_expr_value.specs.Trail.{element_limit, Trail, child, parent, last, first_step, all_but_last, same_trail, trail_of-steps}
-use Rattle.ksv_expr_value.specs.declared.step.Step.{Step}
+use Rattle.ksv_expr_value.specs.Trail.{element_limit, first_step, all_but_last, same_trail, trail_of-steps}
 use Rattle.ksv_expr_value.specs.declared.step.Step.TheVariants as steps
-use Rattle.ksv_expr_value.specs.declared.value.Stream.{Stream}
-use Rattle.ksv_desc.specs.Description.{Choice, Description, MemberOfType, MemberKind, Parameter, Attribute, ParseInstance, ValueInstance, Field, Content}
-use Rattle.ksv_desc.specs.Description.{Extent, Sized, SizeEos, ByItself, Repeat, Once, Eos, Expr, Until, Terminator}
+use Rattle.ksv_desc.specs.Description.{Extent, Sized, SizeEos, ByItself, Terminator}
 use Rattle.ksv_desc.specs.Description as contents
-use Rattle.ksv_nodes.specs.declared.node.Node.{Node}
-use Rattle.ksv_nodes.specs.declared.node_fault.NodeFault.{NodeFault}
-use Rattle.ksv_nodes.specs.declared.node.NodeKind.{NodeKind}
 use Rattle.ksv_nodes.specs.declared.node.NodeKind.TheVariants as nodes
-use Rattle.ksv_nodes.specs.declared.given.Given.{Given}
 use Rattle.ksv_nodes.specs.declared.given.Given.TheVariants as givens
-use Rattle.ksv_nodes.specs.declared.given.Leaf.{Leaf}
-use Rattle.ksv_nodes.specs.declared.given.Origin.{Origin}
-use Rattle.ksv_nodes.specs.declared.given.ObjectEnd.{ObjectEnd}
 use Rattle.ksv_nodes.specs.declared.given.ObjectEnd.TheVariants as endings
-use Rattle.ksv_nodes.specs.declared.given.Object.{Object}
 use Rattle.ksv_nodes.specs.declared.given.List as lists
-use Rattle.ksv_nodes.specs.declared.given.Head.{Head}
 use Rattle.ksv_nodes.specs.declared.given.Head.TheVariants as heads
 use Rattle.ksv_nodes.specs.declared.given.Ended.{Ended}
 use Rattle.ksv_nodes.specs.declared.given.Rested.{Rested}
 use Rattle.ksv_nodes.specs.declared.turn.readings.Found.{Found}
 use Rattle.ksv_nodes.specs.declared.turn.readings.Found.TheVariants as founds
-use Rattle.ksv_nodes.specs.Reading.{reach_file, reach_within, finish_of, peek_at, first_at, end_in, found_none, found_from, find_at}
-use Rattle.ksv_nodes.specs.Rule.{Rule, part, ask_head, ask_end, ask_rest, head_node, end_node, reach, finish, done, find}
-use Rattle.ksv_nodes.specs.Truth.{answer_of}
+use Rattle.ksv_nodes.specs.Reading.{reach_file, reach_within, finish_of, peek_at, first_at, found_none, found_from, find_at}
+use Rattle.ksv_nodes.specs.Rule.{part, ask_end, reach, finish, done, find}
 use Rattle.ksv_nodes.proofs.First.{first_at_below}
 use Rattle.ksv_rule_meaning.specs.Choosing.{Chosen, choose}
-use Rattle.ksv_rule_meaning.specs.Wanted.{in_object, truth_of, holds, size_of, stream_for}
-use Rattle.ksv_rule_meaning.specs.Fields.{members_of, Sought, sought, in_sought, member_named, last_attribute, field_of}
+use Rattle.ksv_rule_meaning.specs.Wanted.{in_object, size_of}
+use Rattle.ksv_rule_meaning.specs.Fields.{in_sought, member_named}
 use Rattle.ksv_rule_meaning.specs.Heads.{leaf, bits_leaf, leaf_to_end, terminated_at, terminated, run_of, sized_leaf, bytes_at, sized_object, object_at}
 use Rattle.ksv_rule_meaning.specs.Heads.{content_at, unchosen_at, chosen_at, shape_at, count_of, counted, until_eos, repeated, attribute_at, part_end}
-use Rattle.ksv_rule_meaning.specs.Heads.{attribute_start, attribute_setting, element_setting, origin_of, attribute_head, instance_setting, positioned_in}
-use Rattle.ksv_rule_meaning.specs.Heads.{positioned, instance_head, value_head, member_at, member_head, in_list, is_past, in_next, next_start, element_start}
-use Rattle.ksv_rule_meaning.specs.Heads.{element_head, head_at, head_of}
+use Rattle.ksv_rule_meaning.specs.Heads.{attribute_start, attribute_setting, element_setting, attribute_head, positioned_in, positioned, instance_head}
+use Rattle.ksv_rule_meaning.specs.Heads.{value_head, member_at, member_head, in_list, is_past, in_next, next_start, element_start, element_head, head_at}
+use Rattle.ksv_rule_meaning.specs.Heads.{head_of}
 use Rattle.ksv_rule_meaning.specs.Values.{value_of}
-use Rattle.ksv_rule_meaning.specs.Ends.{stream_end, fields_end, object_end, part_rest, list_end, place_of, is_last, not_empty, element_end, end_at, end_of}
-use Rattle.ksv_rule_meaning.specs.Ends.{next_rest, rest_behind, rest_from, in_whole_list, whole_rest, rest_at, rest_of, behind_element, is_by_bytes, start_of}
+use Rattle.ksv_rule_meaning.specs.Ends.{stream_end, fields_end, object_end, part_rest, list_end, place_of, not_empty, element_end, end_at, end_of, next_rest}
+use Rattle.ksv_rule_meaning.specs.Ends.{rest_behind, rest_from, in_whole_list, whole_rest, rest_at, rest_of, behind_element, is_by_bytes}
 use Rattle.ksv_rule_meaning.specs.Meaning.{meaning_of}
-use Rattle.ksv_rule_meaning.specs.FromNothing.{from_nothing}
-use Rattle.ksv_rule_laws.specs.Laws.{IsContentOf, IsLeafOf, IsCountedBy, EndsAt}
 use Rattle.ksv_rule_laws.proofs.Answering.{by_rule, by_rules}
 use Rattle.ksv_rule_laws.proofs.Rules.{Answers, join, either, so, answered, asked_head, asked_end, asked_rest, path_is, exact}
 use Rattle.ksv_rule_laws.proofs.Members.{IsChosen, choice_is, field_found, sought_is}

@@ -1,26 +1,13 @@
 -- What is at a path is read by a member of the description, by the case of its switch, and a list has the count of its `repeat`.
-use Rattle.std.proofs.Common.{◌≡◌, ◌∙◌, ℕ, suc, ◌+◌, ◌==◌, Bool, true, false, if◌then◌else◌, List, [], ◌∷◌, slice_get, Option, Some, None, Result, Ok, refl}
-use Rattle.std.proofs.Common.{sym, ap, subst, arith, inl, inr}
-use Rattle.ksv_expr_value.specs.Places.{Place, at_byte}
-use Rattle.ksv_expr_value.specs.Trail.{Trail, parent, last}
-use Rattle.ksv_expr_value.specs.declared.step.Step.{Step}
+use Rattle.ksv_rule_laws.proofs.Common.{◌≡◌, ◌∙◌, ℕ, suc, ◌+◌, ◌==◌, Bool, true, false, if◌then◌else◌, List, [], ◌∷◌, slice_get, Option, Some, None, Result, Ok}
+use Rattle.ksv_rule_laws.proofs.Common.{refl, sym, ap, subst, arith, inl, inr, Place, at_byte, Trail, parent, last, Step, Stream, Description, MemberOfType}
+use Rattle.ksv_rule_laws.proofs.Common.{MemberKind, Parameter, Attribute, ParseInstance, ValueInstance, Field, Node, NodeFault, NodeKind, Given, Object, Origin}
+use Rattle.ksv_rule_laws.proofs.Common.{Head, head_node, members_of, behind, Sought, sought, calc, origin_of, Reads, IsFieldOf}
 use Rattle.ksv_expr_value.specs.declared.step.Step.TheVariants as steps
-use Rattle.ksv_expr_value.specs.declared.value.Stream.{Stream}
-use Rattle.ksv_desc.specs.Description.{Description, MemberOfType, MemberKind, Parameter, Attribute, ParseInstance, ValueInstance, Field}
-use Rattle.ksv_nodes.specs.declared.node.Node.{Node}
-use Rattle.ksv_nodes.specs.declared.node_fault.NodeFault.{NodeFault}
-use Rattle.ksv_nodes.specs.declared.node.NodeKind.{NodeKind}
 use Rattle.ksv_nodes.specs.declared.node.NodeKind.TheVariants as nodes
-use Rattle.ksv_nodes.specs.declared.given.Given.{Given}
 use Rattle.ksv_nodes.specs.declared.given.Given.TheVariants as givens
-use Rattle.ksv_nodes.specs.declared.given.Object.{Object}
-use Rattle.ksv_nodes.specs.declared.given.Origin.{Origin}
-use Rattle.ksv_nodes.specs.declared.given.Head.{Head}
 use Rattle.ksv_nodes.specs.declared.given.Head.TheVariants as heads
-use Rattle.ksv_nodes.specs.Rule.{head_node}
-use Rattle.ksv_rule_meaning.specs.Fields.{members_of, behind, Sought, sought}
-use Rattle.ksv_rule_meaning.specs.Heads.{calc, origin_of}
-use Rattle.ksv_rule_laws.specs.Laws.{Reads, IsFieldOf, IsObjectRead, IsCalculated, IsRead, HeadsAreRead}
+use Rattle.ksv_rule_laws.specs.Laws.{IsObjectRead, IsCalculated, IsRead, HeadsAreRead}
 use Rattle.ksv_rule_laws.proofs.Shapes.{IsHeadAt, IsMember, IsHead, IsAnswer}
 use Rattle.ksv_rule_laws.proofs.Shaping.{by_shapes}
 

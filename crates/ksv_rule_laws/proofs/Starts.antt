@@ -1,9 +1,8 @@
 -- Places, and the bytes beside them.
-use Rattle.std.proofs.Common.{◌≡◌, ℕ, ◌≤◌, Bool, true, false, if◌then◌else◌, refl, arith}
-use Rattle.ksv_expr_value.specs.Places.{Place, at_byte, byte_of, aligned}
-use Rattle.ksv_expr_value.proofs.Places.{byte_of_byte, of_aligned}
-use Rattle.ksv_desc.specs.Description.{Choice}
-use Rattle.ksv_rule_meaning.specs.Heads.{is_of_bits, start_after}
+use Rattle.ksv_rule_laws.proofs.Common.{◌≡◌, ℕ, ◌≤◌, Bool, true, false, if◌then◌else◌, refl, arith, Place, at_byte, byte_of, aligned, of_aligned, Choice}
+use Rattle.ksv_rule_laws.proofs.Common.{start_after}
+use Rattle.ksv_expr_value.proofs.Places.{byte_of_byte}
+use Rattle.ksv_rule_meaning.specs.Heads.{is_of_bits}
 
 -- an attribute begins in front of the same byte where the one before it ends
 pub of_start : (e : Place) (c : Choice) → byte_of (start_after e c) ≡ byte_of e

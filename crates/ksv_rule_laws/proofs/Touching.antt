@@ -1,17 +1,9 @@
 -- An element begins where the one before it ends.
-use Rattle.std.proofs.Common.{◌≡◌, ◌∙◌, ℕ, ◌+◌, false, List, Option, Ok, sym, ap, subst, arith, inl, inr}
-use Rattle.ksv_expr_value.specs.Places.{Place}
-use Rattle.ksv_expr_value.specs.Trail.{child, parent}
+use Rattle.ksv_rule_laws.proofs.Common.{◌≡◌, ◌∙◌, ℕ, ◌+◌, false, List, Option, Ok, sym, ap, subst, arith, inl, inr, Place, child, parent, Stream, Field, Origin}
+use Rattle.ksv_rule_laws.proofs.Common.{Head, head_node, start_of, from_nothing}
 use Rattle.ksv_expr_value.specs.declared.step.Step.TheVariants as steps
-use Rattle.ksv_expr_value.specs.declared.value.Stream.{Stream}
-use Rattle.ksv_desc.specs.Description.{Field}
 use Rattle.ksv_nodes.specs.declared.given.Given.TheVariants as givens
-use Rattle.ksv_nodes.specs.declared.given.Origin.{Origin}
-use Rattle.ksv_nodes.specs.declared.given.Head.{Head}
 use Rattle.ksv_nodes.specs.declared.given.Head.TheVariants as heads
-use Rattle.ksv_nodes.specs.Rule.{head_node}
-use Rattle.ksv_rule_meaning.specs.Ends.{start_of}
-use Rattle.ksv_rule_meaning.specs.FromNothing.{from_nothing}
 use Rattle.ksv_rule_laws.specs.Laws.{ElementsTouch}
 use Rattle.ksv_rule_laws.proofs.Shapes.{IsHeadAt, IsHead, IsElementOf}
 use Rattle.ksv_rule_laws.proofs.Shaping.{by_shape}

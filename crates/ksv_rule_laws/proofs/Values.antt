@@ -1,44 +1,32 @@
 -- What rules of values answer, one lemma a rule: a value of a leaf that is read fits the leaf, and what is calculated is an expression's value.
-use Rattle.std.proofs.Common.{zero, suc, pos, ◌≡◌, ◌∙◌, ℕ, ◌+◌, ◌≤◌, Bool, true, false, if◌then◌else◌, ℤ, List, length, slice_get, Option, Some, None, Result}
-use Rattle.std.proofs.Common.{refl, sym, ap, subst, arith, inl, inr, suc}
+use Rattle.ksv_rule_laws.proofs.Common.{zero, suc, ◌≡◌, ◌∙◌, ℕ, ◌+◌, ◌≤◌, Bool, true, false, if◌then◌else◌, List, length, slice_get, Option, Some, None, Result}
+use Rattle.ksv_rule_laws.proofs.Common.{refl, sym, ap, subst, arith, inl, inr, nat_tests, bind, Tree, Step, Origin, Holder, expression, Place, byte_of, further}
+use Rattle.ksv_rule_laws.proofs.Common.{Trail, parent, last, Value, Description, MemberOfType, MemberKind, Parameter, Attribute, ParseInstance, ValueInstance}
+use Rattle.ksv_rule_laws.proofs.Common.{Field, Content, Node, NodeFault, Given, Head, Leaf, MemberRef, Rule, ask_head, members_of}
+use Rattle.ksv_rule_laws.proofs.Common.{field_of, kind_of, Reads, IsFieldOf, IsContentOf, IsLeafOf, IsOfLeaf}
+use Rattle.std.proofs.Common.{pos, ℤ}
 use Rattle.std.specs.Prelude.{nat_le}
 use Rattle.std.specs.Str.{bytes_eq}
-use Rattle.std.proofs.lemmas.Bool.Decides.{nat_tests}
 use Rattle.std.proofs.lemmas.Grind.{common_steps}
-use Rattle.ksv_basics.specs.Plan.{bind}
-use Rattle.ksv_expr_tree.specs.Tree.{Tree, Arguments, no_arguments, argument}
-use Rattle.ksv_expr_value.specs.declared.step.Step.{Step}
-use Rattle.ksv_nodes.specs.declared.given.Origin.{Origin}
+use Rattle.ksv_expr_tree.specs.Tree.{Arguments, no_arguments, argument}
 use Rattle.ksv_nodes.specs.declared.given.Calc.{Calc}
-use Rattle.ksv_nodes.specs.declared.given.Holder.{Holder}
 use Rattle.ksv_rule_meaning.specs.Heads.{attribute_setting, element_setting, member_setting, holder_setting}
-use Rattle.ksv_rule_meaning.specs.Wanted.{expression}
 use Rattle.ksv_rule_meaning.specs.Checks.{value_checked}
 use Rattle.ksv_expr_value.specs.declared.step.Step.TheVariants as steps
-use Rattle.ksv_expr_value.specs.Places.{Place, byte_of, byte_in, further}
+use Rattle.ksv_expr_value.specs.Places.{byte_in}
 use Rattle.ksv_expr_value.specs.Bits.{number_of, bits_from}
-use Rattle.ksv_expr_value.specs.Trail.{Trail, parent, last}
 use Rattle.ksv_expr_value.specs.Range.{ranged}
 use Rattle.ksv_expr_value.specs.Encodings.{decoded}
 use Rattle.ksv_expr_value.specs.declared.encoding.Encoding.{Encoding}
-use Rattle.ksv_expr_value.specs.declared.value.Value.{Value}
 use Rattle.ksv_expr_value.specs.declared.value.Value.TheVariants as values
 use Rattle.ksv_desc.specs.declared.order.ByteOrder.{ByteOrder}
-use Rattle.ksv_desc.specs.Description.{is_truth, Description, MemberOfType, MemberKind, Parameter, Attribute, ParseInstance, ValueInstance, Field, Choice}
-use Rattle.ksv_desc.specs.Description.{Always, Switch, Content, Terminator}
+use Rattle.ksv_desc.specs.Description.{is_truth, Terminator}
 use Rattle.ksv_desc.specs.Description as contents
-use Rattle.ksv_nodes.specs.declared.node.Node.{Node}
-use Rattle.ksv_nodes.specs.declared.node_fault.NodeFault.{NodeFault}
-use Rattle.ksv_nodes.specs.declared.given.Given.{Given}
-use Rattle.ksv_nodes.specs.declared.given.Head.{Head}
 use Rattle.ksv_nodes.specs.declared.given.Head.TheVariants as heads
-use Rattle.ksv_nodes.specs.declared.given.Leaf.{Leaf}
-use Rattle.ksv_nodes.specs.declared.given.MemberRef.{MemberRef}
 use Rattle.ksv_nodes.specs.Reading.{first_at, peek_at}
-use Rattle.ksv_nodes.specs.Rule.{peek, Rule, ask_head}
+use Rattle.ksv_nodes.specs.Rule.{peek}
 use Rattle.ksv_nodes.proofs.First.{first_at_below}
 use Rattle.ksv_rule_meaning.specs.Choosing.{content_of}
-use Rattle.ksv_rule_meaning.specs.Fields.{members_of, field_of, kind_of}
 use Rattle.ksv_rule_meaning.specs.Integers.{integer_value}
 use Rattle.ksv_rule_meaning.specs.Values.{in_number, number_value, of_bits, bits_value, fixed_value, cut_by, kept_of, kept_by, is_cut, kept, cut_bytes}
 use Rattle.ksv_rule_meaning.specs.Values.{bytes_value, in_text, cut_text, text_value, content_value, leaf_value, value_at, given_by, arguments_for}
@@ -48,7 +36,7 @@ use Rattle.ksv_rule_laws.proofs.Rules.{Answers, join, either, so, asked_head, ex
 use Rattle.ksv_rule_laws.proofs.Members.{field_found, kind_found, content_found}
 use Rattle.ksv_rule_laws.proofs.Checking.{value_meets}
 use Rattle.ksv_rule_laws.proofs.Shapes.{IsPlain, IsCalculatedIn, IsValueAt, IsMadeOf}
-use Rattle.ksv_rule_laws.specs.Laws.{Reads, IsFieldOf, IsReadBy, IsContentOf, IsAsWide, IsLeafOf, IsOfLeaf}
+use Rattle.ksv_rule_laws.specs.Laws.{IsReadBy, IsAsWide}
 
 -- how a member that reads is the one by which something is read
 same_reads : (k : MemberKind) (f g : Field) → Reads k f → Reads k g → f ≡ g

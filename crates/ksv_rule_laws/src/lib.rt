@@ -23,6 +23,7 @@
 //! - `Answering`: what a rule that answers went through, what it answers with fewer nodes open, and what is so of all answers
 //! - `Checking`: a value that was checked meets what it must
 //! - `Circles`: a circle comes from nodes that ask for each other, and from no rule
+//! - `Common`: what many of them name, of definitions and of other crates
 //! - `Counting`: the count of a list is that of the elements that end
 //! - `Enclosing`: what is read is in the stream of the object or list that holds it
 //! - `Expressions`: what an expression gives, by its parts

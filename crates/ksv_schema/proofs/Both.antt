@@ -1,12 +1,10 @@
 -- Parts that are read one after the other.
-use Rattle.std.proofs.Common.{◌≡◌, List, refl, sym, ap, ◌∙◌, Option, Some, None, Result, Ok, Err}
+use Rattle.ksv_schema.proofs.Common.{◌≡◌, List, refl, sym, ap, ◌∙◌, Option, Some, None, distinct_behind, distinct_append, Fault, noted, Reading, made, both}
+use Rattle.ksv_schema.proofs.Common.{seen_fault, IsRead, Reads, paired}
+use Rattle.std.proofs.Common.{Result, Ok, Err}
 use Rattle.std.specs.Prelude.{option_map}
-use Rattle.ksv_desc.specs.Names.{distinct_behind}
-use Rattle.ksv_desc.proofs.Dots.{distinct_append}
 use Rattle.ksv_schema.specs.declared.values.reader.Reader.{Reader}
-use Rattle.ksv_schema.specs.Faults.{Fault, noted}
-use Rattle.ksv_schema.specs.Reading.{Reading, made, both}
-use Rattle.ksv_schema.specs.Code.{seen_fault, IsRead, Reads, paired, both_of}
+use Rattle.ksv_schema.specs.Code.{both_of}
 use Rattle.ksv_schema.proofs.Noted.{noted_append}
 
 paired_seen : {X Y A B : Type 0} (v : X → A) (w : Y → B) (one : Option X) (other : Option Y)

@@ -1,14 +1,14 @@
 -- Numbers of one byte, and the items of `contents`.
-use Rattle.std.proofs.Common.{◌≡◌, ℕ, Bool, true, false, not, ◌&&◌, cond, List, Some, None, refl, arith, ap, sym, ◌∙◌}
-use Rattle.std.specs.Prelude.{ℤ, pos, nat_le, nat_lt, ◌==◌, slice_index, drop, length, if◌then◌else◌}
+use Rattle.ksv_schema.proofs.Common.{◌≡◌, ℕ, Bool, true, false, cond, List, Some, None, refl, arith, ap, sym, ◌∙◌, nat_lt, ◌==◌, nat_tests, Tree, text_of}
+use Rattle.ksv_schema.proofs.Common.{Whole, LeadingZero, NoNumeral, BadPiece, piece_of}
+use Rattle.std.proofs.Common.{not, ◌&&◌}
+use Rattle.std.specs.Prelude.{ℤ, pos, nat_le, slice_index, drop, length, if◌then◌else◌}
 use Rattle.std.specs.Str.Parse.{digits_value}
-use Rattle.std.proofs.lemmas.Bool.Decides.{nat_tests}
-use Rattle.ksv_yaml_tree.specs.Tree.{Tree, Text, Seq, Map, text_of, is_quoted}
-use Rattle.ksv_yaml_tree.specs.declared.numeral.Numeral.TheVariants.{Whole, LeadingZero, NoNumeral}
+use Rattle.ksv_yaml_tree.specs.Tree.{Text, Seq, Map, is_quoted}
 use Rattle.ksv_basics.specs.Numerals.{is_numeral}
 use Rattle.ksv_yaml_tree.specs.Numerals.{whole_to, decimal_to, hexadecimal_to, plain_number}
 use Rattle.ksv_schema.specs.KeyCode.{IsUpTo}
-use Rattle.ksv_schema.specs.KeyTexts.{byte_number, looks_like_number, number_piece, Bytes, BadPiece, piece_of}
+use Rattle.ksv_schema.specs.KeyTexts.{byte_number, looks_like_number, number_piece, Bytes}
 
 whole_fits : (most m : ℕ) (n : ℤ) → whole_to most m ≡ Whole n → IsUpTo most n
 whole_fits most m n h = by_test (nat_le m most) refl

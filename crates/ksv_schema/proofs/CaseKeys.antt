@@ -1,5 +1,5 @@
 -- What the forms of an expression are as keys of `cases`.
-use Rattle.std.proofs.Common.{◌≡◌, refl}
+use Rattle.ksv_schema.proofs.Common.{◌≡◌, refl}
 use Rattle.ksv_expr_tree.specs.declared.tree.UnaryOperator.TheVariants as unaries
 use Rattle.ksv_expr_tree.specs.Tree.{Tree, literal, integer, unary}
 use Rattle.ksv_schema.specs.KeyTexts.{case_key}

@@ -1,14 +1,12 @@
 -- A loop that reads each of a list.
-use Rattle.std.proofs.Common.{◌≡◌, ℕ, suc, ◌+◌, ◌<◌, ◌≤◌, List, [], ◌∷◌, map, length, get_or, drop, refl, sym, ap, ◌∙◌, add-one, drop-cons, Option, Some, None}
+use Rattle.ksv_schema.proofs.Common.{◌≡◌, ℕ, suc, ◌+◌, ◌<◌, ◌≤◌, List, [], ◌∷◌, map, length, get_or, drop, refl, sym, ap, ◌∙◌, add-one, drop-cons, Option, Some}
+use Rattle.ksv_schema.proofs.Common.{None, drop_all, map-append, distinct_behind, distinct_append, Fault, noted, Reading, made, both, each_from, seen_fault}
+use Rattle.ksv_schema.proofs.Common.{IsRead, Reads, paired}
 use Rattle.std.proofs.Common.{Result, Ok, Err, Vec, Global}
 use Rattle.std.specs.Prelude.{option_map}
-use Rattle.std.proofs.lemmas.List.{drop_all, append_assoc, append-nil, map-append}
-use Rattle.ksv_desc.specs.Names.{distinct_behind}
-use Rattle.ksv_desc.proofs.Dots.{distinct_append}
+use Rattle.std.proofs.lemmas.List.{append_assoc, append-nil}
 use Rattle.ksv_schema.specs.declared.values.reader.Reader.{Reader}
-use Rattle.ksv_schema.specs.Faults.{Fault, noted}
-use Rattle.ksv_schema.specs.Reading.{Reading, made, both, each_from}
-use Rattle.ksv_schema.specs.Code.{seen_fault, IsRead, Reads, paired, items_of, pushed, Pushes, joined}
+use Rattle.ksv_schema.specs.Code.{items_of, pushed, Pushes, joined}
 use Rattle.ksv_schema.proofs.Noted.{noted_append, noted_none}
 
 -- what is made so far, with the rest that is still to be read, is all

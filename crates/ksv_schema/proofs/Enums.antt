@@ -1,18 +1,13 @@
 -- What is read of enums has no names after dots.
-use Rattle.std.proofs.Common.{◌≡◌, ◌+◌, ℕ, Bool, true, false, cond, List, [], ◌∷◌, ◌++◌, ap, ◌∙◌, refl, Option, Some, None}
-use Rattle.std.specs.Prelude.{take, codes}
-use Rattle.std.specs.Option.{option_map_or}
-use Rattle.ksv_yaml_tree.specs.Tree.{Pair, line_of, text_of, mapping_of, entry_at}
+use Rattle.ksv_schema.proofs.Common.{◌≡◌, ◌+◌, ℕ, Bool, true, false, cond, List, [], ◌∷◌, ◌++◌, ap, ◌∙◌, refl, Option, Some, None, codes, option_map_or, Pair}
+use Rattle.ksv_schema.proofs.Common.{line_of, text_of, mapping_of, entry_at, Whole, LeadingZero, NoNumeral, Row, keys_of, Declared, is_id, bad_value, Reading}
+use Rattle.ksv_schema.proofs.Common.{must, each, each_from, keys_faults, constant, enum, all_enums}
+use Rattle.std.specs.Prelude.{take}
 use Rattle.ksv_yaml_tree.specs.declared.numeral.Numeral.{Numeral}
-use Rattle.ksv_yaml_tree.specs.declared.numeral.Numeral.TheVariants.{Whole, LeadingZero, NoNumeral}
 use Rattle.ksv_yaml_tree.specs.Numerals.{signed_number}
-use Rattle.ksv_schema_names.specs.Rows.{Row, keys_of, Declared}
 use Rattle.ksv_schema.specs.declared.keys.forms.MappingKind.TheVariants as kinds
-use Rattle.ksv_schema.specs.Keys.{is_id}
-use Rattle.ksv_schema.specs.Faults.{bad_value}
-use Rattle.ksv_schema.specs.Reading.{Reading, gives, wrong, also, must, mapping, each, each_from}
-use Rattle.ksv_schema.specs.Rules.{keys_faults}
-use Rattle.ksv_schema.specs.Description.{whole, id_text, id, entry_id, constant, enum, all_enums}
+use Rattle.ksv_schema.specs.Reading.{gives, wrong, also, mapping}
+use Rattle.ksv_schema.specs.Description.{whole, id_text, id, entry_id}
 
 pub whole_words : (line : ℕ) (n : Numeral) → (whole line n).words ≡ []
 whole_words line (Whole n) = refl

@@ -1,22 +1,20 @@
 -- What a text is taken for is what it spells.
-use Rattle.std.proofs.Common.{◌≡◌, ℕ, zero, suc, ◌≤◌, Bool, false, List, [], ◌∷◌, length, Option, Some, None, refl, sym, ap, subst, ◌∙◌, arith}
+use Rattle.ksv_schema.proofs.Common.{◌≡◌, ℕ, zero, suc, ◌≤◌, Bool, false, List, [], ◌∷◌, length, Option, Some, None, refl, sym, ap, subst, ◌∙◌, arith, ◌>>=◌}
+use Rattle.ksv_schema.proofs.Common.{expression_of}
 use Rattle.std.specs.Prelude.{option_map}
 use Rattle.ksv_expr_tree.specs.Tree.{Tree, TypeTree, Arguments}
 use Rattle.ksv_expr_syntax.specs.Lexemes.{Lexeme}
 use Rattle.ksv_expr_syntax.specs.Grammar.{Whole, IsExpr, SpellsType, bare, applied}
 use Rattle.ksv_expr_syntax.specs.Tokens.{Cut, skip, mark, is_dot, Tokens, finished, token}
 use Rattle.ksv_expr_syntax.specs.Cutting.{cut}
-use Rattle.ksv_expr_syntax.specs.Reading.{Next, Found, FoundList, ◌>>=◌, read, path_at}
+use Rattle.ksv_expr_syntax.specs.Reading.{Next, Found, FoundList, read, path_at}
 use Rattle.ksv_expr_syntax.specs.Code.{type_list}
 use Rattle.ksv_expr_syntax.specs.Text.{SpellsText, SpellsTypeText}
 use Rattle.ksv_expr_syntax.proofs.Longest.{cut_is_longest}
 use Rattle.ksv_expr_syntax.proofs.Scan.{scan_shorter}
 use Rattle.ksv_expr_syntax.proofs.Theorem.{spelled, is_read, type_spelled, type_read}
-use Rattle.ksv_schema.specs.Expressions.{tokens_to, tokens_of, tree_alone, type_alone, expression_of, type_of}
-
-bind_found : {A B : Type 0} (r : Option A) (f : A → Option B) (y : B) → (r >>= f) ≡ Some y → (x : A) × (r ≡ Some x) × (f x ≡ Some y)
-bind_found None f y h = absurd cc
-bind_found (Some x) f y h = (x, refl, h)
+use Rattle.ksv_expr_syntax.proofs.Steps.{bind_some}
+use Rattle.ksv_schema.specs.Expressions.{tokens_to, tokens_of, tree_alone, type_alone, type_of}
 
 map_found : {A B : Type 0} (g : A → B) (o : Option A) (y : B) → option_map g o ≡ Some y → (x : A) × (o ≡ Some x) × (g x ≡ y)
 map_found g None y h = absurd cc
@@ -31,7 +29,7 @@ tokens_sound : (n : ℕ) (dot : Bool) (bs us : List ℕ) (ts : List Lexeme) → 
 tokens_sound n dot bs [] ts e h = let k : [] ≡ ts = cc in subst (λ ts. Tokens dot bs ts) k (finished (sym e))
 tokens_sound zero dot bs (c ∷ cs) ts e h = absurd cc
 tokens_sound (suc n) dot bs (c ∷ cs) ts e h =
-    let x = bind_found (cut (c ∷ cs)) (λ x. option_map (λ ts. mark dot x ∷ ts) (tokens_to n (is_dot (mark dot x)) (skip x.rest))) ts h in
+    let x = bind_some (cut (c ∷ cs)) (λ x. option_map (λ ts. mark dot x ∷ ts) (tokens_to n (is_dot (mark dot x)) (skip x.rest))) ts h in
     let y = map_found (λ ts. mark dot x.0 ∷ ts) (tokens_to n (is_dot (mark dot x.0)) (skip x.0.rest)) ts x.2 in
     subst (λ ts. Tokens dot bs ts) y.2
     (token x.0 ((cut_is_longest (skip bs) x.0).0 (ap cut (sym e) ∙ x.1)) (tokens_sound n (is_dot (mark dot x.0)) x.0.rest (skip x.0.rest) y.0 refl y.1))
@@ -58,8 +56,8 @@ alone_is e f (u ∷ us) h = absurd cc
 pub expression_is_spelled : (text : List ℕ) (e : Tree) → expression_of text ≡ Some e → SpellsText text e
 unfolding expression_of tokens_of
 expression_is_spelled text e h =
-    let t = bind_found (tokens_of text) (λ ts. read Whole 32 ts 256 >>= λ x. tree_alone x.tree x.rest) e h in
-    let x = bind_found (read Whole 32 t.0 256) (λ x. tree_alone x.tree x.rest) e t.2 in
+    let t = bind_some (tokens_of text) (λ ts. read Whole 32 ts 256 >>= λ x. tree_alone x.tree x.rest) e h in
+    let x = bind_some (read Whole 32 t.0 256) (λ x. tree_alone x.tree x.rest) e t.2 in
     let a = alone_is x.0.tree e x.0.rest x.2 in
     record {
       tokens = t.0;
@@ -86,9 +84,9 @@ made ws es = record { name = record { path = ws; number = None }; arguments = es
 pub type_is_spelled : (text : List ℕ) (t : TypeTree) → type_of text ≡ Some t → SpellsTypeText text t
 unfolding type_of tokens_of
 type_is_spelled text t h =
-    let s = bind_found (tokens_of text) (λ ts. path_at ts >>= λ x. type_list x.behind 256 >>= λ y. type_alone (made x.what y.arguments) y.rest) t h in
-    let x = bind_found (path_at s.0) (λ x. type_list x.behind 256 >>= λ y. type_alone (made x.what y.arguments) y.rest) t s.2 in
-    let y = bind_found (type_list x.0.behind 256) (λ y. type_alone (made x.0.what y.arguments) y.rest) t x.2 in
+    let s = bind_some (tokens_of text) (λ ts. path_at ts >>= λ x. type_list x.behind 256 >>= λ y. type_alone (made x.what y.arguments) y.rest) t h in
+    let x = bind_some (path_at s.0) (λ x. type_list x.behind 256 >>= λ y. type_alone (made x.what y.arguments) y.rest) t s.2 in
+    let y = bind_some (type_list x.0.behind 256) (λ y. type_alone (made x.0.what y.arguments) y.rest) t x.2 in
     let a = type_alone_is (made x.0.what y.0.arguments) t y.0.rest y.2 in
     record {
       tokens = s.0;

@@ -1,23 +1,19 @@
 -- Without faults what is at each key is what it must be, and the rules of keys together hold.
-use Rattle.std.proofs.Common.{◌≡◌, ℕ, Bool, true, false, cond, List, [], ◌∷◌, ◌++◌, sym, ap, ◌∙◌, refl, Option, Some, None}
-use Rattle.std.specs.Prelude.{codes, not, is_some, option_and_then, unwrap_or}
-use Rattle.std.specs.Option.{option_map_or}
-use Rattle.std.specs.Str.{bytes_eq}
-use Rattle.std.proofs.lemmas.Bool.{not-false}
+use Rattle.ksv_schema.proofs.Common.{◌≡◌, ℕ, Bool, true, false, cond, List, [], ◌∷◌, ◌++◌, sym, ap, ◌∙◌, refl, Option, Some, None, codes, not, is_some}
+use Rattle.ksv_schema.proofs.Common.{option_and_then, option_map_or, bytes_eq, not-false, Pair, line_of, text_of, mapping_of, entry_at, entries_at, text_at}
+use Rattle.ksv_schema.proofs.Common.{Row, keys_of, is_bound, MappingKind, form_in, is_ignored, Fault, fault_if, missing_key, bad_value, form_faults}
+use Rattle.ksv_schema.proofs.Common.{keys_faults, ruled_faults, type_faults}
+use Rattle.std.specs.Prelude.{unwrap_or}
 use Rattle.std.proofs.lemmas.Slice.Eq.{bytes_eq-Decides}
-use Rattle.ksv_yaml_tree.specs.Tree.{Pair, line_of, text_of, mapping_of, entry_at}
-use Rattle.ksv_yaml_tree.specs.Keys.{entries_at, says, text_at}
-use Rattle.ksv_schema_names.specs.Rows.{Row, keys_of}
-use Rattle.ksv_schema_names.proofs.Found.{is_bound}
+use Rattle.ksv_yaml_tree.specs.Keys.{says}
 use Rattle.ksv_schema.specs.declared.keys.forms.Form.{Form}
-use Rattle.ksv_schema.specs.declared.keys.forms.MappingKind.{MappingKind}
 use Rattle.ksv_schema.specs.declared.keys.forms.MappingKind.TheVariants as kinds
 use Rattle.ksv_schema.specs.declared.keys.forms.Group.TheVariants as groups
-use Rattle.ksv_schema.specs.Keys.{is_in, form_in, is_ignored}
+use Rattle.ksv_schema.specs.Keys.{is_in}
 use Rattle.ksv_schema.specs.KeyTexts.{TypeText}
-use Rattle.ksv_schema.specs.Faults.{Fault, fault, fault_if, missing_key, bad_value}
-use Rattle.ksv_schema.specs.Rules.{form_faults, key_faults, keys_faults, missing, Has, Says, Needs, claimed, rule_faults, ruled_faults, together}
-use Rattle.ksv_schema.specs.Description.{is_root, meta_faults, type_keys_faults, type_faults}
+use Rattle.ksv_schema.specs.Faults.{fault}
+use Rattle.ksv_schema.specs.Rules.{key_faults, missing, Has, Says, Needs, claimed, rule_faults, together}
+use Rattle.ksv_schema.specs.Description.{is_root, meta_faults, type_keys_faults}
 use Rattle.ksv_schema.proofs.Good.{front, back, not_if, implies}
 
 key_is : (kind : MappingKind) (p : Pair) (form : Form) → is_ignored p.key ≡ false → form_in kind p.key ≡ Some form → key_faults kind p ≡ form_faults p form

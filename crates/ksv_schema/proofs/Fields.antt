@@ -1,32 +1,26 @@
 -- What is read of a member is good: it leads somewhere, and it is a parameter or isn't.
-use Rattle.std.proofs.Common.{◌≡◌, ℕ, Bool, true, false, cond, List, [], refl, Option, Some, None}
-use Rattle.std.specs.Prelude.{codes, ◌||◌, is_some, option_map}
-use Rattle.std.specs.Option.{option_map_or}
-use Rattle.ksv_yaml_tree.specs.Tree.{Pair, entry_at}
-use Rattle.ksv_yaml_tree.specs.Keys.{has, says, text_at}
-use Rattle.ksv_expr_syntax.specs.Reading.{◌>>=◌}
+use Rattle.ksv_schema.proofs.Common.{◌≡◌, ℕ, Bool, true, false, cond, List, [], refl, Option, Some, None, codes, ◌||◌, is_some, option_map_or, Pair, entry_at}
+use Rattle.ksv_schema.proofs.Common.{text_at, ◌>>=◌, Declared, IfAny, IsThere, IsResolvedTree, MappingKind, form_among, form_in, is_ignored, missing_key}
+use Rattle.ksv_schema.proofs.Common.{left_out, form_faults, keys_faults, Home, expression, Context, in_tree}
+use Rattle.std.specs.Prelude.{option_map}
+use Rattle.ksv_yaml_tree.specs.Keys.{has, says}
 use Rattle.ksv_expr_tree.specs.Tree as expressions
 use Rattle.ksv_schema_names.specs.declared.members.Role.{Role}
 use Rattle.ksv_schema_names.specs.declared.members.Role.TheVariants as roles
 use Rattle.ksv_schema_names.specs.Members.{is_in_params}
-use Rattle.ksv_schema_names.specs.Rows.{Declared}
 use Rattle.ksv_schema_names.specs.Types.{encoding_of}
 use Rattle.ksv_schema_names.specs.declared.position.Site.TheVariants as sites
 use Rattle.ksv_desc.specs.Description.{Extent, SizeEos, ByItself, Repeat, Once, Eos, Expr, Until, Valid, Field, MemberKind, Parameter}
-use Rattle.ksv_desc.specs.Resolved.{is_parameter, IfAny, IsThere, IsResolvedTree, IsResolvedExtent, IsResolvedRepeat, IsResolvedValid, IsResolvedField}
-use Rattle.ksv_desc.specs.Resolved.{IsResolvedKind}
+use Rattle.ksv_desc.specs.Resolved.{is_parameter, IsResolvedExtent, IsResolvedRepeat, IsResolvedValid, IsResolvedField, IsResolvedKind}
 use Rattle.ksv_schema.specs.declared.keys.forms.Form.TheVariants as forms
-use Rattle.ksv_schema.specs.declared.keys.forms.MappingKind.{MappingKind}
 use Rattle.ksv_schema.specs.declared.keys.forms.MappingKind.TheVariants as kinds
 use Rattle.ksv_schema.specs.declared.keys.forms.Group.TheVariants as groups
-use Rattle.ksv_schema.specs.Keys.{is_in, kind_of, form_among, form_in, is_ignored}
+use Rattle.ksv_schema.specs.Keys.{is_in, kind_of}
 use Rattle.ksv_schema.specs.KeyTexts.{encoding_named, is_str, is_strz, own_type, is_a, is_to_end}
-use Rattle.ksv_schema.specs.Faults.{missing_key, left_out}
-use Rattle.ksv_schema.specs.Rules.{form_faults, keys_faults}
-use Rattle.ksv_schema.specs.Values.{Home, once, expression, enumeration, own_enum, encoding_at}
+use Rattle.ksv_schema.specs.Values.{once, enumeration, own_enum, encoding_at}
 use Rattle.ksv_schema.specs.Members.{conditioned, parts, repeat_of, repeated, extent_of, extent, has_encoding, needs, field, own_field, attribute}
 use Rattle.ksv_schema.specs.Members.{parse_instance, value_instance, placeless, by_kind}
-use Rattle.ksv_schema.specs.Description.{Context, in_tree, in_valid, in_extent, in_repeat, in_field, in_kind}
+use Rattle.ksv_schema.specs.Description.{in_valid, in_extent, in_repeat, in_field, in_kind}
 use Rattle.ksv_schema.proofs.Good.{front, back, implies, there_map, IsGood, gives_good, also_good, chosen_good, made_good, after_good, both_good, weaker}
 use Rattle.ksv_schema.proofs.Good.{perhaps_good, must_good}
 use Rattle.ksv_schema.proofs.FaultlessKeys.{text_fits, HasRepeat, has_repeat}

@@ -1,9 +1,7 @@
 -- Numbers and ids of entries that were given before.
-use Rattle.std.proofs.Common.{◌≡◌, ℕ, zero, suc, ◌<◌, arith, length, get_or, take, map, Bool, true, false, cond, List, [], ◌∷◌, ◌++◌, sym, ap, ◌∙◌, refl}
-use Rattle.std.proofs.Common.{Option, Some, None}
-use Rattle.std.specs.Prelude.{◌||◌}
+use Rattle.ksv_schema.proofs.Common.{◌≡◌, ℕ, zero, suc, ◌<◌, arith, length, get_or, take, map, Bool, true, false, cond, List, [], ◌∷◌, ◌++◌, sym, ap, ◌∙◌, refl}
+use Rattle.ksv_schema.proofs.Common.{Option, Some, None, ◌||◌, option_map_or}
 use Rattle.std.specs.List.{list_any}
-use Rattle.std.specs.Option.{option_map_or}
 use Rattle.ksv_schema.specs.Plain.{Gives, Adds}
 
 or_cond : (is old new : Bool) → new ≡ cond is true old → new ≡ (old || is)

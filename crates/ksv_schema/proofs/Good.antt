@@ -1,17 +1,14 @@
 -- A reading that is good: without faults there is a value, and something holds for it. One lemma for each way to put readings
 -- together.
-use Rattle.std.proofs.Common.{◌≡◌, ℕ, zero, suc, ◌+◌, Bool, true, false, cond, List, [], ◌∷◌, ◌++◌, length, sym, ap, subst, ◌∙◌, refl, Option, Some, None}
-use Rattle.std.specs.Prelude.{not, ◌&&◌, is_some, option_map, option_and_then, map, slice_get}
-use Rattle.std.specs.Option.{option_map_or}
-use Rattle.std.specs.List.{list_all}
-use Rattle.std.proofs.lemmas.Bool.{and_parts, and_from}
+use Rattle.ksv_schema.proofs.Common.{◌≡◌, ℕ, zero, suc, ◌+◌, Bool, true, false, cond, List, [], ◌∷◌, ◌++◌, length, sym, ap, subst, ◌∙◌, refl, Option, Some}
+use Rattle.ksv_schema.proofs.Common.{None, not, ◌&&◌, is_some, option_and_then, slice_get, option_map_or, list_all, and_parts, Pair, text_of, mapping_of, ◌>>=◌}
+use Rattle.ksv_schema.proofs.Common.{Each, IfAny, IsThere, Fault, fault_if, missing_key, bad_value, Reading, made, both, each, each_from, must}
+use Rattle.std.specs.Prelude.{option_map, map}
+use Rattle.std.proofs.lemmas.Bool.{and_from}
 use Rattle.std.proofs.lemmas.List.Folds.{list_all-append}
-use Rattle.ksv_yaml_tree.specs.Tree.{Pair, text_of, mapping_of}
-use Rattle.ksv_expr_syntax.specs.Reading.{◌>>=◌}
 use Rattle.ksv_desc.specs.Names.{number_in, has_names}
-use Rattle.ksv_desc.specs.Resolved.{Each, IfAny, IsThere}
-use Rattle.ksv_schema.specs.Faults.{Fault, fault, fault_if, missing_key, bad_value}
-use Rattle.ksv_schema.specs.Reading.{Reading, gives, wrong, found, also, chosen, made, both, after, each, each_from, perhaps, must}
+use Rattle.ksv_schema.specs.Faults.{fault}
+use Rattle.ksv_schema.specs.Reading.{gives, wrong, found, also, chosen, after, perhaps}
 
 -- ---- no faults
 

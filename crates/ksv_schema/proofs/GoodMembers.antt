@@ -1,30 +1,25 @@
 -- Without faults each member and type is stated, and leads somewhere.
-use Rattle.std.proofs.Common.{◌≡◌, ℕ, zero, suc, ◌+◌, ◌<◌, Bool, true, false, cond, List, [], ◌∷◌, ◌++◌, length, sym, ap, subst, ◌∙◌, refl, Some}
-use Rattle.std.proofs.Common.{append_assoc, arith}
-use Rattle.std.specs.Prelude.{is_some, map, flat_map, filter, slice_get}
-use Rattle.std.specs.List.{list_all, list_any, position_from}
-use Rattle.std.specs.Option.{option_map_or}
-use Rattle.std.specs.Str.{bytes_eq, is_utf8}
-use Rattle.std.proofs.lemmas.Bool.{and_parts}
-use Rattle.std.proofs.lemmas.List.{map-append, length-append, append-nil}
-use Rattle.ksv_yaml_tree.specs.Tree.{line_of, mapping_of}
-use Rattle.ksv_schema_names.specs.Rows.{Row, Declared}
-use Rattle.ksv_schema_names.specs.Members.{Member, members_of, is_in_params, is_parameter, members_within, parameters_within}
+use Rattle.ksv_schema.proofs.Common.{◌≡◌, ℕ, zero, suc, ◌+◌, ◌<◌, Bool, true, false, cond, List, [], ◌∷◌, ◌++◌, length, sym, ap, subst, ◌∙◌, refl, arith}
+use Rattle.ksv_schema.proofs.Common.{is_some, slice_get, list_all, option_map_or, bytes_eq, is_utf8, and_parts, map-append, line_of, mapping_of, Row, Declared}
+use Rattle.ksv_schema.proofs.Common.{Member, members_of, bad_value, member, Context, members, all_enums, are_texts, distinct_behind, Enum, Description, Each}
+use Rattle.ksv_schema.proofs.Common.{IsThere, distinct_append}
+use Rattle.std.proofs.Common.{append_assoc}
+use Rattle.std.specs.Prelude.{map, flat_map, filter}
+use Rattle.std.specs.List.{list_any}
+use Rattle.std.proofs.lemmas.List.{length-append, append-nil}
+use Rattle.ksv_schema_names.specs.Members.{is_in_params, is_parameter, members_within, parameters_within}
 use Rattle.ksv_schema_names.specs.Members as scope
 use Rattle.ksv_schema_names.specs.Resolved.{Fits}
 use Rattle.ksv_schema_names.proofs.Found.{some_is, place_within}
-use Rattle.ksv_schema.specs.Faults.{bad_value}
 use Rattle.ksv_schema.specs.Values.{home_of}
 use Rattle.ksv_schema.proofs.Texts.{as_text_is}
-use Rattle.ksv_schema.specs.Members.{member_keys, member}
-use Rattle.ksv_schema.specs.Description.{Context, members, all_members, all_enums, faults_of, names_in, member_names, names_of, each_of, member_of, type_of}
-use Rattle.ksv_schema.specs.Description.{types_of, are_texts, described, stated_by}
-use Rattle.ksv_desc.specs.Names.{distinct, distinct_behind, number_in, has_names, AreDistinct}
-use Rattle.ksv_desc.specs.Description.{MemberKind, MemberOfType, TypeOfObjects, Enum, Description}
+use Rattle.ksv_schema.specs.Members.{member_keys}
+use Rattle.ksv_schema.specs.Description.{all_members, faults_of, names_in, member_names, names_of, each_of, member_of, type_of, types_of, described, stated_by}
+use Rattle.ksv_desc.specs.Names.{distinct, number_in, has_names, AreDistinct}
+use Rattle.ksv_desc.specs.Description.{MemberKind, MemberOfType, TypeOfObjects}
 use Rattle.ksv_desc.specs.Resolved as resolved
-use Rattle.ksv_desc.specs.Resolved.{Each, IsThere, IsResolvedMember, IsResolved}
-use Rattle.ksv_desc.proofs.Dots.{distinct_append}
-use Rattle.ksv_desc.proofs.Tabled.{is_table}
+use Rattle.ksv_desc.specs.Resolved.{IsResolvedMember, IsResolved}
+use Rattle.ksv_desc.proofs.Tabled.{is_table, position_append}
 use Rattle.ksv_schema.proofs.Good.{front, back, not_if, has_both, there_next, is_there, IsGood, wrong_good, also_good, weaker, or_good, EachOf, each_passes}
 use Rattle.ksv_schema.proofs.Good.{each_from_good, as_many, each_second, each_mapped}
 use Rattle.ksv_schema.proofs.Fields.{AreEncodings, IsKind, kind_good}
@@ -96,16 +91,6 @@ has_all_names d =
       distinct = subst AreDistinct (distinct_append [] own words) (all.stays_distinct (λ k w h. absurd cc));
     }
 
-place_kept : {A : Type 0} (test : A → Bool) (i k : ℕ) (xs ys : List A) → position_from test i xs ≡ Some k → position_from test i (xs ++ ys) ≡ Some k
-place_kept test i k [] ys h = absurd cc
-place_kept test i k (x ∷ xs) ys h = go (test x) h (place_kept test (i + 1) k xs ys)
-  where
-    go : (b : Bool) → cond b (Some i) (position_from test (i + 1) xs) ≡ Some k
-        → (position_from test (i + 1) xs ≡ Some k → position_from test (i + 1) (xs ++ ys) ≡ Some k)
-        → cond b (Some i) (position_from test (i + 1) (xs ++ ys)) ≡ Some k
-    go true h later = h
-    go false h later = later h
-
 -- names are added after the others
 added_behind : (before added : List (List ℕ)) → (more : List (List ℕ)) × (distinct_behind before added ≡ before ++ more)
 added_behind before [] = ([], sym (append-nil before))
@@ -123,7 +108,7 @@ unfolding names_of number_in
 kept_number d name h =
     let k = some_is (number_in (member_names d) name) h in
     let more = added_behind (member_names d) (all_members d).words in
-    rw (more.1, place_kept (bytes_eq name) 0 k.0 (member_names d) more.0 k.1) (place_within (bytes_eq name) (member_names d) k.0 k.1)
+    rw (more.1, position_append (bytes_eq name) 0 k.0 (member_names d) more.0 k.1) (place_within (bytes_eq name) (member_names d) k.0 k.1)
 
 -- ---- members with the numbers of their names
 

@@ -1,20 +1,17 @@
 -- What is read at `valid` is good: it leads somewhere once its names have their numbers.
-use Rattle.std.proofs.Common.{ℕ, List, [], ◌∷◌, Option, Some, None}
-use Rattle.std.specs.Prelude.{codes, ◌++◌, map, option_to_list}
-use Rattle.ksv_yaml_tree.specs.Tree.{Tree, Pair, line_of, text_of, mapping_of, list_of, entry_at}
+use Rattle.ksv_schema.proofs.Common.{ℕ, List, [], ◌∷◌, Option, Some, None, codes, Tree, Pair, line_of, text_of, mapping_of, list_of, entry_at, Each, IfAny}
+use Rattle.ksv_schema.proofs.Common.{IsResolvedTree, expression_of, bad_value, Home, Context, in_tree}
+use Rattle.std.specs.Prelude.{◌++◌, map, option_to_list}
 use Rattle.ksv_expr_tree.specs.Tree as expressions
 use Rattle.ksv_expr_tree.specs.declared.tree.BinaryOperator.{BinaryOperator}
 use Rattle.ksv_expr_tree.specs.declared.tree.BinaryOperator.TheVariants.{Equal, GreaterOrEqual, LessOrEqual}
 use Rattle.ksv_schema_names.specs.declared.position.Site.TheVariants as sites
 use Rattle.ksv_schema_names.specs.Numbered.{numbered}
 use Rattle.ksv_desc.specs.Description.{Valid, AnyOf}
-use Rattle.ksv_desc.specs.Resolved.{Each, IfAny, IsResolvedTree, IsResolvedValid}
-use Rattle.ksv_schema.specs.Expressions.{expression_of}
-use Rattle.ksv_schema.specs.Faults.{bad_value}
-use Rattle.ksv_schema.specs.Values.{Home}
+use Rattle.ksv_desc.specs.Resolved.{IsResolvedValid}
 use Rattle.ksv_schema.specs.Valid.{compared, comparison, alternative, some_alternatives, alternatives, one_or_some, any_of, in_order, all_of, any_or_all}
 use Rattle.ksv_schema.specs.Valid.{conditions, valid, own_valid}
-use Rattle.ksv_schema.specs.Description.{Context, in_tree, in_valid}
+use Rattle.ksv_schema.specs.Description.{in_valid}
 use Rattle.ksv_schema.proofs.Good.{IsGood, wrong_good, also_good, made_good, both_good, or_good, perhaps_good, weaker, each_good, each_second, each_and}
 use Rattle.ksv_schema.proofs.GoodValues.{Leads, in_home, IsTree, of_expression_good, expression_good}
 

@@ -1,12 +1,15 @@
 -- What is read at a key is good: it leads somewhere once its names have their numbers.
-use Rattle.std.proofs.Common.{◌≡◌, ℕ, suc, ◌+◌, ◌<◌, Bool, true, List, [], ◌∷◌, ◌++◌, length, sym, ap, ◌∙◌, refl, Option, Some, None, arith}
-use Rattle.std.specs.Prelude.{codes, is_some, not, ◌==◌, ◌&&◌, ◌||◌, option_map, option_to_list, map}
-use Rattle.std.proofs.lemmas.Bool.{not-false, both_ways}
+use Rattle.ksv_schema.proofs.Common.{◌≡◌, ℕ, suc, ◌+◌, ◌<◌, Bool, true, List, [], ◌∷◌, ◌++◌, length, sym, ap, ◌∙◌, refl, Option, Some, None, arith, codes}
+use Rattle.ksv_schema.proofs.Common.{is_some, not, ◌==◌, ◌&&◌, ◌||◌, not-false, Tree, Pair, line_of, text_of, mapping_of, list_of, entry_at, Row, is_bound}
+use Rattle.ksv_schema.proofs.Common.{Description, Each, IfAny, IsThere, IsResolvedTree, expression_of, BadPiece, piece_of, fault_if, bad_value, left_out, each}
+use Rattle.ksv_schema.proofs.Common.{Home, expression, items, Context, in_tree, in_case}
+use Rattle.std.specs.Prelude.{option_map, option_to_list, map}
+use Rattle.std.proofs.lemmas.Bool.{both_ways}
 use Rattle.std.proofs.lemmas.Bool.Decides.{Decides-eqb}
-use Rattle.ksv_yaml_tree.specs.Tree.{Tree, Pair, line_of, text_of, is_quoted, mapping_of, list_of, entry_at}
+use Rattle.ksv_yaml_tree.specs.Tree.{is_quoted}
 use Rattle.ksv_expr_tree.specs.Tree as expressions
 use Rattle.ksv_expr_value.specs.declared.encoding.Encoding.{Encoding}
-use Rattle.ksv_schema_names.specs.Rows.{Row, row_in}
+use Rattle.ksv_schema_names.specs.Rows.{row_in}
 use Rattle.ksv_schema_names.specs.Types.{type_named, enum_behind, enum_from}
 use Rattle.ksv_schema_names.specs.Members.{parameters_within}
 use Rattle.ksv_schema_names.specs.declared.position.Site.{Site}
@@ -18,20 +21,17 @@ use Rattle.ksv_schema_names.specs.declared.built_ins.BuiltIn.TheVariants.{Intege
 use Rattle.ksv_schema_names.specs.Names.{Nothing, name_faults, least}
 use Rattle.ksv_schema_names.specs.Numbered.{all_numbered, given_member}
 use Rattle.ksv_schema_names.specs.Resolved.{Fits}
-use Rattle.ksv_schema_names.proofs.Found.{is_bound, row_within, nearest_within, type_within}
+use Rattle.ksv_schema_names.proofs.Found.{row_within, nearest_within, type_within}
 use Rattle.ksv_schema_names.proofs.Resolving.{given_leads, resolved, all_resolved}
-use Rattle.ksv_desc.specs.Description.{Description, Content, Number, Bits, Characters, Object, EnumValue, Choice, Always, Switch}
-use Rattle.ksv_desc.specs.Resolved.{count, Each, IfAny, IsThere, IsEnum, IsResolvedTree, AreResolvedTrees, IsResolvedContent, IsResolvedValue, IsResolvedCase}
-use Rattle.ksv_desc.specs.Resolved.{IsResolvedChoice}
-use Rattle.ksv_schema.specs.Expressions.{expression_of}
+use Rattle.ksv_desc.specs.Description.{Content, Number, Bits, Characters, Object, EnumValue, Choice, Always, Switch}
+use Rattle.ksv_desc.specs.Resolved.{count, IsEnum, AreResolvedTrees, IsResolvedContent, IsResolvedValue, IsResolvedCase, IsResolvedChoice}
 use Rattle.ksv_schema.specs.KeyTexts.{TypeText, Unspelled, OfLanguage, OfDescription, type_text, is_str, is_strz, looks_like_number, Piece, Bytes as BytesPiece}
-use Rattle.ksv_schema.specs.KeyTexts.{BadPiece, LeftOutPiece, piece_of, CaseKey, Constant, Negative, OfEnum, Default, NoKey, case_key, ids_of}
-use Rattle.ksv_schema.specs.Faults.{fault_if, unknown_name, no_byte_order, bad_value, wrong_count, left_out, no_expression}
-use Rattle.ksv_schema.specs.Reading.{each}
-use Rattle.ksv_schema.specs.Values.{Home, FieldKeys, position_at, name_fault, least_name, of_expression, expression, arguments, of_path, enumeration, of_piece}
-use Rattle.ksv_schema.specs.Values.{item, items, contents, order_at, encoding_at, of_language, counts_differ, of_type, of_case_key, case_value, case_against}
-use Rattle.ksv_schema.specs.Values.{case, switch, typed, content_or_type, choice}
-use Rattle.ksv_schema.specs.Description.{Context, in_tree, in_content, in_case, in_choice}
+use Rattle.ksv_schema.specs.KeyTexts.{LeftOutPiece, CaseKey, Constant, Negative, OfEnum, Default, NoKey, case_key, ids_of}
+use Rattle.ksv_schema.specs.Faults.{unknown_name, no_byte_order, wrong_count, no_expression}
+use Rattle.ksv_schema.specs.Values.{FieldKeys, position_at, name_fault, least_name, of_expression, arguments, of_path, enumeration, of_piece, item, contents}
+use Rattle.ksv_schema.specs.Values.{order_at, encoding_at, of_language, counts_differ, of_type, of_case_key, case_value, case_against, case, switch, typed}
+use Rattle.ksv_schema.specs.Values.{content_or_type, choice}
+use Rattle.ksv_schema.specs.Description.{in_content, in_choice}
 use Rattle.ksv_schema.proofs.Good.{front, not_if, IsGood, gives_good, wrong_good, found_good, also_good, made_good, both_good, if_good, or_good, perhaps_good}
 use Rattle.ksv_schema.proofs.Good.{must_good, weaker, text_good, mapping_good, EachOf, each_good}
 

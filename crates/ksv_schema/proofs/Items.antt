@@ -1,14 +1,11 @@
 -- The items of `contents`: a loop over them, and that they have no names after dots.
-use Rattle.std.proofs.Common.{◌≡◌, ℕ, suc, ◌+◌, ◌<◌, ◌≤◌, List, [], ◌∷◌, ◌++◌, map, length, get_or, drop, refl, sym, ap, ◌∙◌, add-one, drop-cons, Option, Some}
-use Rattle.std.proofs.Common.{None}
+use Rattle.ksv_schema.proofs.Common.{◌≡◌, ℕ, suc, ◌+◌, ◌<◌, ◌≤◌, List, [], ◌∷◌, ◌++◌, map, length, get_or, drop, refl, sym, ap, ◌∙◌, add-one, drop-cons, Option}
+use Rattle.ksv_schema.proofs.Common.{Some, None, drop_all, Tree, line_of, BadPiece, piece_of, Fault, noted, Reading, made, both, items, paired}
 use Rattle.std.specs.Prelude.{option_map}
-use Rattle.std.proofs.lemmas.List.{drop_all, append_assoc}
-use Rattle.ksv_yaml_tree.specs.Tree.{Tree, line_of}
-use Rattle.ksv_schema.specs.KeyTexts.{Piece, Bytes, BadPiece, LeftOutPiece, piece_of}
-use Rattle.ksv_schema.specs.Faults.{Fault, noted}
-use Rattle.ksv_schema.specs.Reading.{Reading, made, both}
-use Rattle.ksv_schema.specs.Values.{of_piece, item, items}
-use Rattle.ksv_schema.specs.Code.{joined, paired}
+use Rattle.std.proofs.lemmas.List.{append_assoc}
+use Rattle.ksv_schema.specs.KeyTexts.{Piece, Bytes, LeftOutPiece}
+use Rattle.ksv_schema.specs.Values.{of_piece, item}
+use Rattle.ksv_schema.specs.Code.{joined}
 use Rattle.ksv_schema.proofs.Noted.{noted_append, noted_none}
 
 piece_words : (line : ℕ) (p : Piece) → (of_piece line p).words ≡ []

@@ -1,9 +1,11 @@
 -- What is noted of a list is its least fault.
-use Rattle.std.proofs.Common.{◌≡◌, ℕ, Bool, true, false, cond, List, [], ◌∷◌, sym, ap, ◌∙◌, refl, Option, Some, None, arith, zero, suc, subst, ◌⊎◌, inl, inr}
-use Rattle.std.specs.Prelude.{nat_lt, ◌==◌, ◌||◌, ◌&&◌, All, Contains}
-use Rattle.std.proofs.lemmas.Bool.Decides.{nat_tests}
+use Rattle.ksv_schema.proofs.Common.{◌≡◌, ℕ, Bool, true, false, cond, List, [], ◌∷◌, sym, ap, ◌∙◌, refl, Option, Some, None, arith, zero, suc, subst, nat_lt}
+use Rattle.ksv_schema.proofs.Common.{◌==◌, ◌||◌, ◌&&◌, nat_tests, Fault, noted}
+use Rattle.std.proofs.Common.{◌⊎◌, inl, inr}
+use Rattle.std.specs.Prelude.{All, Contains}
 use Rattle.std.proofs.lemmas.Option.{same_Some}
-use Rattle.ksv_schema.specs.Faults.{Fault, noted, lesser, is_below, IsLeast}
+use Rattle.ksv_schema.specs.Faults.{lesser, is_below, IsLeast}
+use Rattle.ksv_schema.proofs.Noted.{noted_none}
 
 -- what isn't below a middle one isn't below one that is above it
 not_below : (a x b y d z : ℕ) → (nat_lt b a || ((b == a) && nat_lt y x)) ≡ true → (nat_lt b d || ((b == d) && nat_lt y z)) ≡ false
@@ -33,10 +35,6 @@ pub noted_cons : (o : Option Fault) (f : Fault) (fs : List Fault) → noted o (f
 unfolding noted
 noted_cons o f fs = refl
 
-noted_nil : (o : Option Fault) → noted o [] ≡ o
-unfolding noted
-noted_nil o = refl
-
 -- the least of one so far and others
 pub record Among (so_far f : Fault) (fs : List Fault) : Type 0 where
   pub here : (so_far ≡ f) ⊎ Contains fs f
@@ -58,7 +56,7 @@ all_cons P x xs p h (suc k) d lt = h k d (omega arith)
 
 among : (so_far f : Fault) (fs : List Fault) → noted (Some so_far) fs ≡ Some f → Among so_far f fs
 among so_far f [] h =
-    let e : so_far ≡ f = same_Some so_far f (sym (noted_nil (Some so_far)) ∙ h) in
+    let e : so_far ≡ f = same_Some so_far f (sym (noted_none (Some so_far)) ∙ h) in
     record { here = inl e; first = subst (λ (f : Fault). is_below so_far f ≡ false) e (below_self so_far); others = all_none (λ x. is_below x f ≡ false) }
 among so_far f (g ∷ fs) h = by_test (is_below g so_far) refl (among so_far f fs) (among g f fs)
   where
@@ -82,7 +80,7 @@ among so_far f (g ∷ fs) h = by_test (is_below g so_far) refl (among so_far f f
 
 -- nothing is noted only of no faults
 noted_some : (f : Fault) (fs : List Fault) → noted (Some f) fs ≡ None → ⊥
-noted_some f [] h = absurd (none_some f (sym (noted_nil (Some f)) ∙ h))
+noted_some f [] h = absurd (none_some f (sym (noted_none (Some f)) ∙ h))
   where
     none_some : (f : Fault) → Some f ≡ None → ⊥
     none_some f h = cc
@@ -97,7 +95,7 @@ nothing_noted [] h = refl
 nothing_noted (f ∷ fs) h = absurd (noted_some f fs (sym (noted_cons None f fs) ∙ sym h))
 
 pub noted_least : (f : Fault) (fs : List Fault) → Some f ≡ noted None fs → IsLeast f fs
-noted_least f [] h = absurd (some_none f (h ∙ noted_nil None))
+noted_least f [] h = absurd (some_none f (h ∙ noted_none None))
   where
     some_none : (f : Fault) → Some f ≡ None → ⊥
     some_none f h = cc

@@ -1,4 +1,5 @@
 -- Lemmas of the crate.
+pub mod Common
 pub mod Expressions
 pub mod Spellings
 pub mod Bytes

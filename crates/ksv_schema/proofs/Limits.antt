@@ -1,13 +1,12 @@
 -- The lowest line by which there are more than a limit of some lines is, in the rising order of all of them, the first one past
 -- the limit.
-use Rattle.std.proofs.Common.{◌≡◌, ℕ, zero, suc, ◌≤◌, ◌<◌, Bool, true, false, List, [], ◌∷◌, length, Option, Some, None, refl, sym, ap, ◌∙◌, arith, cond, inl}
-use Rattle.std.proofs.Common.{inr, ◌⊎◌, ltb-true}
-use Rattle.std.specs.Prelude.{nat_lt, nat_le, min, filter, fold, slice_index_or}
+use Rattle.ksv_schema.proofs.Common.{◌≡◌, ℕ, zero, suc, ◌≤◌, ◌<◌, Bool, true, false, List, [], ◌∷◌, length, Option, Some, None, refl, sym, ap, ◌∙◌, arith, cond}
+use Rattle.ksv_schema.proofs.Common.{nat_lt, nat_tests, slice_get}
+use Rattle.std.proofs.Common.{inl, inr, ◌⊎◌, ltb-true}
+use Rattle.std.specs.Prelude.{nat_le, min, filter, fold, slice_index_or}
 use Rattle.std.specs.List.Sorted.{IsPermutation, IsNonDecreasing}
-use Rattle.std.proofs.lemmas.Bool.Decides.{nat_tests}
 use Rattle.std.proofs.lemmas.List.Sums.{length-filter}
 use Rattle.std.proofs.lemmas.List.Sorted.{sum_by-IsPermutation, length_permutation, Contains-permutation, IsPermutation-sym}
-use Rattle.std.specs.Prelude.{slice_get}
 use Rattle.std.proofs.lemmas.Option.{slice_get_past, slice_get-get_or}
 use Rattle.ksv_schema.specs.Description.{lower, line_past}
 use Rattle.ksv_schema.specs.Plain.{AreRising}

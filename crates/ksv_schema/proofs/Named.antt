@@ -1,15 +1,9 @@
 -- Names that are texts, and members whose names are added one after the other.
-use Rattle.std.proofs.Common.{◌≡◌, ℕ, suc, ◌+◌, ◌<◌, ◌≤◌, Bool, true, false, ◌&&◌, cond, List, [], ◌∷◌, map, length, get_or, drop, Some, None, refl, sym, ap}
-use Rattle.std.proofs.Common.{◌∙◌, add-one, drop-cons}
-use Rattle.std.specs.List.{list_all}
-use Rattle.std.specs.Str.{is_utf8}
-use Rattle.ksv_schema_names.specs.Members.{Member}
-use Rattle.std.proofs.lemmas.List.{drop_all}
+use Rattle.ksv_schema.proofs.Common.{◌≡◌, ℕ, suc, ◌+◌, ◌<◌, ◌≤◌, Bool, true, false, cond, List, [], ◌∷◌, map, length, get_or, drop, Some, None, refl, sym, ap}
+use Rattle.ksv_schema.proofs.Common.{◌∙◌, add-one, drop-cons, list_all, is_utf8, Member, drop_all, distinct_behind, are_texts, as_text}
+use Rattle.std.proofs.Common.{◌&&◌}
 use Rattle.ksv_schema_names.specs.declared.members.Member.{Member as MemberRow}
 use Rattle.ksv_schema_names.specs.View.{member_of as row}
-use Rattle.ksv_desc.specs.Names.{distinct_behind}
-use Rattle.ksv_schema.specs.Description.{are_texts}
-use Rattle.ksv_desc.specs.Description.{as_text}
 
 text_is : (name text : List ℕ) → Some text ≡ as_text name → (text ≡ name) × (is_utf8 name ≡ true)
 unfolding as_text

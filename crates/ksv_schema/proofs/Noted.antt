@@ -1,9 +1,8 @@
 -- What is noted one after another.
-use Rattle.std.proofs.Common.{◌≡◌, ℕ, List, [], ◌++◌, sym, ap, ◌∙◌, refl, Option, suc, ◌+◌, ◌<◌, ◌≤◌, length, get_or, drop, map, add-one, drop-cons}
-use Rattle.std.specs.List.{flat_map}
-use Rattle.std.proofs.lemmas.List.{drop_all}
+use Rattle.ksv_schema.proofs.Common.{◌≡◌, ℕ, List, [], ◌++◌, sym, ap, ◌∙◌, refl, Option, suc, ◌+◌, ◌<◌, ◌≤◌, length, get_or, drop, map, add-one, drop-cons}
+use Rattle.ksv_schema.proofs.Common.{flat_map, drop_all, Fault, noted}
 use Rattle.std.proofs.lemmas.List.Sums.{fold-append}
-use Rattle.ksv_schema.specs.Faults.{Fault, noted, lesser}
+use Rattle.ksv_schema.specs.Faults.{lesser}
 
 -- the faults of two parts are noted one part after the other
 pub noted_append : (o : Option Fault) (xs ys : List Fault) → noted o (xs ++ ys) ≡ noted (noted o xs) ys

@@ -1,28 +1,24 @@
 -- Without faults the names of members and the ids of types are texts.
-use Rattle.std.proofs.Common.{◌≡◌, ℕ, ◌+◌, Bool, true, false, cond, List, [], ◌∷◌, ◌++◌, length, subst, refl, Option, Some, None, arith, rules as known_rules}
-use Rattle.std.specs.Prelude.{codes, not, ◌==◌, ◌&&◌, map, flat_map, unwrap_or, decimal, slice_get}
-use Rattle.std.specs.Str.{bytes_eq, is_utf8}
-use Rattle.std.proofs.lemmas.Bool.{not-false}
-use Rattle.std.proofs.lemmas.Bool.Decides.{nat_tests}
+use Rattle.ksv_schema.proofs.Common.{◌≡◌, ℕ, ◌+◌, Bool, true, false, cond, List, [], ◌∷◌, ◌++◌, length, subst, refl, Option, Some, None, arith, codes, not}
+use Rattle.ksv_schema.proofs.Common.{◌==◌, ◌&&◌, slice_get, bytes_eq, is_utf8, not-false, nat_tests, Tree, Pair, mapping_of, list_of, text_at, entries_at, Row}
+use Rattle.ksv_schema.proofs.Common.{keys_of, Member, members_of, MappingKind, form_among, form_in, is_ignored, is_id, bad_value, form_faults, keys_faults}
+use Rattle.ksv_schema.proofs.Common.{type_faults, all_types_faults, Each}
+use Rattle.std.proofs.Common.{rules as known_rules}
+use Rattle.std.specs.Prelude.{map, flat_map, unwrap_or, decimal}
 use Rattle.std.proofs.lemmas.Str.{is_utf8-from_IsUtf8, IsUtf8-from_ascii, IsUtf8-append}
 use Rattle.std.proofs.lemmas.Str.Ascii.{IsAscii-nil, IsAscii-from_all}
 use Rattle.std.proofs.DigitsParse.{digits-IsUtf8}
-use Rattle.ksv_yaml_tree.specs.Tree.{Tree, Map, Entries, no_entries, entry, Pair, mapping_of, list_of}
-use Rattle.ksv_yaml_tree.specs.Keys.{entries_in, text_at, entries_at}
+use Rattle.ksv_yaml_tree.specs.Tree.{Map, Entries, no_entries, entry}
+use Rattle.ksv_yaml_tree.specs.Keys.{entries_in}
 use Rattle.ksv_schema_names.specs.declared.members.Role.{Role}
 use Rattle.ksv_schema_names.specs.declared.members.Role.TheVariants.{Parameter, Attribute, Instance}
-use Rattle.ksv_schema_names.specs.Rows.{Row, keys_of, with_types, with_key, with_named, with_each, root_row, types_of}
-use Rattle.ksv_schema_names.specs.Members.{Member, unnamed, items_from, instance, members_at_key, members_of}
+use Rattle.ksv_schema_names.specs.Rows.{with_types, with_key, with_named, with_each, root_row, types_of}
+use Rattle.ksv_schema_names.specs.Members.{unnamed, items_from, instance, members_at_key}
 use Rattle.ksv_schema.specs.declared.keys.forms.Form.TheVariants as forms
-use Rattle.ksv_schema.specs.declared.keys.forms.MappingKind.{MappingKind}
 use Rattle.ksv_schema.specs.declared.keys.forms.MappingKind.TheVariants as kinds
-use Rattle.ksv_schema.specs.Keys.{kind_of, form_among, form_in, is_ignored, is_id}
+use Rattle.ksv_schema.specs.Keys.{kind_of}
 use Rattle.ksv_schema.proofs.Paths.{id_is_utf8}
-use Rattle.ksv_schema.specs.Faults.{bad_value}
-use Rattle.ksv_schema.specs.Rules.{form_faults, keys_faults}
 use Rattle.ksv_schema.specs.Members.{is_instance}
-use Rattle.ksv_schema.specs.Description.{type_faults, all_types_faults}
-use Rattle.ksv_desc.specs.Resolved.{Each}
 use Rattle.ksv_schema.proofs.Good.{front, back, not_if, each_and, each_mapped}
 use Rattle.ksv_schema.proofs.FaultlessKeys.{text_fits, meta_faultless}
 

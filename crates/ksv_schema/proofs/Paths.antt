@@ -1,16 +1,14 @@
 -- Names with `::` between them.
-use Rattle.std.proofs.Common.{◌≡◌, ℕ, zero, suc, ◌+◌, ◌<◌, ◌≤◌, Bool, true, false, cond, List, [], ◌∷◌, ◌++◌, length, take, drop, get_or, refl, ap, sym, ◌∙◌}
-use Rattle.std.proofs.Common.{arith, add-one, drop-cons, Some, None}
-use Rattle.std.specs.Prelude.{◌==◌, ◌&&◌, if◌then◌else◌}
-use Rattle.std.specs.List.{list_all}
+use Rattle.ksv_schema.proofs.Common.{◌≡◌, ℕ, zero, suc, ◌+◌, ◌<◌, ◌≤◌, Bool, true, false, cond, List, [], ◌∷◌, ◌++◌, length, take, drop, get_or, refl, ap, sym}
+use Rattle.ksv_schema.proofs.Common.{◌∙◌, arith, add-one, drop-cons, Some, None, ◌==◌, ◌&&◌, list_all, and_parts, nat_tests, is_id, names_in}
+use Rattle.std.specs.Prelude.{if◌then◌else◌}
 use Rattle.std.specs.Str.{IsUtf8, IsAscii}
 use Rattle.std.proofs.lemmas.Str.{IsUtf8-from_ascii}
 use Rattle.std.proofs.lemmas.List.{take_more, length-drop, drop-drop}
 use Rattle.std.proofs.lemmas.List.Folds.{list_all-append}
-use Rattle.std.proofs.lemmas.Bool.{and_parts, and_right}
-use Rattle.std.proofs.lemmas.Bool.Decides.{nat_tests}
-use Rattle.ksv_schema.specs.Keys.{is_letter, is_id_byte, is_id}
-use Rattle.ksv_schema.specs.KeyTexts.{names_in, ids_of}
+use Rattle.std.proofs.lemmas.Bool.{and_right}
+use Rattle.ksv_schema.specs.Keys.{is_letter, is_id_byte}
+use Rattle.ksv_schema.specs.KeyTexts.{ids_of}
 use Rattle.ksv_schema.specs.KeyCode.{begins_with_colons, IsFirstName}
 
 -- ---- one name

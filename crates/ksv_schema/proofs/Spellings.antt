@@ -1,8 +1,8 @@
 -- What reading a text answers is what the text is taken for.
-use Rattle.std.proofs.Common.{◌≡◌, ℕ, List, Option, Some, None, refl, sym}
+use Rattle.ksv_schema.proofs.Common.{◌≡◌, ℕ, List, Option, Some, None, refl, sym, expression_of}
 use Rattle.ksv_expr_tree.specs.Tree.{Tree, TypeTree}
 use Rattle.ksv_expr_syntax.specs.Text.{SpellsText, SpellsTypeText}
-use Rattle.ksv_schema.specs.Expressions.{expression_of, type_of}
+use Rattle.ksv_schema.specs.Expressions.{type_of}
 use Rattle.ksv_schema.proofs.Expressions.{expression_is_spelled, spelled_is_expression, type_is_spelled, spelled_is_type}
 
 pub expression_is : (text : List ℕ) (e : Tree) → SpellsText text e → Some e ≡ expression_of text

@@ -1,10 +1,7 @@
 -- Ids are texts.
-use Rattle.std.proofs.Common.{◌≡◌, ℕ, Bool, true, cond, List, ap, Some, None}
-use Rattle.std.specs.Str.{is_utf8}
+use Rattle.ksv_schema.proofs.Common.{◌≡◌, ℕ, Bool, true, cond, List, ap, Some, None, is_utf8, is_id, as_text}
 use Rattle.std.proofs.lemmas.Str.{is_utf8-from_IsUtf8}
-use Rattle.ksv_schema.specs.Keys.{is_id}
 use Rattle.ksv_schema.proofs.Paths.{id_is_utf8}
-use Rattle.ksv_desc.specs.Description.{as_text}
 
 pub as_text_is : (bs : List ℕ) → is_utf8 bs ≡ true → as_text bs ≡ Some bs
 unfolding as_text

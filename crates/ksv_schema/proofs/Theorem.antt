@@ -1,14 +1,12 @@
 -- What the least fault of a tree, and the description that is built without one, are to the tree.
-use Rattle.std.proofs.Common.{◌≡◌, ℕ, false, List, [], sym, ap, subst, ◌∙◌, refl, Option, Some, None, arith}
-use Rattle.std.specs.Prelude.{nat_lt, ◌==◌, ◌||◌, ◌&&◌, ◌≢◌, All, Contains}
-use Rattle.std.proofs.lemmas.Bool.Decides.{nat_tests}
-use Rattle.ksv_yaml_tree.specs.Tree.{Tree}
+use Rattle.ksv_schema.proofs.Common.{◌≡◌, ℕ, false, List, [], sym, ap, subst, ◌∙◌, refl, Option, Some, None, arith, nat_lt, ◌==◌, ◌||◌, ◌&&◌, nat_tests, Tree}
+use Rattle.ksv_schema.proofs.Common.{Fault, noted, Description, IsThere}
+use Rattle.std.specs.Prelude.{◌≢◌, All, Contains}
 use Rattle.ksv_schema_names.specs.Rows.{declared_in}
-use Rattle.ksv_schema.specs.Faults.{Fault, is_below, noted}
+use Rattle.ksv_schema.specs.Faults.{is_below}
 use Rattle.ksv_schema.specs.Description.{faults_of, faults, stated_by, stated}
-use Rattle.ksv_desc.specs.Description.{Description}
 use Rattle.ksv_schema.specs.Outcome.{States, Refuses}
-use Rattle.ksv_desc.specs.Resolved.{IsThere, IsResolved}
+use Rattle.ksv_desc.specs.Resolved.{IsResolved}
 use Rattle.ksv_schema.proofs.Least.{nothing_noted, noted_least}
 use Rattle.ksv_schema.proofs.Good.{front, back, is_there}
 use Rattle.ksv_schema.proofs.OwnNames.{ids_are_texts}

@@ -1,30 +1,24 @@
 -- Without faults each encoding in force is one that there is, and each enum has the numbers of its entries.
-use Rattle.std.proofs.Common.{◌≡◌, ℕ, zero, suc, ◌+◌, ℤ, Bool, true, false, cond, List, [], ◌∷◌, sym, ap, ◌∙◌, refl, Option, Some, None}
-use Rattle.std.specs.Prelude.{codes, is_some, option_and_then, find, slice_get, take}
-use Rattle.std.specs.Option.{option_map_or}
+use Rattle.ksv_schema.proofs.Common.{◌≡◌, ℕ, zero, suc, ◌+◌, Bool, true, false, cond, List, [], ◌∷◌, sym, ap, ◌∙◌, refl, Option, Some, None, codes, is_some}
+use Rattle.ksv_schema.proofs.Common.{option_and_then, slice_get, option_map_or, Pair, line_of, text_of, entry_at, Whole, LeadingZero, NoNumeral, text_at}
+use Rattle.ksv_schema.proofs.Common.{entries_at, Row, keys_of, Declared, is_bound, form_among, form_in, is_ignored, is_id, bad_value, left_out, form_faults}
+use Rattle.ksv_schema.proofs.Common.{constant, enum, type_faults, all_types_faults, all_enums, distinct_behind, Description, Enum, IsThere}
+use Rattle.std.proofs.Common.{ℤ}
+use Rattle.std.specs.Prelude.{find, take}
 use Rattle.std.specs.Ordering.{int_eq}
 use Rattle.std.proofs.lemmas.Bool.{both_ways}
 use Rattle.std.proofs.lemmas.Bool.Decides.{Decides-int_eq}
-use Rattle.ksv_yaml_tree.specs.Tree.{Pair, line_of, text_of, entry_at}
 use Rattle.ksv_yaml_tree.specs.declared.numeral.Numeral.{Numeral}
-use Rattle.ksv_yaml_tree.specs.declared.numeral.Numeral.TheVariants.{Whole, LeadingZero, NoNumeral}
 use Rattle.ksv_yaml_tree.specs.Numerals.{signed_number}
-use Rattle.ksv_yaml_tree.specs.Keys.{text_at, entries_at}
-use Rattle.ksv_schema_names.specs.Rows.{Row, keys_of, Declared}
 use Rattle.ksv_schema_names.specs.Types.{keys_at, setting, encoding_of}
 use Rattle.ksv_schema_names.specs.Enums.{whole_of, number_of, is_named, number_of_id}
 use Rattle.ksv_schema_names.specs.Numbered.{enum_member}
-use Rattle.ksv_schema_names.proofs.Found.{is_bound}
 use Rattle.ksv_schema.specs.declared.keys.forms.Form.TheVariants as forms
 use Rattle.ksv_schema.specs.declared.keys.forms.MappingKind.TheVariants as kinds
-use Rattle.ksv_schema.specs.Keys.{form_among, form_in, is_ignored, is_id}
 use Rattle.ksv_schema.specs.KeyTexts.{encoding_named}
-use Rattle.ksv_schema.specs.Faults.{bad_value, left_out}
-use Rattle.ksv_schema.specs.Rules.{form_faults}
-use Rattle.ksv_schema.specs.Description.{whole, id_text, id, entry_id, constant, enum, is_root, type_faults, all_types_faults, all_enums}
-use Rattle.ksv_desc.specs.Names.{distinct_behind}
-use Rattle.ksv_desc.specs.Description.{Description, Numbered, Enum}
-use Rattle.ksv_desc.specs.Resolved.{IsThere, IsMemberOf}
+use Rattle.ksv_schema.specs.Description.{whole, id_text, id, entry_id, is_root}
+use Rattle.ksv_desc.specs.Description.{Numbered}
+use Rattle.ksv_desc.specs.Resolved.{IsMemberOf}
 use Rattle.ksv_desc.proofs.Tabled.{is_table}
 use Rattle.ksv_schema.proofs.Good.{front, back, IsGood, gives_good, wrong_good, also_good, made_good, both_good, if_good, or_good, must_good, text_good}
 use Rattle.ksv_schema.proofs.Good.{mapping_good, there_map, there_bind, EachOf, each_at, each_there, each_good, each_from_good}

@@ -62,6 +62,7 @@
 //! - `Both`: two readings one after the other
 //! - `Bytes`: numbers of one byte, and the items of `contents`
 //! - `CaseKeys`: the forms of an expression as keys of `cases`
+//! - `Common`: what many of them name, of definitions and of other crates
 //! - `Each`: a loop that reads each element of a list
 //! - `Enums`: enums have no names after dots
 //! - `Expressions`: what a text is taken for is what it spells

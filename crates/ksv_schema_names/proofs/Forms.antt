@@ -1,7 +1,8 @@
 -- The faults of an expression, form by form.
-use Rattle.std.proofs.Common.{◌≡◌, ℕ, suc, List, [], ◌∷◌, ◌++◌, map, length, Option, refl, sym, ap, ◌∙◌, not, is_none, string_bytes, Box, Global, String, Vec}
-use Rattle.std.specs.List.{flat_map}
-use Rattle.ksv_expr_tree.specs.declared.tree.Expr.{Expr, Unary', Binary', Logical', Choice', Field', SpecialField', Index', Cast'}
+use Rattle.ksv_schema_names.proofs.Common.{◌≡◌, ℕ, suc, List, [], ◌∷◌, ◌++◌, map, length, Option, refl, sym, ap, ◌∙◌, is_none, flat_map, Expr, Tree, view}
+use Rattle.ksv_schema_names.proofs.Common.{path_of, Declared, NameFault, Unknown, Other, part_faults, least}
+use Rattle.std.proofs.Common.{not, string_bytes, Box, Global, String, Vec}
+use Rattle.ksv_expr_tree.specs.declared.tree.Expr.{Unary', Binary', Logical', Choice', Field', SpecialField', Index', Cast'}
 use Rattle.ksv_expr_tree.specs.declared.tree.Expr.TheVariants as made
 use Rattle.ksv_expr_tree.specs.declared.tree.Literal.{Literal}
 use Rattle.ksv_expr_tree.specs.declared.tree.Name.{Name}
@@ -11,14 +12,10 @@ use Rattle.ksv_expr_tree.specs.declared.tree.SpecialName.{SpecialName}
 use Rattle.ksv_expr_tree.specs.declared.tree.UnaryOperator.{UnaryOperator}
 use Rattle.ksv_expr_tree.specs.declared.tree.BinaryOperator.{BinaryOperator}
 use Rattle.ksv_expr_tree.specs.declared.tree.LogicalOperator.{LogicalOperator}
-use Rattle.ksv_expr_tree.specs.Tree.{Tree, view, path_of, member_of, arguments_of}
-use Rattle.ksv_schema_names.specs.Rows.{Declared}
+use Rattle.ksv_expr_tree.specs.Tree.{member_of, arguments_of}
 use Rattle.ksv_schema_names.specs.Members.{member_named}
-use Rattle.ksv_schema_names.specs.declared.position.NameFault.{NameFault}
-use Rattle.ksv_schema_names.specs.declared.position.NameFault.TheVariants.{Unknown}
 use Rattle.ksv_schema_names.specs.declared.position.Position.{Position}
-use Rattle.ksv_schema_names.specs.Names.{Behind, Dot, Other, part_faults, list_faults, wrong_if, special_faults, special_field_faults, is_member, cast_faults}
-use Rattle.ksv_schema_names.specs.Names.{is_call, least}
+use Rattle.ksv_schema_names.specs.Names.{Behind, Dot, list_faults, wrong_if, special_faults, special_field_faults, is_member, cast_faults, is_call}
 use Rattle.ksv_desc.specs.Resolved.{count}
 use Rattle.ksv_schema_names.specs.Code.{faults_at}
 use Rattle.ksv_schema_names.proofs.Noted.{least_then}

@@ -1,13 +1,12 @@
 -- What is found leads somewhere: places in lists, types, names, enums' members.
-use Rattle.std.proofs.Common.{◌≡◌, ℕ, zero, suc, ◌+◌, ◌<◌, Bool, true, false, cond, ◌&&◌, List, [], ◌∷◌, ◌++◌, map, length, Option, Some, None, is_some}
-use Rattle.std.proofs.Common.{is_none, slice_get, option_and_then, refl, sym, ap, ◌∙◌, arith}
-use Rattle.std.specs.List.{position_from, list_all}
-use Rattle.std.specs.Option.{option_map_or}
-use Rattle.std.specs.Str.{bytes_eq}
+use Rattle.ksv_schema_names.proofs.Common.{◌≡◌, ℕ, zero, suc, ◌+◌, ◌<◌, Bool, true, false, cond, ◌&&◌, List, [], ◌∷◌, ◌++◌, map, length, Option, Some, None}
+use Rattle.ksv_schema_names.proofs.Common.{is_none, refl, sym, ap, ◌∙◌, arith, position_from, option_map_or, bytes_eq, Row, row_in}
+use Rattle.std.proofs.Common.{is_some, slice_get, option_and_then}
+use Rattle.std.specs.List.{list_all}
 use Rattle.std.proofs.lemmas.Bool.{and_parts}
 use Rattle.std.proofs.lemmas.Option.{slice_get_within}
 use Rattle.std.proofs.lemmas.Slice.Eq.{bytes_eq-Decides}
-use Rattle.ksv_schema_names.specs.Rows.{Row, is_within, row_in}
+use Rattle.ksv_schema_names.specs.Rows.{is_within}
 use Rattle.ksv_schema_names.specs.Types.{nearest_row, root_named, type_along, type_named}
 
 -- ---- options and lists

@@ -1,5 +1,6 @@
 -- Lemmas.
 -- Lemmas by subject.
+pub mod Common
 pub mod Weight
 pub mod Placed
 pub mod Lookup

@@ -1,14 +1,12 @@
 -- Names that are looked up.
-use Rattle.std.proofs.Common.{◌≡◌, ◌∙◌, ap, sym, refl, ℕ, zero, suc, ◌+◌, ◌<◌, Bool, true, false, cond, length, List, [], ◌∷◌, ◌++◌, map, Option, Some}
-use Rattle.std.proofs.Common.{append_assoc, arith}
-use Rattle.std.specs.Prelude.{find, filter, count_by}
-use Rattle.std.specs.Option.{option_map_or}
+use Rattle.ksv_schema_names.proofs.Common.{◌≡◌, ◌∙◌, ap, sym, refl, ℕ, zero, suc, ◌+◌, ◌<◌, Bool, true, false, cond, length, List, [], ◌∷◌, ◌++◌, map, Option}
+use Rattle.ksv_schema_names.proofs.Common.{Some, arith, find, option_map_or, Row, member_of}
+use Rattle.std.proofs.Common.{append_assoc}
+use Rattle.std.specs.Prelude.{filter, count_by}
 use Rattle.std.proofs.lemmas.List.{append-nil, map-append}
 use Rattle.std.proofs.lemmas.List.Sums.{length-filter}
 use Rattle.ksv_schema_names.specs.declared.members.Member.{Member as MemberOfCode}
-use Rattle.ksv_schema_names.specs.Rows.{Row}
 use Rattle.ksv_schema_names.specs.Members.{is_in_params, is_parameter}
-use Rattle.ksv_schema_names.specs.View.{member_of}
 use Rattle.ksv_schema_names.specs.Types.{outer_of, around, enum_behind, enum_from}
 
 -- the last name of a path is that of the enum

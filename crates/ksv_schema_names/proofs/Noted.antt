@@ -1,12 +1,12 @@
 -- The least fault, of one part after the other.
-use Rattle.std.proofs.Common.{◌≡◌, ℕ, suc, if◌then◌else◌, ◌+◌, ◌<◌, ◌≤◌, List, [], ◌∷◌, ◌++◌, Option, Some, map, length, get_or, drop, refl, sym, ap, ◌∙◌}
-use Rattle.std.proofs.Common.{add-one, drop-cons}
-use Rattle.std.specs.List.{flat_map, list_any}
+use Rattle.ksv_schema_names.proofs.Common.{◌≡◌, ℕ, suc, ◌+◌, ◌<◌, ◌≤◌, List, [], ◌∷◌, ◌++◌, Option, Some, map, length, get_or, drop, refl, sym, ap, ◌∙◌}
+use Rattle.ksv_schema_names.proofs.Common.{flat_map, NameFault, Unknown, least}
+use Rattle.std.proofs.Common.{if◌then◌else◌, add-one, drop-cons}
+use Rattle.std.specs.List.{list_any}
 use Rattle.std.proofs.lemmas.List.{drop_all}
 use Rattle.std.proofs.lemmas.List.Sums.{fold-append}
-use Rattle.ksv_schema_names.specs.declared.position.NameFault.{NameFault}
-use Rattle.ksv_schema_names.specs.declared.position.NameFault.TheVariants.{Unknown, LeftOut}
-use Rattle.ksv_schema_names.specs.Names.{lesser, least}
+use Rattle.ksv_schema_names.specs.declared.position.NameFault.TheVariants.{LeftOut}
+use Rattle.ksv_schema_names.specs.Names.{lesser}
 use Rattle.ksv_schema_names.specs.Resolved.{is_unknown, LeastIsTold}
 
 pub least_none : (o : Option NameFault) → least o [] ≡ o

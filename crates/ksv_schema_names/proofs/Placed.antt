@@ -1,14 +1,12 @@
 -- The table of the places of rows.
-use Rattle.std.proofs.Common.{◌≡◌, ℕ, ◌<◌, Bool, ◌&&◌, List, [], map, length, drop, Option, Some, None, sym, ap, ◌∙◌, arith}
+use Rattle.ksv_schema_names.proofs.Common.{◌≡◌, ℕ, ◌<◌, Bool, ◌&&◌, List, map, length, drop, Option, Some, None, sym, ap, ◌∙◌, arith, position_from}
+use Rattle.ksv_schema_names.proofs.Common.{bytes_eq, Row, row_in, row_of}
 use Rattle.std.specs.Prelude.{IfSome}
-use Rattle.std.specs.List.{position_from}
-use Rattle.std.specs.Str.{bytes_eq}
 use Rattle.std.proofs.lemmas.List.{length-map}
 use Rattle.ksv_desc.proofs.Firsts as firsts
 use Rattle.ksv_schema_names.proofs.Found.{row_within}
 use Rattle.ksv_schema_names.specs.declared.row.Row.{Row as RowOfCode}
-use Rattle.ksv_schema_names.specs.Rows.{Row, is_within, row_in}
-use Rattle.ksv_schema_names.specs.View.{row_of}
+use Rattle.ksv_schema_names.specs.Rows.{is_within}
 use Rattle.ksv_schema_names.specs.Placed.{Places, place_at, ArePlaced}
 
 -- whether a row is in a type and has a name

@@ -1,25 +1,23 @@
 -- An expression of which nothing is wrong leads somewhere with each name that is numbered.
-use Rattle.std.proofs.Common.{◌≡◌, ℕ, zero, suc, ◌<◌, ℤ, Bool, true, false, not, cond, List, [], ◌∷◌, ◌++◌, map, Option, Some, None, is_some, is_none}
-use Rattle.std.proofs.Common.{slice_get, option_and_then, option_map, refl, sym, ap, subst, ◌∙◌, arith, length}
-use Rattle.std.specs.Option.{option_map_or}
+use Rattle.ksv_schema_names.proofs.Common.{◌≡◌, ℕ, zero, suc, ◌<◌, Bool, true, false, cond, List, [], ◌∷◌, ◌++◌, map, Option, Some, None, is_none, refl, sym}
+use Rattle.ksv_schema_names.proofs.Common.{ap, ◌∙◌, arith, length, option_map_or, bytes_eq, Tree, members_of, Row, Declared, NameFault, Unknown, Other}
+use Rattle.ksv_schema_names.proofs.Common.{part_faults, numbered_word, numbered}
+use Rattle.std.proofs.Common.{ℤ, not, is_some, slice_get, option_and_then, option_map, subst}
 use Rattle.std.specs.List.{list_all}
 use Rattle.std.proofs.lemmas.List.{map-append}
-use Rattle.std.specs.Str.{bytes_eq}
 use Rattle.std.proofs.lemmas.Bool.{and_parts, not-false}
 use Rattle.std.proofs.lemmas.List.Folds.{list_all-append}
-use Rattle.ksv_expr_tree.specs.Tree.{Tree, literal, named, special, member, unary, binary, logical, choice, field, special_field, call, index, cast, Arguments}
+use Rattle.ksv_expr_tree.specs.Tree.{literal, named, special, member, unary, binary, logical, choice, field, special_field, call, index, cast, Arguments}
 use Rattle.ksv_expr_tree.specs.Tree.{no_arguments, argument, Word, MemberPath, TypePath}
-use Rattle.ksv_schema_names.specs.Members.{Member, members_of, all_members, members_within, member_named}
+use Rattle.ksv_schema_names.specs.Members.{Member, all_members, members_within, member_named}
 use Rattle.ksv_schema_names.specs.Types.{type_named}
 use Rattle.ksv_schema_names.specs.Enums.{number_of_id}
-use Rattle.ksv_schema_names.specs.Rows.{Row, Declared}
-use Rattle.ksv_schema_names.specs.declared.position.NameFault.{NameFault}
-use Rattle.ksv_schema_names.specs.declared.position.NameFault.TheVariants.{Unknown, LeftOut}
+use Rattle.ksv_schema_names.specs.declared.position.NameFault.TheVariants.{LeftOut}
 use Rattle.ksv_schema_names.specs.declared.position.Position.{Position}
 use Rattle.ksv_schema_names.specs.BuiltIn.{built_in_at}
-use Rattle.ksv_schema_names.specs.Names.{Behind, Dot, Other, wrong_if, special_field_faults, enum_at, is_member, cast_faults, is_call, part_faults, list_faults}
+use Rattle.ksv_schema_names.specs.Names.{Behind, Dot, wrong_if, special_field_faults, enum_at, is_member, cast_faults, is_call, list_faults}
 use Rattle.ksv_desc.specs.Resolved.{count}
-use Rattle.ksv_schema_names.specs.Numbered.{numbered_word, enum_member, given_member, numbered, all_numbered}
+use Rattle.ksv_schema_names.specs.Numbered.{enum_member, given_member, all_numbered}
 use Rattle.ksv_desc.specs.Names.{number_in, dotted, all_dotted}
 use Rattle.ksv_expr_tree.specs.declared.tree.EnumMember.{EnumMember}
 use Rattle.ksv_desc.specs.Description.{Description}

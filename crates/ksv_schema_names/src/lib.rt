@@ -43,6 +43,7 @@
 //!
 //! Lemmas (`proofs/`):
 //!
+//! - `Common`: what many of them name, of definitions and of other crates
 //! - `Forms`: the faults of an expression, form by form
 //! - `Found`: what is found is there: types, names, members of enums
 //! - `Lookup`: lookup of names

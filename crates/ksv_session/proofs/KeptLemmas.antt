@@ -4,7 +4,7 @@ use Rattle.std.proofs.Common.{filter, fold, Option, Some, None, if◌then◌else
 use Rattle.std.specs.Cmp.{nat_eq_equiv}
 use Rattle.std.specs.Prelude.{IsTrue}
 use Rattle.std.specs.List.{AllByRecursion, IsDistinct, flat_map, list_any, sum_by}
-use Rattle.std.proofs.lemmas.List.{length-map, map-append}
+use Rattle.std.proofs.lemmas.List.{length-map, map-append, append-nil}
 use Rattle.std.proofs.lemmas.Map.Keys.{IsDistinct-cons, IsDistinct-head, IsDistinct-push, IsDistinct-tail}
 use Rattle.std.proofs.lemmas.Map.Made.{length-from_same_keys}
 use mathlib.Core.Path.{fun_ext}
@@ -26,8 +26,9 @@ use Rattle.ksv_memo_rules.specs.declared.rules.Outcome.TheVariants.{Answered, Ci
 use Rattle.ksv_memo_rules.proofs.Evals.{eqb_true}
 use Rattle.ksv_memo.proofs.Forgetting.{left_after-same}
 use Rattle.ksv_memo_rules.proofs.Keeping.{AreDistinct-none}
-use Rattle.ksv_memo.proofs.Moves.{++-nil, fresh-in, fresh-nil, fresh-out}
+use Rattle.ksv_memo.proofs.Moves.{fresh-in, fresh-nil, fresh-out}
 use Rattle.ksv_memo.proofs.Questions.{among-fresh}
+use Rattle.ksv_memo.proofs.Places.{fresh-same}
 use Rattle.ksv_memo_rules.proofs.Standing.{law_on}
 use Rattle.ksv_nodes.specs.declared.node.Node.{Node}
 use Rattle.ksv_nodes.specs.Numbers.{node_number}
@@ -38,7 +39,7 @@ use Rattle.ksv_rule_meaning.specs.Lemmas.Lawful.{described_lawful}
 use Rattle.ksv_rule_meaning.proofs.Direct.{asks_are_direct}
 use Rattle.ksv_questions.specs.Engines.{HasAsked, HasAskedSome, Ruled, completed_by, is_circle, meets_circle as meets_circle_by_replies, turns_with, world}
 use Rattle.ksv_questions.proofs.Asked.{some_none, some_of}
-use Rattle.ksv_questions.proofs.Fresh.{among_more, fresh_same}
+use Rattle.ksv_questions.proofs.Fresh.{among_more}
 use Rattle.ksv_questions.specs.Answers.{asking, asks}
 use Rattle.ksv_questions.specs.Writing.{put_question}
 use Rattle.ksv_commands.specs.Commands.{is_question}
@@ -86,7 +87,7 @@ the_same ns ms once each same = record {
 }
 
 once_with : (kept ms : List Node) → IsEachOnce kept → IsEachOnce (kept ++ fresh node_number kept ms)
-once_with kept [] once = subst IsEachOnce (sym (ap (λ ns. kept ++ ns) (fresh-nil node_number kept) ∙ ++-nil kept)) once
+once_with kept [] once = subst IsEachOnce (sym (ap (λ ns. kept ++ ns) (fresh-nil node_number kept) ∙ append-nil kept)) once
 once_with kept (m ∷ ms) once = by (once_with kept ms once) (λ more. once_with (kept ++ m ∷ []) ms more) (is_among node_number kept m) refl
   where
     more : is_among node_number kept m ≡ false → IsEachOnce (kept ++ m ∷ [])
@@ -187,7 +188,7 @@ module _ (d : Description) (b : List ℕ) where
         ap (λ c. if c then None else counted (costs w (fresh node_number old (completed_by w ns))) (Some 0)) (circles_are ns)
         ∙ ap (λ t. if list_any (meets_circle d b []) ns then None else t)
         (ap (λ ms. counted (costs w ms) (Some 0))
-        (fresh_same node_number old kept (completed_by w ns) same.same ∙ ap (fresh node_number kept) (completed_are ns))
+        (fresh-same node_number old kept (completed_by w ns) same.same ∙ ap (fresh node_number kept) (completed_are ns))
         ∙ ap (λ k. counted k (Some 0)) (costs_are (fresh node_number kept (all_completed d b ns)))
         ∙ counted_is (sum_by (calls d b) (fresh node_number kept (all_completed d b ns))))
 

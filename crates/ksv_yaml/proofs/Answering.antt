@@ -1,23 +1,20 @@
 -- What the steps of a reader's code say in the words of its contract.
-use Rattle.std.proofs.Common.{◌≡◌, ℕ, Bool, true, false, List, [], ◌∷◌, ◌++◌, length, arith, map, Option, None, Result, Ok, Err, refl, sym, ap, subst, ◌∙◌}
+use Rattle.ksv_yaml.proofs.Common.{◌≡◌, ℕ, Bool, true, false, List, [], ◌∷◌, ◌++◌, length, arith, map, Option, None, refl, sym, ap, subst, ◌∙◌, ◌==◌, Tree}
+use Rattle.ksv_yaml.proofs.Common.{Pair, view, pair, is_among, keys_of, HoldsKeys, Got, tokens_view}
+use Rattle.std.proofs.Common.{Result, Ok, Err}
 use Rattle.std.proofs.lemmas.List.{map_push}
-use Rattle.std.specs.Prelude.{◌==◌, not, Vec}
+use Rattle.std.specs.Prelude.{not, Vec}
 use Rattle.std.specs.HashSet.{HashSet}
 use Rattle.std.specs.declared.alloc.Global.{Global}
 use Rattle.std.specs.Borrow.{Bor}
 use Rattle.ksv_yaml.specs.declared.fault.ReadFault.{ReadFault}
 use Rattle.ksv_yaml_tree.specs.declared.tree.Yaml.{Yaml}
 use Rattle.ksv_yaml_tree.specs.declared.tree.Entry.{Entry}
-use Rattle.ksv_yaml_tree.specs.Tree.{Tree, Pair}
-use Rattle.ksv_yaml_tree.specs.View.{view, pair}
-use Rattle.ksv_yaml.specs.Reading.{is_among}
-use Rattle.ksv_yaml.specs.Code.{keys_of, Fails, Gives}
-use Rattle.ksv_yaml.specs.Keys.{HoldsKeys}
+use Rattle.ksv_yaml.specs.Code.{Fails, Gives}
 use Rattle.ksv_yaml.proofs.Joins.{keys_push}
-use Rattle.ksv_yaml_scan.specs.Got.{Got}
 use Rattle.ksv_yaml_scan.specs.declared.flow.Token.{Token as CodeToken}
 use Rattle.ksv_yaml_scan.specs.declared.flow.Part.{Part}
-use Rattle.ksv_yaml_scan.specs.Views.{part_view, tokens_view}
+use Rattle.ksv_yaml_scan.specs.Views.{part_view}
 
 -- what a callee's failure says of its caller
 pub fails_on : {L K A B : Type 0} (P : Option (Got L A) → Type 0) (Q : Option (Got K B) → Type 0) (e : ReadFault) → (P None → Q None) → Fails P e → Fails Q e

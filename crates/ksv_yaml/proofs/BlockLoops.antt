@@ -1,28 +1,23 @@
 -- Where the reader of blocks is.
-use Rattle.std.proofs.Common.{◌≡◌, ℕ, zero, suc, ◌+◌, ◌-◌, ◌*◌, ◌≤◌, ◌<◌, Bool, true, false, List, [], ◌∷◌, ◌++◌, length, Option, None, Result, Ok, Err, IfOk}
-use Rattle.std.proofs.Common.{◌≢◌, refl, sym, ap, subst, ◌∙◌, arith}
-use Rattle.std.specs.Prelude.{◌==◌, ◌&&◌, nat_lt}
+use Rattle.ksv_yaml.proofs.Common.{◌≡◌, ℕ, zero, suc, ◌+◌, ◌-◌, ◌*◌, ◌≤◌, ◌<◌, Bool, true, false, List, [], ◌∷◌, ◌++◌, length, Option, None, ◌≢◌, refl, sym, ap}
+use Rattle.ksv_yaml.proofs.Common.{subst, ◌∙◌, arith, ◌==◌, ◌&&◌, nat_lt, Tree, Text, Seq, Map, Items, no_items, item, Entries, no_entries, entry, Pair}
+use Rattle.ksv_yaml.proofs.Common.{items_of, entries_of, view, at_column, from_here, deeper, is_among, inlined, unless_level, value_here, node, node_by}
+use Rattle.ksv_yaml.proofs.Common.{entries, entries_by, more_entries, value, value_below, items, items_by, more_items, item_at, item_below, weight, keys_of}
+use Rattle.ksv_yaml.proofs.Common.{at_true, at_false, pick_true, pick_false, Got, got, ◌>>=◌, Line, is_quiet, loud, InlineKind, Dashed, Start, Nothing, Dash}
+use Rattle.ksv_yaml.proofs.Common.{start_of, is_dash, is_key, lines_view}
+use Rattle.std.proofs.Common.{Result, Ok, Err, IfOk}
 use Rattle.std.specs.Borrow.{Bor}
-use Rattle.std.proofs.lemmas.Bool.{eq-eqb, lt-ltb, and_from, and_left, and_right}
+use Rattle.std.proofs.lemmas.Bool.{eq-eqb, lt-ltb, and_from, and_left, and_right, le-ltb}
 use Rattle.ksv_yaml.specs.declared.fault.ReadFault.{ReadFault}
 use Rattle.ksv_yaml_tree.specs.declared.tree.Yaml.{Yaml}
-use Rattle.ksv_yaml_tree.specs.Tree.{Tree, Text, Seq, Map, Items, no_items, item, Entries, no_entries, entry, Pair}
-use Rattle.ksv_yaml_tree.specs.View.{items_of, entries_of, view}
-use Rattle.ksv_yaml.specs.Grammar.{at_column, from_here}
-use Rattle.ksv_yaml.specs.Reading.{deeper, is_among, inlined, unless_level, value_here, node, node_by, entries, entries_by, more_entries, value, value_below}
-use Rattle.ksv_yaml.specs.Reading.{items, items_by, more_items, item_at, item_below, weight}
-use Rattle.ksv_yaml.specs.Code.{keys_of, GivesInline, GivesHere, NodeIs, EntriesIs, ValueIs, ItemsIs, ItemIs}
-use Rattle.ksv_yaml.proofs.Steps.{one_less, two_less, Took}
+use Rattle.ksv_yaml.specs.Code.{GivesInline, GivesHere, NodeIs, EntriesIs, ValueIs, ItemsIs, ItemIs}
+use Rattle.ksv_yaml.proofs.Steps.{one_less, two_less, not_level, Took}
 use Rattle.ksv_yaml.proofs.Answering.{gives_on}
 use Rattle.ksv_yaml.proofs.InlineSound.{inlined_sound}
 use Rattle.ksv_yaml.proofs.Joins.{with_items, with_entries, with_no_items, with_no_entries, regroup_items, regroup_entries, last_items, last_entries, keys_push}
 use Rattle.ksv_yaml.proofs.Joins.{deeper_one, deeper_none}
-use Rattle.ksv_yaml_scan.proofs.Choices.{at_true, at_false, pick_true, pick_false}
 use Rattle.ksv_yaml_scan.specs.declared.line.Line.{Line as CodeLine}
-use Rattle.ksv_yaml_scan.specs.Got.{Got, got, ◌>>=◌}
-use Rattle.ksv_yaml_scan.specs.Lines.{Line, is_quiet, loud}
-use Rattle.ksv_yaml_scan.specs.Starts.{InlineKind, Dashed, Start, Nothing, Dash, Key, Inline, Refused, start_of, is_dash, is_key}
-use Rattle.ksv_yaml_scan.specs.Views.{lines_view}
+use Rattle.ksv_yaml_scan.specs.Starts.{Key, Inline, Refused}
 
 -- ---- what is left is no more than what there was
 
@@ -63,11 +58,8 @@ level_left : {A : Type 0} (m : ℕ) (ls : List Line) (o : Option A) → EndsBefo
 level_left m [] o h = refl
 level_left m (l ∷ ls) o h = pick_true (nat_lt l.indent m) o None (lt-ltb l.indent m h)
 
-not_less : (a b : ℕ) → b ≤ a → nat_lt a b ≡ false
-not_less a b h = grind arith
-
 level_stays : {A : Type 0} (m : ℕ) (ls : List Line) (o : Option A) (l : Line) (rest : List Line) → ls ≡ l ∷ rest → m ≤ l.indent → unless_level m ls o ≡ None
-level_stays {A} m ls o l rest e h = ap (λ (ls : List Line). unless_level m ls o) e ∙ pick_false (nat_lt l.indent m) o None (not_less l.indent m h)
+level_stays {A} m ls o l rest e h = ap (λ (ls : List Line). unless_level m ls o) e ∙ pick_false (nat_lt l.indent m) o None (le-ltb l.indent m h)
 
 -- by what begins on the line
 node_start : (d n : ℕ) (l : Line) (ls : List Line) (s : Start) → start_of l.content ≡ s → (f : ℕ) → 1 < f
@@ -164,16 +156,13 @@ value_end {d} {l} {behind} {ls} below e z w = record {
       i.2 ∙ ap (λ (r : List Line). value_below (suc i.0) d l r) w ∙ ap (λ (r : List Line). got (Text l.number false []) r) (sym w);
 }
 
-not_level : (a b : ℕ) → a < b → (a == b) ≡ false
-not_level a b h = grind arith
-
 pub value_above : {d : ℕ} {l : Line} {behind : List ℕ} {ls : List Line} (below : List Line) (h : Line) (hs : List Line) → behind ≡ [] → below ≡ loud ls
     → below ≡ h ∷ hs → h.indent < l.indent → ValueIs d l behind ls (got (Text l.number false []) below)
 value_above {d} {l} {behind} {ls} below h hs e z w a = record {
   is = λ f g.
       let i = value_down d l behind ls below e z f (omega arith) in
       i.2 ∙ ap (λ (r : List Line). value_below (suc i.0) d l r) w
-      ∙ pick_false (nat_lt l.indent h.indent) _ _ (not_less l.indent h.indent (omega arith))
+      ∙ pick_false (nat_lt l.indent h.indent) _ _ (le-ltb l.indent h.indent (omega arith))
       ∙ pick_false ((h.indent == l.indent) && is_dash (start_of h.content)) _ _ (and_left (h.indent == l.indent) _ (not_level h.indent l.indent a))
       ∙ ap (λ (r : List Line). got (Text l.number false []) r) (sym w);
 }
@@ -184,7 +173,7 @@ value_beside {d} {l} {behind} {ls} below h hs e z w a b = record {
   is = λ f g.
       let i = value_down d l behind ls below e z f (omega arith) in
       i.2 ∙ ap (λ (r : List Line). value_below (suc i.0) d l r) w
-      ∙ pick_false (nat_lt l.indent h.indent) _ _ (not_less l.indent h.indent a)
+      ∙ pick_false (nat_lt l.indent h.indent) _ _ (le-ltb l.indent h.indent a)
       ∙ pick_false ((h.indent == l.indent) && is_dash (start_of h.content)) _ _ (and_right (h.indent == l.indent) _ b)
       ∙ ap (λ (r : List Line). got (Text l.number false []) r) (sym w);
 }
@@ -192,7 +181,7 @@ value_beside {d} {l} {behind} {ls} below h hs e z w a b = record {
 level_down : (d : ℕ) (l : Line) (h : Line) (hs : List Line) (f : ℕ) → h.indent ≡ l.indent → is_dash (start_of h.content) ≡ true
     → value_below (suc f) d l (h ∷ hs) ≡ deeper d (λ d. items f d l.indent h hs >>= λ is. got (Seq h.number is.value) is.rest)
 level_down d l h hs f a b =
-    pick_false (nat_lt l.indent h.indent) _ _ (not_less l.indent h.indent (omega (arith, a)))
+    pick_false (nat_lt l.indent h.indent) _ _ (le-ltb l.indent h.indent (omega (arith, a)))
     ∙ pick_true ((h.indent == l.indent) && is_dash (start_of h.content)) _ _ (and_from (h.indent == l.indent) _ (eq-eqb h.indent l.indent a) b)
 
 pub value_level : {d : ℕ} {l : Line} {behind : List ℕ} {ls : List Line} (below : List Line) (h : Line) (hs : List Line) (o : Option (Got Line Items))
@@ -273,7 +262,7 @@ item_beside {d} {l} {k} {tab} {behind} {ls} below h hs e z w a = record {
   is = λ f g.
       let i = item_down d l k tab behind ls below e z f (omega arith) in
       i.2 ∙ ap (λ (r : List Line). item_below (suc i.0) d l r) w
-      ∙ pick_false (nat_lt l.indent h.indent) _ _ (not_less l.indent h.indent a)
+      ∙ pick_false (nat_lt l.indent h.indent) _ _ (le-ltb l.indent h.indent a)
       ∙ ap (λ (r : List Line). got (Text l.number false []) r) (sym w);
 }
 
@@ -389,7 +378,7 @@ entries_end {d} {m} so_far all l ls key behind t left z e a b now v = record {
 deeper_entries : (f d m : ℕ) (seen : List (List ℕ)) (n : Line) (ns : List Line) → 0 < f → m < n.indent → more_entries f d m seen (n ∷ ns) ≡ None
 deeper_entries zero d m seen n ns p h = absurd (omega arith)
 deeper_entries (suc f) d m seen n ns p h =
-    pick_false (nat_lt n.indent m) _ _ (not_less n.indent m (omega arith))
+    pick_false (nat_lt n.indent m) _ _ (le-ltb n.indent m (omega arith))
     ∙ pick_false ((n.indent == m) && is_key (start_of n.content)) _ _ (and_left (n.indent == m) _ (not_equal n.indent m h))
   where
     not_equal : (a b : ℕ) → b < a → (a == b) ≡ false
@@ -407,10 +396,10 @@ entries_deeper {d} {m} so_far l ls key behind t left n ns e a z b now v = record
 level_entries : (f d m : ℕ) (seen : List (List ℕ)) (n : Line) (ns : List Line) (b : Bool) → n.indent ≡ m → is_key (start_of n.content) ≡ b
     → more_entries (suc (suc (suc f))) d m seen (n ∷ ns) ≡ entries (suc (suc f)) d m seen n ns
 level_entries f d m seen n ns true e h =
-    pick_false (nat_lt n.indent m) _ _ (not_less n.indent m (omega (arith, e)))
+    pick_false (nat_lt n.indent m) _ _ (le-ltb n.indent m (omega (arith, e)))
     ∙ pick_true ((n.indent == m) && is_key (start_of n.content)) _ _ (and_from (n.indent == m) _ (eq-eqb n.indent m e) h)
 level_entries f d m seen n ns false e h =
-    pick_false (nat_lt n.indent m) _ _ (not_less n.indent m (omega (arith, e)))
+    pick_false (nat_lt n.indent m) _ _ (le-ltb n.indent m (omega (arith, e)))
     ∙ pick_false ((n.indent == m) && is_key (start_of n.content)) _ _ (and_right (n.indent == m) _ h)
     ∙ sym (no_entry f d m seen n ns (start_of n.content) refl h)
 
@@ -512,7 +501,7 @@ other_items : (f d m : ℕ) (n : Line) (ns : List Line) → 0 < f → n.indent �
     → more_items f d m (n ∷ ns) ≡ got no_items (n ∷ ns)
 other_items zero d m n ns p e h = absurd (omega arith)
 other_items (suc f) d m n ns p e h =
-    pick_false (nat_lt n.indent m) _ _ (not_less n.indent m (omega (arith, e))) ∙ pick_true (n.indent == m) _ _ (eq-eqb n.indent m e)
+    pick_false (nat_lt n.indent m) _ _ (le-ltb n.indent m (omega (arith, e))) ∙ pick_true (n.indent == m) _ _ (eq-eqb n.indent m e)
     ∙ pick_false (is_dash (start_of n.content)) _ _ h
 
 -- a line at the column that is no item
@@ -530,7 +519,7 @@ items_beside {d} {m} so_far all l ls k t left n ns z e s zn en h now v = record 
 
 deeper_items : (f d m : ℕ) (n : Line) (ns : List Line) → 0 < f → m < n.indent → more_items f d m (n ∷ ns) ≡ None
 deeper_items zero d m n ns p h = absurd (omega arith)
-deeper_items (suc f) d m n ns p h = pick_false (nat_lt n.indent m) _ _ (not_less n.indent m (omega arith))
+deeper_items (suc f) d m n ns p h = pick_false (nat_lt n.indent m) _ _ (le-ltb n.indent m (omega arith))
     ∙ pick_false (n.indent == m) _ _ (not_equal n.indent m h)
   where
     not_equal : (a b : ℕ) → b < a → (a == b) ≡ false
@@ -544,7 +533,7 @@ items_deeper {d} {m} so_far l ls k t left n ns e s zn b now v = record {
 }
 
 level_items : (f d m : ℕ) (n : Line) (ns : List Line) → n.indent ≡ m → is_dash (start_of n.content) ≡ true → more_items (suc f) d m (n ∷ ns) ≡ items f d m n ns
-level_items f d m n ns e h = pick_false (nat_lt n.indent m) _ _ (not_less n.indent m (omega (arith, e))) ∙ pick_true (n.indent == m) _ _ (eq-eqb n.indent m e)
+level_items f d m n ns e h = pick_false (nat_lt n.indent m) _ _ (le-ltb n.indent m (omega (arith, e))) ∙ pick_true (n.indent == m) _ _ (eq-eqb n.indent m e)
     ∙ pick_true (is_dash (start_of n.content)) _ _ h
 
 pub items_on : {d m : ℕ} {first : Line} {rest : List Line} (so_far all : List Tree) (l : Line) (ls : List Line) (k : Dashed) (t : Tree) (left : List Line)

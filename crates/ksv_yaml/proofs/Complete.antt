@@ -1,18 +1,15 @@
 -- What is spelled so is read, whatever follows that doesn't go on with it.
-use Rattle.std.proofs.Common.{◌≡◌, ℕ, zero, suc, ◌+◌, ◌*◌, ◌≤◌, ◌<◌, Bool, true, false, List, [], ◌∷◌, ◌++◌, length, Option, Some, refl, sym, ap, subst, ◌∙◌}
-use Rattle.std.proofs.Common.{append_assoc, arith, ◌⊎◌, inl, inr}
-use Rattle.std.specs.Prelude.{◌==◌, ◌&&◌, nat_lt}
-use Rattle.std.proofs.lemmas.Bool.{eq-eqb, lt-ltb, and_from, and_left, and_right}
-use Rattle.ksv_yaml_tree.specs.Tree.{Tree, Text, Seq, Map, Items, no_items, item, Entries, no_entries, entry, AreDistinct}
-use Rattle.ksv_yaml.specs.Grammar.{AreQuiet, Inlined, at_column, from_here, Node, map, seq, inline, Mapping, last, more, Value, empty, below, level, here}
-use Rattle.ksv_yaml.specs.Grammar.{Sequence, only, then, Item, none, under, compact, tabbed}
-use Rattle.ksv_yaml.specs.Reading.{is_among, node, node_by, entries, entries_by, more_entries, value, value_below, value_here, items, items_by, more_items}
-use Rattle.ksv_yaml.specs.Reading.{item_at, item_below, weight, unless_level}
-use Rattle.ksv_yaml_scan.specs.Got.{Got, got, ◌>>=◌}
-use Rattle.ksv_yaml_scan.specs.Lines.{Line, is_nil, shown, is_quiet, loud}
-use Rattle.ksv_yaml_scan.specs.Starts.{InlineKind, Dashed, Start, Nothing, Dash, Key, dash_of, key_of, kind_of, start_by, start_of, is_dash, is_key}
-use Rattle.ksv_yaml.proofs.Steps.{one_less, two_less, Loud, loud_behind}
-use Rattle.ksv_yaml_scan.proofs.Choices.{pick_true, pick_false}
+use Rattle.ksv_yaml.proofs.Common.{◌≡◌, ℕ, zero, suc, ◌+◌, ◌*◌, ◌≤◌, ◌<◌, Bool, true, false, List, [], ◌∷◌, ◌++◌, length, Option, Some, refl, sym, ap, subst}
+use Rattle.ksv_yaml.proofs.Common.{◌∙◌, append_assoc, arith, ◌⊎◌, inl, inr, ◌==◌, ◌&&◌, nat_lt, Tree, Text, Seq, Map, Items, no_items, item, Entries}
+use Rattle.ksv_yaml.proofs.Common.{no_entries, entry, AreDistinct, AreQuiet, Inlined, at_column, from_here, Node, is_among, node, node_by, entries, entries_by}
+use Rattle.ksv_yaml.proofs.Common.{more_entries, value, value_below, value_here, items, items_by, more_items, item_at, item_below, weight, unless_level, Got}
+use Rattle.ksv_yaml.proofs.Common.{got, ◌>>=◌, Line, is_nil, shown, is_quiet, loud, InlineKind, Dashed, Start, Nothing, Dash, start_of, is_dash, is_key}
+use Rattle.ksv_yaml.proofs.Common.{pick_true, pick_false}
+use Rattle.std.proofs.lemmas.Bool.{eq-eqb, lt-ltb, le-ltb, and_from, and_left, and_right}
+use Rattle.ksv_yaml.specs.Grammar.{map, seq, inline, Mapping, last, more, Value, empty, below, level, here, Sequence, only, then, Item, none, under, compact}
+use Rattle.ksv_yaml.specs.Grammar.{tabbed}
+use Rattle.ksv_yaml_scan.specs.Starts.{Key, dash_of, key_of, kind_of, start_by}
+use Rattle.ksv_yaml.proofs.Steps.{one_less, two_less, not_level, Loud, loud_behind}
 use Rattle.ksv_yaml.proofs.Distinct.{AreClear, distinct_clear}
 use Rattle.ksv_yaml.proofs.Sound.{dash_of_is}
 use Rattle.ksv_yaml_scan.proofs.Starts.{dash_start, key_start, kind_start}
@@ -118,18 +115,6 @@ items_turn f d m l ls k t mid is rest ek ev em =
     ∙ ap (λ (o : Option (Got Line Tree)). o >>= λ t. more_items f d m t.rest >>= λ is. got (item t.value is.value) is.rest) ev
     ∙ ap (λ (o : Option (Got Line Items)). o >>= λ is. got (item t is.value) is.rest) em
 
-not_above : (a b : ℕ) → b < a → nat_lt a b ≡ false
-not_above a b h = grind arith
-
-not_deeper : (a b : ℕ) → b ≡ a → nat_lt a b ≡ false
-not_deeper a b h = grind arith
-
-not_after : (a b : ℕ) → b < suc a → nat_lt a b ≡ false
-not_after a b h = grind arith
-
-not_level : (a b : ℕ) → a < b → (a == b) ≡ false
-not_level a b h = grind arith
-
 more_entries_stop : (f d m : ℕ) (seen : List (List ℕ)) (ls : List Line) → 0 < f → Before m ls → more_entries f d m seen ls ≡ got no_entries ls
 more_entries_stop zero d m seen ls p h = absurd (omega arith)
 more_entries_stop (suc f) d m seen [] p h = refl
@@ -138,7 +123,7 @@ more_entries_stop (suc f) d m seen (l ∷ ls) p h = pick_true (nat_lt l.indent m
 more_entries_on : (f d m : ℕ) (seen : List (List ℕ)) (l : Line) (ls : List Line) (key behind : List ℕ) → l.indent ≡ m → start_of l.content ≡ Key key behind
     → more_entries (suc f) d m seen (l ∷ ls) ≡ entries f d m seen l ls
 more_entries_on f d m seen l ls key behind el ek =
-    pick_false (nat_lt l.indent m) _ _ (not_deeper l.indent m (sym el))
+    pick_false (nat_lt l.indent m) _ _ (le-ltb l.indent m (omega arith))
     ∙ pick_true ((l.indent == m) && is_key (start_of l.content)) _ _
     (and_from (l.indent == m) (is_key (start_of l.content)) (eq-eqb l.indent m el) (ap is_key ek))
 
@@ -146,13 +131,13 @@ more_items_stop : (f d m : ℕ) (ls : List Line) → 0 < f → NoItem m ls → m
 more_items_stop zero d m ls p h = absurd (omega arith)
 more_items_stop (suc f) d m [] p h = refl
 more_items_stop (suc f) d m (l ∷ ls) p (q, inl h) = pick_true (nat_lt l.indent m) _ _ (lt-ltb l.indent m h)
-more_items_stop (suc f) d m (l ∷ ls) p (q, inr h) = pick_false (nat_lt l.indent m) _ _ (not_deeper l.indent m (sym h.0))
+more_items_stop (suc f) d m (l ∷ ls) p (q, inr h) = pick_false (nat_lt l.indent m) _ _ (le-ltb l.indent m (omega arith))
     ∙ pick_true (l.indent == m) _ _ (eq-eqb l.indent m h.0) ∙ pick_false (is_dash (start_of l.content)) _ _ h.1
 
 more_items_on : (f d m : ℕ) (l : Line) (ls : List Line) (dash : Dashed) → l.indent ≡ m → start_of l.content ≡ Dash dash
     → more_items (suc f) d m (l ∷ ls) ≡ items f d m l ls
-more_items_on f d m l ls dash el ek = pick_false (nat_lt l.indent m) _ _ (not_deeper l.indent m (sym el)) ∙ pick_true (l.indent == m) _ _ (eq-eqb l.indent m el)
-    ∙ pick_true (is_dash (start_of l.content)) _ _ (ap is_dash ek)
+more_items_on f d m l ls dash el ek = pick_false (nat_lt l.indent m) _ _ (le-ltb l.indent m (omega arith))
+    ∙ pick_true (l.indent == m) _ _ (eq-eqb l.indent m el) ∙ pick_true (is_dash (start_of l.content)) _ _ (ap is_dash ek)
 
 level_stop : {A : Type 0} (m : ℕ) (ls : List Line) (o : Option A) → Before m ls → unless_level m ls o ≡ o
 level_stop m [] o h = refl
@@ -260,15 +245,15 @@ ok_then {d} {m} {l} {ls} k {t} {is} xs ys el split ek0 v o =
 value_stop : (f d : ℕ) (l : Line) (ls : List Line) → 0 < f → NoItem l.indent ls → value_below f d l ls ≡ got (Text l.number false []) ls
 value_stop zero d l ls p h = absurd (omega arith)
 value_stop (suc f) d l [] p h = refl
-value_stop (suc f) d l (h ∷ ls) p (q, inl k) = pick_false (nat_lt l.indent h.indent) _ _ (not_above l.indent h.indent k)
+value_stop (suc f) d l (h ∷ ls) p (q, inl k) = pick_false (nat_lt l.indent h.indent) _ _ (le-ltb l.indent h.indent (omega arith))
     ∙ pick_false ((h.indent == l.indent) && is_dash (start_of h.content)) _ _ (and_left (h.indent == l.indent) _ (not_level h.indent l.indent k))
-value_stop (suc f) d l (h ∷ ls) p (q, inr k) = pick_false (nat_lt l.indent h.indent) _ _ (not_deeper l.indent h.indent k.0)
+value_stop (suc f) d l (h ∷ ls) p (q, inr k) = pick_false (nat_lt l.indent h.indent) _ _ (le-ltb l.indent h.indent (omega arith))
     ∙ pick_false ((h.indent == l.indent) && is_dash (start_of h.content)) _ _ (and_right (h.indent == l.indent) _ k.1)
 
 item_stop : (f d : ℕ) (l : Line) (ls : List Line) → 0 < f → Before (suc l.indent) ls → item_below f d l ls ≡ got (Text l.number false []) ls
 item_stop zero d l ls p h = absurd (omega arith)
 item_stop (suc f) d l [] p h = refl
-item_stop (suc f) d l (h ∷ ls) p k = pick_false (nat_lt l.indent h.indent) _ _ (not_after l.indent h.indent k.1)
+item_stop (suc f) d l (h ∷ ls) p k = pick_false (nat_lt l.indent h.indent) _ _ (le-ltb l.indent h.indent (omega arith))
 
 ok_empty : {d : ℕ} (l : Line) {ls : List Line} → AreQuiet ls → ValueOk d l [] ls (Text l.number false [])
 ok_empty {d} l {ls} q = record {
@@ -315,7 +300,7 @@ ok_level {d} l h {ls} {is} xs ys split q el o = record {
       let w : weight (h ∷ (ys ++ rest)) ≡ weight (o.first ∷ (o.others ++ rest)) = ap (λ (r : List Line). weight (r ++ rest)) o.split in
       ap (λ (f : ℕ). value f (suc d) l [] (ls ++ rest)) i.1
       ∙ ap (λ (r : List Line). value_below (suc i.0) (suc d) l r) u.is
-      ∙ pick_false (nat_lt l.indent h.indent) _ _ (not_deeper l.indent h.indent el)
+      ∙ pick_false (nat_lt l.indent h.indent) _ _ (le-ltb l.indent h.indent (omega arith))
       ∙ pick_true ((h.indent == l.indent) && is_dash (start_of h.content)) _ _
       (and_from (h.indent == l.indent) (is_dash (start_of h.content)) (eq-eqb h.indent l.indent el) (ap is_dash k))
       ∙ ap (λ (o : Option (Got Line Items)). o >>= λ is. got (Seq h.number is.value) is.rest)

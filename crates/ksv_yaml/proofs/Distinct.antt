@@ -1,10 +1,9 @@
 -- Keys that are read one after another are distinct.
-use Rattle.std.proofs.Common.{◌≡◌, ℕ, Bool, true, false, cond, List, [], ◌∷◌, ◌++◌, refl, sym, ap, subst, ◌∙◌, ◌⊎◌, inl, inr}
-use Rattle.std.specs.Str.{bytes_eq}
+use Rattle.ksv_yaml.proofs.Common.{◌≡◌, ℕ, Bool, true, false, cond, List, [], ◌∷◌, ◌++◌, refl, sym, ap, subst, ◌∙◌, ◌⊎◌, inl, inr, bytes_eq, Entries}
+use Rattle.ksv_yaml.proofs.Common.{no_entries, entry, AreDistinct, is_among}
 use Rattle.std.proofs.lemmas.Slice.Eq.{bytes_eq-Decides}
-use Rattle.ksv_yaml_tree.specs.Tree.{Entries, no_entries, entry}
-use Rattle.ksv_yaml_tree.specs.Tree.{IsApart, AreDistinct}
-use Rattle.ksv_yaml.specs.Reading.{is_among}
+use Rattle.std.proofs.lemmas.Bool.{false_from_ne_true}
+use Rattle.ksv_yaml_tree.specs.Tree.{IsApart}
 
 same_is : (k j : List ℕ) → bytes_eq k j ≡ true → j ≡ k
 same_is k j h = sym ((bytes_eq-Decides k j).0 h)
@@ -56,14 +55,10 @@ pub clear_distinct : (seen : List (List ℕ)) (es : Entries) → AreClear seen e
 clear_distinct seen no_entries c = tt
 clear_distinct seen (entry n k t es) c = (clear_apart (seen ++ k ∷ []) k es c.1 (among_last k seen), clear_distinct (seen ++ k ∷ []) es c.1)
 
-not_true : (b : Bool) → (b ≡ true → ⊥) → b ≡ false
-not_true true h = absurd (h refl)
-not_true false h = refl
-
 pub distinct_clear : (seen : List (List ℕ)) (es : Entries) → AreDistinct es → ((j : List ℕ) → is_among j seen ≡ true → IsApart j es) → AreClear seen es
 distinct_clear seen no_entries d a = tt
 distinct_clear seen (entry n k t es) d a = (
-  not_true (is_among k seen) (λ h. (a k h).0 refl),
+  false_from_ne_true (is_among k seen) (λ h. (a k h).0 refl),
   distinct_clear (seen ++ k ∷ []) es d.1
       (λ j h. elim (among_cases j k seen h) [ inl b ↦ (a j b).1 | inr e ↦ subst (λ (j : List ℕ). IsApart j es) (sym e) d.0 ]),
 )

@@ -1,12 +1,11 @@
 -- What parts spell is read, whatever follows.
-use Rattle.std.proofs.Common.{◌≡◌, ℕ, suc, ◌+◌, ◌*◌, ◌≤◌, Bool, false, List, [], ◌∷◌, ◌++◌, length, Option, refl, ap, ◌∙◌, append_assoc, length-append, arith}
-use Rattle.ksv_yaml_tree.specs.Tree.{Tree, Text, Seq, Map, Items, no_items, item, Entries, no_entries, entry, AreDistinct}
-use Rattle.ksv_yaml.specs.Reading.{is_among, flow, flow_items, flow_more, flow_entries, flow_others}
-use Rattle.ksv_yaml_scan.specs.Got.{Got, got, ◌>>=◌}
-use Rattle.ksv_yaml_scan.specs.Tokens.{Token, Open, Close, OpenMap, CloseMap, Comma, Scalar, Key}
-use Rattle.ksv_yaml.specs.Flow.{Flow, scalar, list, dict, FlowItems, no_more, only, then, FlowEntries, no_others, last, more}
+use Rattle.ksv_yaml.proofs.Common.{◌≡◌, ℕ, suc, ◌+◌, ◌*◌, ◌≤◌, Bool, false, List, [], ◌∷◌, ◌++◌, length, Option, refl, ap, ◌∙◌, append_assoc, arith, Tree, Text}
+use Rattle.ksv_yaml.proofs.Common.{Seq, Map, Items, no_items, item, Entries, no_entries, entry, AreDistinct, is_among, flow, flow_items, flow_more}
+use Rattle.ksv_yaml.proofs.Common.{flow_entries, flow_others, Got, got, ◌>>=◌, Token, Open, Close, OpenMap, CloseMap, Comma, Key, Flow, pick_false}
+use Rattle.std.proofs.Common.{length-append}
+use Rattle.ksv_yaml_scan.specs.Tokens.{Scalar}
+use Rattle.ksv_yaml.specs.Flow.{scalar, list, dict, FlowItems, no_more, only, then, FlowEntries, no_others, last, more}
 use Rattle.ksv_yaml.proofs.Steps.{one_less, two_less}
-use Rattle.ksv_yaml_scan.proofs.Choices.{pick_false}
 use Rattle.ksv_yaml.proofs.Distinct.{AreClear, distinct_clear}
 
 -- a first value, and more

@@ -1,16 +1,12 @@
 -- Where the reader of flow nodes is.
-use Rattle.std.proofs.Common.{◌≡◌, ℕ, suc, ◌+◌, ◌-◌, ◌*◌, ◌≤◌, ◌<◌, true, false, List, [], ◌∷◌, ◌++◌, length, Option, Some, None, ◌≢◌, refl, sym, ap, ◌∙◌}
-use Rattle.std.proofs.Common.{arith}
-use Rattle.ksv_yaml_tree.specs.Tree.{Tree, Seq, Map, Items, no_items, item, Entries, no_entries, entry, Pair}
-use Rattle.ksv_yaml_tree.specs.View.{items_of, entries_of}
-use Rattle.ksv_yaml.specs.Reading.{is_among, flow, flow_items, flow_more, flow_entries, flow_others}
-use Rattle.ksv_yaml.specs.Code.{keys_of, behind_close, behind_close_map, behind_comma, key_at, FlowIs, FlowItemsIs, FlowEntriesIs}
+use Rattle.ksv_yaml.proofs.Common.{◌≡◌, ℕ, suc, ◌+◌, ◌-◌, ◌*◌, ◌≤◌, ◌<◌, true, false, List, [], ◌∷◌, ◌++◌, length, Option, Some, None, ◌≢◌, refl, sym, ap, ◌∙◌}
+use Rattle.ksv_yaml.proofs.Common.{arith, Tree, Seq, Map, Items, no_items, item, Entries, no_entries, entry, Pair, items_of, entries_of, is_among, flow}
+use Rattle.ksv_yaml.proofs.Common.{flow_items, flow_more, flow_entries, flow_others, keys_of, pick_true, pick_false, Got, got, ◌>>=◌, Token, Open, Close}
+use Rattle.ksv_yaml.proofs.Common.{OpenMap, CloseMap, Comma, Key}
+use Rattle.ksv_yaml.specs.Code.{behind_close, behind_close_map, behind_comma, key_at, FlowIs, FlowItemsIs, FlowEntriesIs}
 use Rattle.ksv_yaml.proofs.Steps.{one_less}
-use Rattle.ksv_yaml_scan.proofs.Choices.{pick_true, pick_false}
 use Rattle.ksv_yaml.proofs.Joins.{with_items, with_entries, with_no_items, with_no_entries, regroup_items, regroup_entries, last_items, last_entries, end_items}
 use Rattle.ksv_yaml.proofs.Joins.{end_entries, keys_push, deeper_one}
-use Rattle.ksv_yaml_scan.specs.Got.{Got, got, ◌>>=◌}
-use Rattle.ksv_yaml_scan.specs.Tokens.{Token, Open, Close, OpenMap, CloseMap, Comma, Key}
 
 -- ---- one node
 

@@ -1,10 +1,9 @@
 -- What is read of a flow node is spelled so.
-use Rattle.std.proofs.Common.{◌≡◌, ℕ, zero, suc, List, [], ◌∷◌, ◌++◌, Some, refl, sym, ap, subst, ◌∙◌, append_assoc, ◌⊎◌, inl, inr}
-use Rattle.ksv_yaml_tree.specs.Tree.{Tree, Text, Seq, Map, Items, no_items, item, Entries, no_entries, entry}
-use Rattle.ksv_yaml.specs.Reading.{is_among, flow, flow_items, flow_more, flow_entries, flow_others}
-use Rattle.ksv_yaml_scan.specs.Got.{Got, got, ◌>>=◌}
-use Rattle.ksv_yaml_scan.specs.Tokens.{Token, Open, Close, OpenMap, CloseMap, Comma, Scalar, Key}
-use Rattle.ksv_yaml.specs.Flow.{Flow, scalar, list, dict, FlowItems, no_more, only, then, FlowEntries, no_others, last, more}
+use Rattle.ksv_yaml.proofs.Common.{◌≡◌, ℕ, zero, suc, List, [], ◌∷◌, ◌++◌, Some, refl, sym, ap, subst, ◌∙◌, append_assoc, ◌⊎◌, inl, inr, Tree, Text, Seq, Map}
+use Rattle.ksv_yaml.proofs.Common.{Items, no_items, item, Entries, no_entries, entry, is_among, flow, flow_items, flow_more, flow_entries, flow_others, Got}
+use Rattle.ksv_yaml.proofs.Common.{got, ◌>>=◌, Token, Open, Close, OpenMap, CloseMap, Comma, Key, Flow}
+use Rattle.ksv_yaml_scan.specs.Tokens.{Scalar}
+use Rattle.ksv_yaml.specs.Flow.{scalar, list, dict, FlowItems, no_more, only, then, FlowEntries, no_others, last, more}
 use Rattle.ksv_yaml.proofs.Steps.{bind_some, deeper_some, at_got, Took, took_first}
 use Rattle.ksv_yaml_scan.proofs.Choices.{pick_guard}
 use Rattle.ksv_yaml.proofs.Distinct.{AreClear, clear_distinct}

@@ -1,19 +1,16 @@
 -- What a scalar or flow node spells is read, whatever follows that is before its column.
-use Rattle.std.proofs.Common.{◌≡◌, ℕ, ◌+◌, ◌*◌, ◌<◌, Bool, true, false, List, [], ◌∷◌, ◌++◌, length, Option, Some, refl, sym, ap, ◌∙◌, append_assoc, arith}
+use Rattle.ksv_yaml.proofs.Common.{◌≡◌, ℕ, ◌+◌, ◌*◌, ◌<◌, Bool, true, false, List, [], ◌∷◌, ◌++◌, length, Option, Some, refl, sym, ap, ◌∙◌, append_assoc, arith}
+use Rattle.ksv_yaml.proofs.Common.{append-nil, Tree, Text, AreQuiet, Inlined, inlined, Got, got, ◌>>=◌, Line, is_nil, shown, is_quiet, loud, InlineKind, Token}
+use Rattle.ksv_yaml.proofs.Common.{at_true, at_false}
 use Rattle.std.specs.Prelude.{nat_le}
-use Rattle.std.proofs.lemmas.List.{append-nil}
-use Rattle.std.proofs.lemmas.Bool.{le-leb, or_from}
-use Rattle.ksv_yaml_tree.specs.Tree.{Tree, Text}
-use Rattle.ksv_yaml.specs.Grammar.{AreQuiet, AreInner, Leaves, AreWithin, GoesOn, ends, goes, Inlined, plain, quoted, block, flow}
-use Rattle.ksv_yaml.specs.Reading.{all_of, flow_in, inlined}
+use Rattle.std.proofs.lemmas.Bool.{le-leb, or_from, lt-leb}
+use Rattle.ksv_yaml.specs.Grammar.{AreInner, Leaves, AreWithin, GoesOn, ends, goes, plain, quoted, block, flow}
+use Rattle.ksv_yaml.specs.Reading.{all_of, flow_in}
 use Rattle.ksv_yaml_scan.specs.Blocks.{is_blank, block_text, is_inner}
-use Rattle.ksv_yaml_scan.specs.Got.{Got, got, ◌>>=◌}
-use Rattle.ksv_yaml_scan.specs.Lines.{Line, is_nil, shown, is_quiet, is_within, loud, front, behind}
+use Rattle.ksv_yaml_scan.specs.Lines.{is_within, front, behind}
 use Rattle.ksv_yaml_scan.specs.Plain.{more_of, line_on, goes_on}
-use Rattle.ksv_yaml_scan.specs.Starts.{InlineKind}
-use Rattle.ksv_yaml_scan.specs.Tokens.{Token, tokens_of}
+use Rattle.ksv_yaml_scan.specs.Tokens.{tokens_of}
 use Rattle.ksv_yaml.proofs.Steps.{Loud, loud_behind}
-use Rattle.ksv_yaml_scan.proofs.Choices.{at_true, at_false}
 use Rattle.ksv_yaml.proofs.FlowComplete.{flow_ok}
 
 -- the next line says something, and is before this column
@@ -24,9 +21,6 @@ Before n (l ∷ ls) = (is_quiet l ≡ false) × (l.indent < n)
 pub before_loud : (n : ℕ) (ls : List Line) → Before n ls → Loud ls
 before_loud n [] h = tt
 before_loud n (l ∷ ls) h = h.0
-
-not_deep : (a b : ℕ) → b < a → nat_le a b ≡ false
-not_deep a b h = grind arith
 
 not_blank : (cs : List ℕ) → is_nil (shown cs) ≡ false → is_nil cs ≡ false
 not_blank [] h = absurd cc
@@ -44,7 +38,7 @@ line_cases {q} {deep} {text} c p e t after stay f eq ed et =
 goes_on_stop : (n : ℕ) (c : Bool) (ls : List Line) → Before n ls → goes_on n c ls ≡ got [] ls
 goes_on_stop n c [] h = refl
 goes_on_stop n true (l ∷ ls) h = line_cases true false (nat_le n l.indent) (more_of l.content) (loud ls) (l ∷ ls) (λ c. goes_on n c ls) h.0 refl refl
-goes_on_stop n false (l ∷ ls) h = line_cases false false false (more_of l.content) (loud ls) (l ∷ ls) (λ c. goes_on n c ls) h.0 (not_deep n l.indent h.1) refl
+goes_on_stop n false (l ∷ ls) h = line_cases false false false (more_of l.content) (loud ls) (l ∷ ls) (λ c. goes_on n c ls) h.0 (lt-leb n l.indent h.1) refl
 
 goes_on_quiet : (n : ℕ) (c : Bool) (qs ls : List Line) → AreQuiet qs → Before n ls → goes_on n c (qs ++ ls) ≡ got [] ls
 goes_on_quiet n c [] ls q h = goes_on_stop n c ls h
@@ -93,11 +87,11 @@ within_behind n (l ∷ xs) ys a h = at_true (is_within n l) _ _ a.0 ∙ within_b
 stops_inner : (n : ℕ) (qs rest : List Line) → Leaves n qs → Before n rest → Stops (is_inner n) (qs ++ rest)
 stops_inner n (l ∷ qs) rest v h = v
 stops_inner n [] [] v h = tt
-stops_inner n [] (l ∷ ls) v h = or_from (is_blank l) (nat_le n l.indent) (not_blank l.content h.0) (not_deep n l.indent h.1)
+stops_inner n [] (l ∷ ls) v h = or_from (is_blank l) (nat_le n l.indent) (not_blank l.content h.0) (lt-leb n l.indent h.1)
 
 stops_within : (n : ℕ) (rest : List Line) → Before n rest → Stops (is_within n) rest
 stops_within n [] h = tt
-stops_within n (l ∷ ls) h = or_from (is_quiet l) (nat_le n l.indent) h.0 (not_deep n l.indent h.1)
+stops_within n (l ∷ ls) h = or_from (is_quiet l) (nat_le n l.indent) h.0 (lt-leb n l.indent h.1)
 
 -- ---- all kinds
 

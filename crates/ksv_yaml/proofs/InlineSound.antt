@@ -1,18 +1,15 @@
 -- What is read of a scalar or flow node is spelled so.
-use Rattle.std.proofs.Common.{◌≡◌, ℕ, Bool, true, false, cond, List, [], ◌∷◌, ◌++◌, Option, Some, None, refl, sym, ap, subst, ◌∙◌, append_assoc}
+use Rattle.ksv_yaml.proofs.Common.{◌≡◌, ℕ, Bool, true, false, cond, List, [], ◌∷◌, ◌++◌, Option, Some, None, refl, sym, ap, subst, ◌∙◌, append_assoc}
+use Rattle.ksv_yaml.proofs.Common.{append-nil, Tree, Text, Inlined, inlined, Got, got, ◌>>=◌, Line, is_quiet, loud, InlineKind, Token, Flow}
 use Rattle.std.specs.Prelude.{nat_le}
-use Rattle.std.proofs.lemmas.List.{append-nil}
 use Rattle.std.proofs.lemmas.Bool.{leb-true}
-use Rattle.ksv_yaml_tree.specs.Tree.{Tree, Text}
-use Rattle.ksv_yaml.specs.Grammar.{AreInner, Leaves, AreWithin, GoesOn, ends, goes, Inlined, plain, quoted, block, flow}
-use Rattle.ksv_yaml.specs.Reading.{all_of, flow_in, inlined}
+use Rattle.ksv_yaml.specs.Grammar.{AreInner, Leaves, AreWithin, GoesOn, ends, goes, plain, quoted, block, flow}
+use Rattle.ksv_yaml.specs.Reading.{all_of, flow_in}
 use Rattle.ksv_yaml_scan.specs.Blocks.{block_text, is_inner}
-use Rattle.ksv_yaml_scan.specs.Got.{Got, got, ◌>>=◌}
-use Rattle.ksv_yaml_scan.specs.Lines.{Line, is_quiet, is_within, loud, front, behind}
+use Rattle.ksv_yaml_scan.specs.Lines.{is_within, front, behind}
 use Rattle.ksv_yaml_scan.specs.Plain.{more_of, line_on, goes_on}
-use Rattle.ksv_yaml_scan.specs.Starts.{InlineKind, Plain, Quoted, Block, Flowing}
-use Rattle.ksv_yaml_scan.specs.Tokens.{Token, tokens_of}
-use Rattle.ksv_yaml.specs.Flow.{Flow}
+use Rattle.ksv_yaml_scan.specs.Starts.{Plain, Quoted, Block, Flowing}
+use Rattle.ksv_yaml_scan.specs.Tokens.{tokens_of}
 use Rattle.ksv_yaml.proofs.Steps.{bind_some, at_got, Took, took_none, took_as, took_first, loud_took}
 use Rattle.ksv_yaml.proofs.FlowSound.{flow_sound}
 

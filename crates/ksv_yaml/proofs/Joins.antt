@@ -1,10 +1,6 @@
 -- Items and entries that are pushed one by one.
-use Rattle.std.proofs.Common.{◌≡◌, ℕ, zero, suc, ◌-◌, List, [], ◌∷◌, ◌++◌, Option, Some, None, ◌≢◌, refl, sym, ap, ◌∙◌, arith}
-use Rattle.ksv_yaml_tree.specs.Tree.{Tree, Items, no_items, item, Entries, no_entries, entry, Pair}
-use Rattle.ksv_yaml_tree.specs.View.{items_of, entries_of}
-use Rattle.ksv_yaml.specs.Reading.{deeper}
-use Rattle.ksv_yaml.specs.Code.{keys_of}
-use Rattle.ksv_yaml_scan.specs.Got.{Got, got, ◌>>=◌}
+use Rattle.ksv_yaml.proofs.Common.{◌≡◌, ℕ, zero, suc, ◌-◌, List, [], ◌∷◌, ◌++◌, Option, Some, None, ◌≢◌, refl, sym, ap, ◌∙◌, arith, Tree, Items, no_items, item}
+use Rattle.ksv_yaml.proofs.Common.{Entries, no_entries, entry, Pair, items_of, entries_of, deeper, keys_of, Got, got, ◌>>=◌}
 
 -- one list of entries after another
 abbrev pub join : Entries → Entries → Entries

@@ -1,16 +1,14 @@
 -- What is read is spelled so.
-use Rattle.std.proofs.Common.{◌≡◌, ℕ, zero, suc, ◌≤◌, ◌<◌, Bool, true, false, cond, List, [], ◌∷◌, ◌++◌, length, Option, Some, None, refl, sym, ap, subst}
-use Rattle.std.proofs.Common.{arith, ◌⊎◌, inl, inr}
-use Rattle.std.specs.Prelude.{◌==◌, ◌&&◌, nat_lt}
+use Rattle.ksv_yaml.proofs.Common.{◌≡◌, ℕ, zero, suc, ◌≤◌, ◌<◌, Bool, true, false, cond, List, [], ◌∷◌, ◌++◌, length, Option, Some, None, refl, sym, ap, subst}
+use Rattle.ksv_yaml.proofs.Common.{arith, ◌⊎◌, inl, inr, ◌==◌, ◌&&◌, nat_lt, Tree, Text, Seq, Map, Items, no_items, item, Entries, no_entries, entry, AreQuiet}
+use Rattle.ksv_yaml.proofs.Common.{at_column, from_here, Node, deeper, is_among, inlined, unless_level, node, node_by, entries, entries_by, more_entries, value}
+use Rattle.ksv_yaml.proofs.Common.{value_below, value_here, items, items_by, more_items, item_at, item_below, Got, got, ◌>>=◌, Line, shown, loud, InlineKind}
+use Rattle.ksv_yaml.proofs.Common.{Dashed, Start, Nothing, Dash, start_of, is_dash, is_key}
 use Rattle.std.proofs.lemmas.Bool.{eqb-true, ltb-true, and_parts}
-use Rattle.ksv_yaml_tree.specs.Tree.{Tree, Text, Seq, Map, Items, no_items, item, Entries, no_entries, entry}
-use Rattle.ksv_yaml.specs.Grammar.{AreQuiet, at_column, from_here, Node, map, seq, inline, Mapping, last, more, Value, empty, below, level, here, Sequence}
-use Rattle.ksv_yaml.specs.Grammar.{only, then, Item, none, under, compact, tabbed}
-use Rattle.ksv_yaml.specs.Reading.{deeper, is_among, inlined, unless_level, node, node_by, entries, entries_by, more_entries, value, value_below, value_here}
-use Rattle.ksv_yaml.specs.Reading.{items, items_by, more_items, item_at, item_below}
-use Rattle.ksv_yaml_scan.specs.Got.{Got, got, ◌>>=◌}
-use Rattle.ksv_yaml_scan.specs.Lines.{Line, shown, columns, has_tab, white_or_end, loud}
-use Rattle.ksv_yaml_scan.specs.Starts.{InlineKind, Dashed, Start, Nothing, Dash, Key, Inline, Refused, dash_of, key_of, start_of, is_dash, is_key}
+use Rattle.ksv_yaml.specs.Grammar.{map, seq, inline, Mapping, last, more, Value, empty, below, level, here, Sequence, only, then, Item, none, under, compact}
+use Rattle.ksv_yaml.specs.Grammar.{tabbed}
+use Rattle.ksv_yaml_scan.specs.Lines.{columns, has_tab, white_or_end}
+use Rattle.ksv_yaml_scan.specs.Starts.{Key, Inline, Refused, dash_of, key_of}
 use Rattle.ksv_yaml.proofs.Steps.{bind_some, deeper_some, at_got, Took, took_as, took_then, took_first, loud_took}
 use Rattle.ksv_yaml_scan.proofs.Choices.{picked, pick_guard}
 use Rattle.ksv_yaml.proofs.Distinct.{AreClear, clear_distinct}

@@ -1,11 +1,7 @@
 -- What a step of reading that found something says.
-use Rattle.std.proofs.Common.{◌≡◌, ℕ, zero, suc, ◌<◌, Bool, true, false, cond, List, [], ◌∷◌, ◌++◌, Option, Some, None, refl, sym, ap, subst, ◌∙◌, append_assoc}
-use Rattle.std.proofs.Common.{arith}
-use Rattle.ksv_yaml_scan.proofs.Choices.{at_true, at_false}
-use Rattle.ksv_yaml.specs.Grammar.{AreQuiet}
-use Rattle.ksv_yaml.specs.Reading.{deeper}
-use Rattle.ksv_yaml_scan.specs.Got.{Got, got, ◌>>=◌}
-use Rattle.ksv_yaml_scan.specs.Lines.{Line, is_quiet, loud}
+use Rattle.ksv_yaml.proofs.Common.{◌≡◌, ℕ, zero, suc, ◌<◌, Bool, true, false, cond, List, [], ◌∷◌, ◌++◌, Option, Some, None, refl, sym, ap, subst, ◌∙◌}
+use Rattle.ksv_yaml.proofs.Common.{append_assoc, arith, at_true, at_false, AreQuiet, deeper, Got, got, ◌>>=◌, Line, is_quiet, loud}
+use Rattle.std.proofs.Common.{◌==◌}
 
 pub bind_some : {A B : Type 0} (r : Option A) (f : A → Option B) (y : B) → (r >>= f) ≡ Some y → (x : A) × (r ≡ Some x) × (f x ≡ Some y)
 bind_some None f y h = absurd cc
@@ -29,6 +25,9 @@ two_less (suc (suc n)) h = (n, refl)
 pub one_less : (n : ℕ) → 0 < n → (m : ℕ) × (n ≡ suc m)
 one_less zero h = absurd (omega arith)
 one_less (suc n) h = (n, refl)
+
+pub not_level : (a b : ℕ) → a < b → (a == b) ≡ false
+not_level a b h = grind arith
 
 -- elements were taken from the front
 pub record Took (L : Type 0) (ls rest : List L) (P : List L → Type 0) : Type 0 where

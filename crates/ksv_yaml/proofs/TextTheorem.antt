@@ -1,10 +1,8 @@
 -- The theorem about texts.
-use Rattle.std.proofs.Common.{◌≡◌, ℕ, ◌≤◌, List, length, inl, inr, Some, None, ◌∙◌}
-use Rattle.ksv_yaml_tree.specs.Tree.{Tree}
-use Rattle.ksv_yaml.specs.Reading.{tree_of}
+use Rattle.ksv_yaml.proofs.Common.{◌≡◌, ℕ, ◌≤◌, List, length, inl, inr, Some, None, ◌∙◌, Tree, tree_of, at_true}
 use Rattle.ksv_yaml.specs.Text.{Spells, tree_of_text}
 use Rattle.ksv_yaml_scan.specs.Text.{is_allowed, lines_of}
-use Rattle.ksv_yaml_scan.proofs.Choices.{chosen, at_true}
+use Rattle.ksv_yaml_scan.proofs.Choices.{chosen}
 use Rattle.ksv_yaml.proofs.Theorem.{one_tree, tree_sound, tree_complete}
 use Rattle.std.specs.Prelude.{IsUtf8}
 

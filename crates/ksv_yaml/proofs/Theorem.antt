@@ -1,17 +1,14 @@
 -- What the lines spell is what is read.
-use Rattle.std.proofs.Common.{◌≡◌, ℕ, ◌+◌, ◌*◌, true, false, List, [], ◌∷◌, ◌++◌, Option, Some, None, refl, sym, ap, subst, ◌∙◌, arith, inl, inr}
-use Rattle.std.proofs.lemmas.List.{append-nil}
-use Rattle.std.specs.Prelude.{◌==◌, codes}
-use Rattle.std.specs.Str.{bytes_eq}
+use Rattle.ksv_yaml.proofs.Common.{◌≡◌, ℕ, ◌+◌, ◌*◌, true, false, List, [], ◌∷◌, ◌++◌, Option, Some, None, refl, sym, ap, subst, ◌∙◌, arith, inl, inr}
+use Rattle.ksv_yaml.proofs.Common.{append-nil, ◌==◌, bytes_eq, Tree, AreQuiet, Node, node, weight, tree_of, Got, ◌>>=◌, Line, is_nil, shown, is_quiet, loud}
+use Rattle.ksv_yaml.proofs.Common.{pick_true, pick_false}
+use Rattle.std.specs.Prelude.{codes}
 use Rattle.std.proofs.lemmas.Slice.Eq.{bytes_eq-Decides}
-use Rattle.ksv_yaml_tree.specs.Tree.{Tree}
-use Rattle.ksv_yaml.specs.Grammar.{AreQuiet, is_mark, Node, Spelled, bare, marked}
-use Rattle.ksv_yaml.specs.Reading.{node, weight, whole, body, behind_mark, tree_of}
-use Rattle.ksv_yaml_scan.specs.Got.{Got, ◌>>=◌}
-use Rattle.ksv_yaml_scan.specs.Lines.{Line, is_nil, shown, is_quiet, loud}
+use Rattle.ksv_yaml.specs.Grammar.{is_mark, Spelled, bare, marked}
+use Rattle.ksv_yaml.specs.Reading.{whole, body, behind_mark}
 use Rattle.ksv_yaml.proofs.Steps.{bind_some, Took, loud_took, loud_behind, Loud}
 use Rattle.std.proofs.lemmas.Bool.{and_parts}
-use Rattle.ksv_yaml_scan.proofs.Choices.{picked, pick_true, pick_false}
+use Rattle.ksv_yaml_scan.proofs.Choices.{picked}
 use Rattle.ksv_yaml.proofs.Sound.{node_sound}
 use Rattle.ksv_yaml.proofs.Complete.{node_ok}
 

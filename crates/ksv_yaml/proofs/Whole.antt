@@ -1,20 +1,16 @@
 -- What the reader of whole texts answers.
-use Rattle.std.proofs.Common.{◌≡◌, ℕ, suc, ◌<◌, ◌≤◌, Bool, true, false, List, [], ◌∷◌, length, max, Option, Some, None, is_none, refl, sym, ap, subst, ◌∙◌}
-use Rattle.std.proofs.Common.{arith}
+use Rattle.ksv_yaml.proofs.Common.{◌≡◌, ℕ, suc, ◌<◌, ◌≤◌, Bool, true, false, List, [], ◌∷◌, length, Option, Some, None, refl, sym, ap, subst, ◌∙◌, arith, Tree}
+use Rattle.ksv_yaml.proofs.Common.{tree_of, at_true, Line, lines_view}
+use Rattle.std.proofs.Common.{max, is_none}
 use Rattle.ksv_yaml.specs.declared.fault.YamlKind.{YamlKind}
 use Rattle.ksv_yaml.specs.declared.fault.YamlKind.TheVariants.{NotUtf8, TooLong, Tab, Indentation, KeyTwice, LeftOut, NotClosed, ValueForKey, TooDeep, NoMemory}
-use Rattle.ksv_yaml_tree.specs.Tree.{Tree}
 use Rattle.ksv_yaml.specs.Code.{names_memory, IsOfLines}
 use Rattle.ksv_yaml.specs.Faults.{IsUnspelled, Refuses}
-use Rattle.ksv_yaml.specs.Reading.{tree_of}
 use Rattle.ksv_yaml.specs.Text.{Spells}
 use Rattle.ksv_yaml.proofs.Theorem.{refused}
 use Rattle.ksv_yaml.proofs.TextTheorem.{text_sound}
-use Rattle.ksv_yaml_scan.proofs.Choices.{at_true}
 use Rattle.ksv_yaml_scan.specs.declared.line.Line.{Line as CodeLine}
-use Rattle.ksv_yaml_scan.specs.Lines.{Line}
 use Rattle.ksv_yaml_scan.specs.Text.{IsCut, IsLine, Raw, cut_lines, unmarked, number_from, lines_of, stray_line, is_allowed}
-use Rattle.ksv_yaml_scan.specs.Views.{lines_view}
 
 allowed_none : (text : List ℕ) (stray : Option ℕ) → stray_line text ≡ stray → stray ≡ None → is_allowed text ≡ true
 allowed_none text stray e z = ap is_none (e ∙ z)

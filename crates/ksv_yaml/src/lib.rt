@@ -42,6 +42,7 @@
 //!
 //! - `Answering`: what a step of the code answers, in the words of its contract
 //! - `BlockLoops`: a lemma for each step of the reader of blocks
+//! - `Common`: what many of them name, of definitions and of other crates
 //! - `Complete`: what is spelled is read
 //! - `Distinct`: keys read one after another are distinct
 //! - `FlowComplete`: the same for flow nodes

@@ -1,6 +1,6 @@
 -- Choices by a truth value.
-use Rattle.std.proofs.Common.{◌≡◌, ℕ, arith, Bool, true, false, cond, Option, Some, None, refl, ◌⊎◌, inl, inr}
-use Rattle.std.specs.Prelude.{◌==◌}
+use Rattle.ksv_yaml_scan.proofs.Common.{◌≡◌, ℕ, arith, Bool, true, false, cond, Option, Some, None, refl, inl, inr, ◌==◌}
+use Rattle.std.proofs.Common.{◌⊎◌}
 
 pub chosen : {A : Type 0} (b : Bool) (x y z : A) → cond b x y ≡ z → ((b ≡ true) × (x ≡ z)) ⊎ ((b ≡ false) × (y ≡ z))
 chosen true x y z h = inl (refl, h)

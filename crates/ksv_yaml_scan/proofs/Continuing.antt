@@ -1,10 +1,10 @@
 -- A plain scalar goes on over lines, from one to the next.
-use Rattle.std.proofs.Common.{◌≡◌, ℕ, Bool, true, false, List, ◌∷◌, ◌++◌, Option, Some, None, refl, sym, ap, ◌∙◌, append_assoc}
-use Rattle.std.specs.Prelude.{nat_le, if◌then◌else◌}
-use Rattle.std.proofs.lemmas.List.{append-nil}
+use Rattle.ksv_yaml_scan.proofs.Common.{◌≡◌, ℕ, Bool, true, false, List, ◌∷◌, ◌++◌, Option, Some, None, refl, sym, ap, ◌∙◌, append_assoc, nat_le, append-nil}
+use Rattle.ksv_yaml_scan.proofs.Common.{Line, loud, plain_text}
+use Rattle.std.specs.Prelude.{if◌then◌else◌}
 use Rattle.ksv_yaml_scan.specs.Got.{Got, got, ◌>>=◌}
-use Rattle.ksv_yaml_scan.specs.Lines.{Line, is_quiet, loud}
-use Rattle.ksv_yaml_scan.specs.Plain.{more_of, line_on, goes_on, plain_text}
+use Rattle.ksv_yaml_scan.specs.Lines.{is_quiet}
+use Rattle.ksv_yaml_scan.specs.Plain.{more_of, line_on, goes_on}
 
 -- a text, and lines after it
 abbrev pub then_text : List ℕ → Option (Got Line (List ℕ)) → Option (Got Line (List ℕ))

@@ -1,11 +1,9 @@
 -- A text is cut at its line feeds.
-use Rattle.std.proofs.Common.{◌≡◌, ℕ, zero, suc, ◌+◌, ◌<◌, ◌≤◌, Bool, true, false, cond, List, [], ◌∷◌, ◌++◌, length, take, drop, get_or, refl, sym, ap, ◌∙◌}
-use Rattle.std.proofs.Common.{subst, arith, drop-cons, add-one}
-use Rattle.std.specs.Prelude.{◌==◌, ◌&&◌, not}
-use Rattle.std.proofs.lemmas.Bool.{eqb-true}
+use Rattle.ksv_yaml_scan.proofs.Common.{◌≡◌, ℕ, zero, suc, ◌+◌, ◌<◌, ◌≤◌, Bool, true, false, cond, List, [], ◌∷◌, ◌++◌, length, take, drop, get_or, refl, sym}
+use Rattle.ksv_yaml_scan.proofs.Common.{ap, ◌∙◌, subst, arith, drop-cons, add-one, ◌==◌, ◌&&◌, not, cut_lines, Line}
+use Rattle.std.proofs.lemmas.Bool.{eqb-true, false_from_ne_true}
 use Rattle.std.proofs.lemmas.List.{take-append-drop}
-use Rattle.ksv_yaml_scan.specs.Text.{Raw, push, cut_lines, without_return, is_clean, is_wide_control, spaces, behind_spaces, line_of}
-use Rattle.ksv_yaml_scan.specs.Lines.{Line}
+use Rattle.ksv_yaml_scan.specs.Text.{Raw, push, without_return, is_clean, is_wide_control, spaces, behind_spaces, line_of}
 use Rattle.ksv_yaml_scan.proofs.Choices.{at_false}
 
 -- no line feed is among these bytes
@@ -28,16 +26,12 @@ cut_end c (d ∷ xs) h = at_false (c == 10) _ _ h.0 ∙ ap (λ (rs : List Raw). 
 abbrev pub NoFeedBefore : List ℕ → ℕ → Type 0
 NoFeedBefore xs i = (k : ℕ) → 0 ≤ k → k < i → ((get_or xs k 0 == 10) ≡ true) → ⊥
 
-not_true : (b : Bool) → (b ≡ true → ⊥) → b ≡ false
-not_true true h = absurd (h refl)
-not_true false h = refl
-
 no_feed : (xs : List ℕ) (i : ℕ) → i ≤ length xs → NoFeedBefore xs i → NoFeed (take i xs)
 no_feed [] zero b h = tt
 no_feed [] (suc i) b h = absurd (omega arith)
 no_feed (x ∷ xs) zero b h = tt
 no_feed (x ∷ xs) (suc i) b h =
-    (not_true (x == 10) (λ e. h 0 (omega arith) (omega arith) e), no_feed xs i (omega arith) (λ k l u e. h (suc k) (omega arith) (omega arith) e))
+    (false_from_ne_true (x == 10) (λ e. h 0 (omega arith) (omega arith) e), no_feed xs i (omega arith) (λ k l u e. h (suc k) (omega arith) (omega arith) e))
 
 -- the first line feed ends the first line
 pub cut_first : (xs : List ℕ) (i : ℕ) → i < length xs → NoFeedBefore xs i → (get_or xs i 0 == 10) ≡ true

@@ -1,8 +1,7 @@
 -- The rows of a block scalar give the same text from front to back.
-use Rattle.std.proofs.Common.{◌≡◌, ℕ, zero, suc, Bool, true, false, cond, List, [], ◌∷◌, ◌++◌, Option, Some, None, refl, sym, ap, ◌∙◌, replicate}
-use Rattle.std.specs.Prelude.{◌||◌, ◌&&◌}
-use Rattle.std.proofs.lemmas.List.{append-nil}
-use Rattle.ksv_yaml_scan.specs.Lines.{Line, is_nil}
+use Rattle.ksv_yaml_scan.proofs.Common.{◌≡◌, ℕ, zero, suc, Bool, true, false, cond, List, [], ◌∷◌, ◌++◌, Option, Some, None, refl, sym, ap, ◌∙◌, ◌||◌, ◌&&◌}
+use Rattle.ksv_yaml_scan.proofs.Common.{append-nil, Line, is_nil}
+use Rattle.std.proofs.Common.{replicate}
 use Rattle.ksv_yaml_scan.specs.Blocks.{Row, add_row, filled, literal, folded, folded_on, starts_white, between, last_end, inner_indent, is_level, is_led}
 use Rattle.ksv_yaml_scan.specs.Blocks.{text_of_rows, text_at, block_text}
 use Rattle.ksv_yaml_scan.specs.Rows.{rows, rows_on, last_ended}

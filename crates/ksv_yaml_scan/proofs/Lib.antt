@@ -1,4 +1,5 @@
 -- Lemmas, those of use to crates above among them.
+pub mod Common
 pub mod Choices
 pub mod Spaces
 pub mod Starts

@@ -1,8 +1,7 @@
 -- Lines have their numbers.
-use Rattle.std.proofs.Common.{◌≡◌, ℕ, suc, ◌+◌, ◌<◌, List, [], ◌∷◌, length, zero, get_or, drop, drop-cons, add-one, sym, ap, ◌∙◌, arith, inl, inr}
+use Rattle.ksv_yaml_scan.proofs.Common.{◌≡◌, ℕ, suc, ◌+◌, ◌<◌, List, [], ◌∷◌, length, zero, get_or, drop, drop-cons, add-one, sym, ap, ◌∙◌, arith, inl, inr}
+use Rattle.ksv_yaml_scan.proofs.Common.{line_view, lines_view, HasNumber}
 use Rattle.ksv_yaml_scan.specs.declared.line.Line.{Line as CodeLine}
-use Rattle.ksv_yaml_scan.specs.Views.{line_view, lines_view}
-use Rattle.ksv_yaml_scan.specs.Lines.{HasNumber}
 
 -- a line has the number that it has
 pub number_at : (ls : List CodeLine) (i : ℕ) (l : CodeLine) → i < length ls → l ≡ get_or ls i l → HasNumber (lines_view ls) l.number

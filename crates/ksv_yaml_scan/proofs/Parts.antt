@@ -1,12 +1,12 @@
 -- What a reader of parts needs: each step goes forward, a quiet line has no part, and another has one.
-use Rattle.std.proofs.Common.{◌≡◌, ℕ, zero, suc, ◌+◌, ◌*◌, ◌≤◌, ◌<◌, Bool, true, false, cond, List, [], ◌∷◌, ◌++◌, length, Option, Some, None, refl, sym, ap}
-use Rattle.std.proofs.Common.{subst, ◌∙◌, append_assoc, arith}
-use Rattle.std.specs.Prelude.{◌==◌, ◌&&◌, ◌||◌, not}
-use Rattle.ksv_yaml_scan.specs.Lines.{is_white, skip, white_or_end}
-use Rattle.ksv_yaml_scan.specs.Plain.{is_bracket, is_special, is_lone, starts_plain, Ending, Colon, Bracket, Comment, End, Run, stop, run_by, run}
-use Rattle.ksv_yaml_scan.specs.Quoted.{Quote, Place, Between, AtQuote, Escaped, Digits, Step, Ends, Fails, Adds, single, double, letter_of, letter, escape}
-use Rattle.ksv_yaml_scan.specs.Quoted.{is_surrogate, digit, hex_digit, utf8, with_bytes, act, at_end, inside, quote_of}
-use Rattle.ksv_yaml_scan.specs.Tokens.{Token, Cut, Bad, Over, White, Part, quoted_part, quoted_cut, plain_cut, cut, with_token, line_by, line_tokens, both}
+use Rattle.ksv_yaml_scan.proofs.Common.{◌≡◌, ℕ, zero, suc, ◌+◌, ◌≤◌, ◌<◌, Bool, true, false, cond, List, [], ◌∷◌, ◌++◌, length, Option, Some, None, refl, sym}
+use Rattle.ksv_yaml_scan.proofs.Common.{ap, subst, ◌∙◌, append_assoc, arith, ◌==◌, ◌&&◌, ◌||◌, not, is_white, skip, white_or_end, Ending, Run, stop, run_by}
+use Rattle.ksv_yaml_scan.proofs.Common.{run, Quote, Between, double, with_bytes, inside, Token, both}
+use Rattle.std.proofs.Common.{◌*◌}
+use Rattle.ksv_yaml_scan.specs.Plain.{is_bracket, is_special, is_lone, starts_plain, Colon, Bracket, Comment, End}
+use Rattle.ksv_yaml_scan.specs.Quoted.{Place, AtQuote, Escaped, Digits, Step, Ends, Fails, Adds, single, letter_of, letter, escape, is_surrogate, digit}
+use Rattle.ksv_yaml_scan.specs.Quoted.{hex_digit, utf8, act, at_end, quote_of}
+use Rattle.ksv_yaml_scan.specs.Tokens.{Cut, Bad, Over, White, Part, quoted_part, quoted_cut, plain_cut, cut, with_token, line_by, line_tokens}
 use Rattle.std.proofs.lemmas.Bool.{and_right, or_parts}
 use Rattle.ksv_yaml_scan.proofs.Choices.{at_false, not_first}
 

@@ -1,8 +1,7 @@
 -- A plain run is found from front to back.
-use Rattle.std.proofs.Common.{◌≡◌, ℕ, ◌+◌, ◌<◌, Bool, true, false, List, [], ◌∷◌, ◌++◌, length, take, drop, get_or, Option, None, refl, sym, ap, ◌∙◌, drop-cons}
-use Rattle.std.proofs.Common.{add-one}
-use Rattle.ksv_yaml_scan.specs.Lines.{is_white}
-use Rattle.ksv_yaml_scan.specs.Plain.{Ending, Run, join, stop, run_by, run}
+use Rattle.ksv_yaml_scan.proofs.Common.{◌≡◌, ℕ, ◌+◌, ◌<◌, Bool, true, false, List, [], ◌∷◌, ◌++◌, length, take, drop, get_or, Option, None, refl, sym, ap, ◌∙◌}
+use Rattle.ksv_yaml_scan.proofs.Common.{drop-cons, add-one, is_white, Ending, Run, stop, run_by, run}
+use Rattle.ksv_yaml_scan.specs.Plain.{join}
 use Rattle.ksv_yaml_scan.proofs.Choices.{at_true, at_false}
 use Rattle.std.proofs.lemmas.List.{take_more}
 

@@ -1,8 +1,8 @@
 -- White space is skipped, and a comment with it.
-use Rattle.std.proofs.Common.{◌≡◌, ℕ, suc, ◌+◌, ◌<◌, ◌≤◌, length, drop, get_or, arith, drop-cons, Bool, true, false, cond, List, [], ◌∷◌, refl, sym, ap, ◌∙◌}
+use Rattle.ksv_yaml_scan.proofs.Common.{◌≡◌, ℕ, suc, ◌+◌, ◌<◌, ◌≤◌, length, drop, get_or, arith, drop-cons, Bool, true, false, cond, List, [], ◌∷◌, refl, sym}
+use Rattle.ksv_yaml_scan.proofs.Common.{ap, ◌∙◌, ◌==◌, is_white, skip}
 use Rattle.ksv_yaml_scan.proofs.Choices.{at_true, at_false, same_byte, other_byte}
-use Rattle.std.specs.Prelude.{◌==◌}
-use Rattle.ksv_yaml_scan.specs.Lines.{is_white, skip, shown, columns}
+use Rattle.ksv_yaml_scan.specs.Lines.{shown, columns}
 
 -- the bytes, unless they begin with a comment
 abbrev pub uncommented : List ℕ → List ℕ

@@ -1,10 +1,11 @@
 -- One thing alone begins on a line.
-use Rattle.std.proofs.Common.{◌≡◌, ℕ, Bool, true, false, cond, List, [], ◌∷◌, Option, Some, None, refl, sym, ap, subst, ◌∙◌, ◌⊎◌, inl, inr}
-use Rattle.std.specs.Prelude.{◌==◌, ◌&&◌, ◌||◌, not}
+use Rattle.ksv_yaml_scan.proofs.Common.{◌≡◌, ℕ, Bool, true, false, cond, List, [], ◌∷◌, Option, Some, None, refl, sym, ap, subst, ◌∙◌, inl, inr, ◌==◌, ◌&&◌}
+use Rattle.ksv_yaml_scan.proofs.Common.{◌||◌, not, is_nil, is_white, skip, white_or_end, Ending, Run, stop, run_by, run, Quote}
+use Rattle.std.proofs.Common.{◌⊎◌}
 use Rattle.std.proofs.lemmas.Bool.{eqb-true, and_parts, or_cases, or_parts}
-use Rattle.ksv_yaml_scan.specs.Lines.{is_nil, is_white, skip, shown, is_clear, white_or_end}
-use Rattle.ksv_yaml_scan.specs.Plain.{is_bracket, is_special, starts_plain, Ending, Colon, Bracket, Comment, End, Run, stop, run_by, run, plain_of_run}
-use Rattle.ksv_yaml_scan.specs.Quoted.{Quote, quote_of}
+use Rattle.ksv_yaml_scan.specs.Lines.{shown, is_clear}
+use Rattle.ksv_yaml_scan.specs.Plain.{is_bracket, is_special, starts_plain, Colon, Bracket, Comment, End, plain_of_run}
+use Rattle.ksv_yaml_scan.specs.Quoted.{quote_of}
 use Rattle.ksv_yaml_scan.specs.Starts.{InlineKind, Quoted, Flowing, Dashed, Dash, Key, Inline, Refused, starts_quote, dash_of, key_at_colon, key_of_quote}
 use Rattle.ksv_yaml_scan.specs.Starts.{key_of_run, key_of, plain_kind, quoted_kind, block_kind, kind_of, start_by, start_of, is_dash}
 use Rattle.ksv_yaml_scan.proofs.Choices.{chosen, at_true, at_false, not_first}

@@ -46,6 +46,7 @@
 //! Lemmas (`proofs/`):
 //!
 //! - `Choices`: choices by a truth value
+//! - `Common`: what many of them name, of definitions and of other crates
 //! - `Continuing`: a plain scalar that goes on over lines
 //! - `Cutting`: a text is cut at its line feeds
 //! - `Folding`: the rows of a block scalar give the same text from front to back

@@ -1,6 +1,4 @@
-use Rattle.std.proofs.Common.{◌≡◌, List, ℕ, [], ◌∷◌, ◌++◌, map, string_bytes, arith, ap, ◌∙◌}
-use Rattle.std.proofs.lemmas.List.{map-append}
-use Rattle.ksv_expr_syntax.specs.Lexemes.{lexemes}
+use Rattle.ksv_expr_syntax.proofs.Common.{◌≡◌, List, ℕ, [], ◌∷◌, ◌++◌, map, string_bytes, arith, ap, ◌∙◌, map-append, lexemes}
 use Rattle.ksv_expr_syntax.proofs.Loops.{path_goes_on}
 use Rattle.ksv_expr_syntax.proofs.cursor.path.Goals as goal
 

@@ -1,5 +1,4 @@
-use Rattle.std.proofs.Common.{◌≡◌, ◌≤◌, length, map, string_bytes}
-use Rattle.ksv_expr_syntax.specs.Lexemes.{lexemes}
+use Rattle.ksv_expr_syntax.proofs.Common.{◌≡◌, ◌≤◌, length, map, string_bytes, lexemes}
 use Rattle.ksv_expr_syntax.proofs.Loops.{PathNow}
 use Rattle.ksv_expr_syntax.proofs.cursor.path.Given as goal
 

@@ -1,6 +1,4 @@
-use Rattle.std.proofs.Common.{take, sym, ap, subst, ◌∙◌}
-use Rattle.std.specs.Prelude.{IsUtf8}
-use Rattle.ksv_expr_syntax.specs.Tokens.{is_name_byte}
+use Rattle.ksv_expr_syntax.proofs.Common.{take, sym, ap, subst, ◌∙◌, IsUtf8, is_name_byte}
 use Rattle.ksv_expr_syntax.proofs.Lexing.{take_run, names_utf8}
 use Rattle.ksv_expr_syntax.proofs.lexer.name_token.Goals as goal
 

@@ -1,4 +1,4 @@
-use Rattle.ksv_expr_syntax.specs.Tokens.{natural}
+use Rattle.ksv_expr_syntax.proofs.Common.{natural}
 use Rattle.ksv_expr_syntax.proofs.Lexing.{number_over}
 use Rattle.ksv_expr_syntax.proofs.lexer.number_of_digits.Goals as goal
 

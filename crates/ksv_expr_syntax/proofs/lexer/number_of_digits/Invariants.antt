@@ -1,5 +1,4 @@
-use Rattle.std.proofs.Common.{◌≡◌, length}
-use Rattle.ksv_expr_syntax.specs.Tokens.{natural}
+use Rattle.ksv_expr_syntax.proofs.Common.{◌≡◌, length, natural}
 use Rattle.ksv_expr_syntax.proofs.lexer.number_of_digits.Given as goal
 
 abbrev pub invariant-digits : goal.invariant-digits

@@ -1,5 +1,4 @@
-use Rattle.std.specs.Prelude.{encode_utf8}
-use Rattle.ksv_expr_syntax.specs.Cutting.{quoted}
+use Rattle.ksv_expr_syntax.proofs.Common.{encode_utf8, quoted}
 use Rattle.ksv_expr_syntax.proofs.Lexing.{quoted_byte, quoted_escape}
 use Rattle.ksv_expr_syntax.proofs.lexer.quoted_bytes.Goals as goal
 

@@ -1,5 +1,4 @@
-use Rattle.std.proofs.Common.{◌≡◌, length}
-use Rattle.ksv_expr_syntax.specs.Cutting.{quoted, put}
+use Rattle.ksv_expr_syntax.proofs.Common.{◌≡◌, length, quoted, put}
 use Rattle.ksv_expr_syntax.proofs.lexer.quoted_bytes.Given as goal
 
 abbrev pub invariant-bytes : goal.invariant-bytes

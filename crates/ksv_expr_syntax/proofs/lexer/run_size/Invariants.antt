@@ -1,4 +1,4 @@
-use Rattle.std.proofs.Common.{◌≡◌, ◌+◌, ◌≤◌, length}
+use Rattle.ksv_expr_syntax.proofs.Common.{◌≡◌, ◌+◌, ◌≤◌, length}
 use Rattle.ksv_expr_syntax.specs.Cutting.{run}
 use Rattle.ksv_expr_syntax.proofs.lexer.run_size.Given as goal
 

@@ -1,8 +1,5 @@
-use Rattle.std.proofs.Common.{sym, ap, ◌∙◌}
-use Rattle.std.proofs.lemmas.List.{map-append}
-use Rattle.ksv_expr_syntax.specs.declared.token.Placed.{Placed}
-use Rattle.ksv_expr_syntax.specs.Lexemes.{lexemes, lexeme_of}
-use Rattle.ksv_expr_syntax.specs.Cutting.{cut}
+use Rattle.ksv_expr_syntax.proofs.Common.{sym, ap, ◌∙◌, map-append, Placed, lexemes, cut}
+use Rattle.ksv_expr_syntax.specs.Lexemes.{lexeme_of}
 use Rattle.ksv_expr_syntax.proofs.Scan.{scan_ends, scan_on, scan_shorter, scan_stuck, empty_is, not_empty}
 use Rattle.ksv_expr_syntax.proofs.lexer.scan_text.Goals as goal
 

@@ -1,5 +1,4 @@
-use Rattle.std.proofs.Common.{length}
-use Rattle.ksv_expr_syntax.specs.Lexemes.{lexemes}
+use Rattle.ksv_expr_syntax.proofs.Common.{length, lexemes}
 use Rattle.ksv_expr_syntax.proofs.Scan.{ScanNow}
 use Rattle.ksv_expr_syntax.proofs.lexer.scan_text.Given as goal
 

@@ -1,7 +1,4 @@
-use Rattle.std.proofs.Common.{sym, ap, ◌∙◌}
-use Rattle.ksv_expr_tree.specs.Tree.{string}
-use Rattle.ksv_expr_syntax.specs.Lexemes.{constant}
-use Rattle.ksv_expr_syntax.specs.Cutting.{cut_at}
+use Rattle.ksv_expr_syntax.proofs.Common.{sym, ap, ◌∙◌, string, constant, cut_at}
 use Rattle.ksv_expr_syntax.proofs.Lexing.{text_is, text_none}
 use Rattle.ksv_expr_syntax.proofs.lexer.text_token.Goals as goal
 

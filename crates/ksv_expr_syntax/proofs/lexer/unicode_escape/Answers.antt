@@ -1,4 +1,4 @@
-use Rattle.std.proofs.Common.{arith}
+use Rattle.ksv_expr_syntax.proofs.Common.{arith}
 use Rattle.ksv_expr_syntax.proofs.Lexing.{unicode_read}
 use Rattle.ksv_expr_syntax.proofs.lexer.unicode_escape.Goals as goal
 

@@ -1,11 +1,10 @@
 -- What each exit of the parser's functions gives.
-use Rattle.std.proofs.Common.{◌∷◌, ◌<◌, length, map, string_bytes, Some, None, refl, arith, sym, ap, subst, ◌∙◌}
-use Rattle.std.proofs.lemmas.Result.{err_from_is_err_and}
-use Rattle.ksv_expr_tree.specs.Tree.{view, arguments_of, literal_of, unary, choice}
+use Rattle.ksv_expr_syntax.proofs.Common.{◌∷◌, ◌<◌, length, map, string_bytes, Some, None, refl, arith, sym, ap, subst, ◌∙◌, err_from_is_err_and, view}
+use Rattle.ksv_expr_syntax.proofs.Common.{arguments_of, unary, choice, lexemes, Whole, Joined, Negation, Comparison, Prefix, Postfix, Primary, join_tree, found}
+use Rattle.ksv_expr_syntax.proofs.Common.{found_list, next, ◌>>=◌, read}
+use Rattle.ksv_expr_tree.specs.Tree.{literal_of}
 use Rattle.ksv_expr_tree.specs.declared.tree.UnaryOperator.TheVariants as unaries
-use Rattle.ksv_expr_syntax.specs.Lexemes.{lexemes, lexeme_of}
-use Rattle.ksv_expr_syntax.specs.Grammar.{Whole, Joined, Negation, Comparison, Prefix, Postfix, Primary, join_tree}
-use Rattle.ksv_expr_syntax.specs.Reading.{found, found_list, next, ◌>>=◌, read}
+use Rattle.ksv_expr_syntax.specs.Lexemes.{lexeme_of}
 use Rattle.ksv_expr_syntax.specs.Code.{Gives, level_of, arms_at, right_at, list_at, place_at, literal_at, word_at, with_tree, closing}
 use Rattle.ksv_expr_syntax.specs.declared.token.Symbol.TheVariants as tok
 use Rattle.ksv_expr_syntax.specs.declared.token.Precedence.TheVariants as tier

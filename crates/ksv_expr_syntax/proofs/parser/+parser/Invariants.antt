@@ -1,8 +1,4 @@
-use Rattle.std.proofs.Common.{◌≡◌, ◌+◌, ◌*◌, ◌≤◌, ◌<◌, length, map}
-use Rattle.ksv_expr_tree.specs.Tree.{view, arguments_of}
-use Rattle.ksv_expr_syntax.specs.Lexemes.{lexemes}
-use Rattle.ksv_expr_syntax.specs.Grammar.{Joined, Postfix}
-use Rattle.ksv_expr_syntax.specs.Reading.{read}
+use Rattle.ksv_expr_syntax.proofs.Common.{◌≡◌, ◌+◌, ◌*◌, ◌≤◌, ◌<◌, length, map, view, arguments_of, lexemes, Joined, Postfix, read}
 use Rattle.ksv_expr_syntax.proofs.Flow.{join_on, suffix_on}
 use Rattle.ksv_expr_syntax.specs.Code.{level_of}
 use Rattle.ksv_expr_syntax.proofs.Exits.{rank, ListNow}

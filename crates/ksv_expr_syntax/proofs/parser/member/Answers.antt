@@ -1,6 +1,4 @@
-use Rattle.std.proofs.Common.{sym, ap, ◌∙◌}
-use Rattle.ksv_expr_tree.specs.Tree.{view}
-use Rattle.ksv_expr_syntax.specs.Lexemes.{lexemes}
+use Rattle.ksv_expr_syntax.proofs.Common.{sym, ap, ◌∙◌, view, lexemes}
 use Rattle.ksv_expr_syntax.specs.Code.{cast_at, member_on, member_at}
 use Rattle.ksv_expr_syntax.proofs.Exits.{gives_is, spend_one, member_cast}
 use Rattle.ksv_expr_syntax.proofs.parser.member.Goals as goal

@@ -1,6 +1,5 @@
-use Rattle.std.proofs.Common.{◌≡◌, [], ◌∷◌, ◌++◌, map, string_bytes, arith, ap, sym, ◌∙◌}
-use Rattle.std.proofs.lemmas.List.{map-append, length-map}
-use Rattle.ksv_expr_syntax.specs.Reading.{path_tree}
+use Rattle.ksv_expr_syntax.proofs.Common.{◌≡◌, [], ◌∷◌, ◌++◌, map, string_bytes, arith, ap, sym, ◌∙◌, map-append, path_tree}
+use Rattle.std.proofs.lemmas.List.{length-map}
 use Rattle.ksv_expr_syntax.proofs.Complete.{path_tree_is}
 use Rattle.ksv_expr_syntax.proofs.Exits.{not_zero}
 use Rattle.ksv_expr_syntax.proofs.parser.path_expr.Goals as goal

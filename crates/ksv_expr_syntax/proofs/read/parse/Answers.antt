@@ -1,8 +1,5 @@
 -- A text whose tokens spell nothing, or that has none, spells nothing.
-use Rattle.std.proofs.Common.{subst}
-use Rattle.std.proofs.lemmas.Result.{err_from_is_err_and}
-use Rattle.ksv_expr_tree.specs.Tree.{Tree}
-use Rattle.ksv_expr_syntax.specs.Lexemes.{lexemes}
+use Rattle.ksv_expr_syntax.proofs.Common.{subst, err_from_is_err_and, Tree, lexemes}
 use Rattle.ksv_expr_syntax.specs.Grammar.{IsExpr}
 use Rattle.ksv_expr_syntax.proofs.Theorem.{refused_text}
 use Rattle.ksv_expr_syntax.proofs.read.parse.Goals as goal

@@ -1,8 +1,6 @@
 -- A text whose tokens spell no type, or that has none, spells no type.
-use Rattle.std.proofs.Common.{subst}
-use Rattle.std.proofs.lemmas.Result.{err_from_is_err_and}
+use Rattle.ksv_expr_syntax.proofs.Common.{subst, err_from_is_err_and, lexemes}
 use Rattle.ksv_expr_tree.specs.Tree.{TypeTree}
-use Rattle.ksv_expr_syntax.specs.Lexemes.{lexemes}
 use Rattle.ksv_expr_syntax.specs.Grammar.{SpellsType}
 use Rattle.ksv_expr_syntax.proofs.Theorem.{refused_type}
 use Rattle.ksv_expr_syntax.proofs.read.parse_type.Goals as goal

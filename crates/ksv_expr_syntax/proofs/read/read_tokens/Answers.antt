@@ -1,7 +1,5 @@
 -- What is read of all the tokens is what they spell.
-use Rattle.std.proofs.lemmas.Result.{err_from_is_err_and}
-use Rattle.ksv_expr_tree.specs.Tree.{view}
-use Rattle.ksv_expr_syntax.specs.Lexemes.{lexemes}
+use Rattle.ksv_expr_syntax.proofs.Common.{err_from_is_err_and, view, lexemes}
 use Rattle.ksv_expr_syntax.proofs.Theorem.{spelled, not_read, rest_read, no_more, some_more}
 use Rattle.ksv_expr_syntax.proofs.read.read_tokens.Goals as goal
 

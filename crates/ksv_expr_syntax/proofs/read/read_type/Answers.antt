@@ -1,8 +1,5 @@
 -- What is read of all the tokens is the type that they spell.
-use Rattle.std.proofs.Common.{map, string_bytes, sym, ap, ◌∙◌}
-use Rattle.std.proofs.lemmas.Result.{err_from_is_err_and}
-use Rattle.ksv_expr_tree.specs.Tree.{view, arguments_of}
-use Rattle.ksv_expr_syntax.specs.Lexemes.{lexemes}
+use Rattle.ksv_expr_syntax.proofs.Common.{map, string_bytes, sym, ap, ◌∙◌, err_from_is_err_and, view, arguments_of, lexemes}
 use Rattle.ksv_expr_syntax.specs.Code.{type_list}
 use Rattle.ksv_expr_syntax.proofs.Theorem.{type_spelled, no_type_path, no_type_list, no_type_end, no_more, some_more}
 use Rattle.ksv_expr_syntax.proofs.read.read_type.Goals as goal

@@ -1,4 +1,3 @@
-use Rattle.std.proofs.Common.{arith}
 use Rattle.ksv_lines.proofs.DigitLemmas.{digits_stand, digits_written, others_stand_not}
 use Rattle.ksv_lines.proofs.digits.edit_digits.Goals as goal
 use Rattle.ksv_lines.proofs.digits.edit_digits.Goals.{else-digits-eq0-via-then-digits-eq0+else-all_digits, else-digits-eq0-via-else-digits-eq0}

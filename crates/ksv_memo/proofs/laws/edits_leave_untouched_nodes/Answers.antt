@@ -1,5 +1,4 @@
-use Rattle.ksv_memo_rules.specs.Meaning.{on}
-use Rattle.ksv_memo_rules.proofs.Standing.{law_on}
+use Rattle.ksv_memo.proofs.Common.{on, law_on}
 use Rattle.ksv_memo.proofs.Forgetting.{left-decides}
 use Rattle.ksv_memo.proofs.laws.edits_leave_untouched_nodes.Goals as goal
 

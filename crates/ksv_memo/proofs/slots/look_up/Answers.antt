@@ -1,7 +1,6 @@
-use Rattle.std.proofs.Common.{length, ap, sym, subst, refl, ◌∙◌}
-use Rattle.std.specs.List.{zip, IsDistinct}
+use Rattle.ksv_memo.proofs.Common.{length, ap, sym, subst, refl, ◌∙◌, zip, IsDistinct, Empty}
 use Rattle.std.proofs.lemmas.Map.Made.{keys_of-zip}
-use Rattle.ksv_memo_rules.specs.declared.replies.Slot.TheVariants.{Empty, Open, Value, Fault}
+use Rattle.ksv_memo_rules.specs.declared.replies.Slot.TheVariants.{Open, Value, Fault}
 use Rattle.ksv_memo.proofs.Finding.{kept_there}
 use Rattle.ksv_memo.proofs.Zipping.{any-zip, inside-zip}
 use Rattle.ksv_memo.proofs.slots.look_up.Goals as goal

@@ -1,4 +1,4 @@
-use Rattle.std.proofs.Common.{[], ◌∷◌, arith}
+use Rattle.ksv_memo.proofs.Common.{[], ◌∷◌, arith}
 use Rattle.ksv_memo.proofs.Emptying.{taken-none, taken-more, taken-all}
 use Rattle.ksv_memo.proofs.table.empty_taken.Goals as goal
 

@@ -1,4 +1,4 @@
-use Rattle.std.proofs.Common.{ℕ, List, length}
+use Rattle.ksv_memo.proofs.Common.{ℕ, List, length}
 use Rattle.ksv_memo.specs.Emptying.{IsTaken}
 use Rattle.ksv_memo.proofs.table.empty_taken.Given as goal
 

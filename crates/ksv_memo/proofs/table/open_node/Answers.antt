@@ -1,10 +1,8 @@
-use Rattle.std.proofs.lemmas.List.{length_push, length-set}
-use Rattle.std.proofs.lemmas.Option.{slice_get_within}
-use Rattle.std.proofs.Common.{rules, ◌≡◌, ◌+◌, ◌∙◌, ap, subst, refl, sym, length, arith}
-use Rattle.ksv_memo_rules.specs.declared.replies.Slot.TheVariants.{Empty, Open}
-use Rattle.ksv_memo.specs.Layout.{IsLaidOut, entries_of, opens_of}
-use Rattle.ksv_memo.specs.Moves.{IsVacant, Knows}
-use Rattle.ksv_memo.specs.Nodes.{Opens}
+use Rattle.ksv_memo.proofs.Common.{length-set, slice_get_within, rules, ◌≡◌, ◌+◌, ◌∙◌, ap, subst, refl, sym, length, arith, Empty, IsLaidOut, entries_of}
+use Rattle.ksv_memo.proofs.Common.{opens_of, IsVacant, Opens}
+use Rattle.std.proofs.lemmas.List.{length_push}
+use Rattle.ksv_memo_rules.specs.declared.replies.Slot.TheVariants.{Open}
+use Rattle.ksv_memo.specs.Moves.{Knows}
 use Rattle.ksv_memo.specs.declared.slots.Known.TheVariants.{New}
 use Rattle.ksv_memo.proofs.Changing.{appended, given}
 use Rattle.ksv_memo.proofs.Finding.{answer_there}

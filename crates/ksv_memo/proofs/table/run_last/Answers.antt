@@ -1,8 +1,4 @@
-use Rattle.std.proofs.Common.{◌≡◌, ◌-◌, ◌++◌, length, take, drop, subst, refl, IfOk, OnOk}
-use Rattle.ksv_memo_rules.specs.Meaning.{on}
-use Rattle.ksv_memo_rules.specs.Slots.{answers_at}
-use Rattle.ksv_memo.specs.Layout.{slots_of}
-use Rattle.ksv_memo.specs.Moves.{EndsWith}
+use Rattle.ksv_memo.proofs.Common.{◌≡◌, ◌-◌, ◌++◌, length, take, drop, subst, refl, IfOk, OnOk, on, answers_at, slots_of, EndsWith}
 use Rattle.ksv_memo.proofs.Topping.{runs}
 use Rattle.ksv_memo.proofs.table.run_last.Goals as goal
 

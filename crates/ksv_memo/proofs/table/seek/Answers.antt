@@ -1,8 +1,5 @@
-use Rattle.std.proofs.Common.{rules, subst, refl, arith}
-use Rattle.std.proofs.lemmas.Option.{slice_get_within}
-use Rattle.ksv_memo_rules.specs.declared.replies.Slot.TheVariants.{Empty, Open}
-use Rattle.ksv_memo.specs.Layout.{entries_of, opens_of}
-use Rattle.ksv_memo.specs.Nodes.{Opens, Circles}
+use Rattle.ksv_memo.proofs.Common.{rules, subst, refl, arith, slice_get_within, Empty, entries_of, opens_of, Opens, Circles}
+use Rattle.ksv_memo_rules.specs.declared.replies.Slot.TheVariants.{Open}
 use Rattle.ksv_memo.proofs.Changing.{set_at, set_count}
 use Rattle.ksv_memo.proofs.Tabling.{empty_out, empty_free, open_waits, opens-laid, opens-more, empty_none, empty_closed, looked-laid, looked-view}
 use Rattle.ksv_memo.proofs.table.seek.Goals as goal

@@ -1,5 +1,4 @@
-use Rattle.std.proofs.Common.{◌∙◌, ap, get_or}
-use Rattle.ksv_bytes.specs.declared.uses.Use.TheVariants.{Bytes}
+use Rattle.ksv_memo.proofs.Common.{◌∙◌, ap, get_or, Bytes}
 use Rattle.ksv_memo.proofs.Once.{member_test, once-keeps, once-takes}
 use Rattle.ksv_memo.proofs.uses.each_once.Goals as goal
 use Rattle.ksv_memo.proofs.uses.each_once.Goals.{then-not-contains+in_ok-push, else-not-contains}

@@ -1,5 +1,4 @@
-use Rattle.std.proofs.Common.{take}
-use Rattle.ksv_memo_rules.specs.Right.{HasEachOnce}
+use Rattle.ksv_memo.proofs.Common.{take, HasEachOnce}
 use Rattle.ksv_memo.proofs.uses.each_once.Given as goal
 
 abbrev pub invariant-loop-used : goal.invariant-loop-used

@@ -1,9 +1,5 @@
-use Rattle.std.proofs.Common.{◌≡◌, ℕ, suc, ◌+◌, ◌-◌, ◌<◌, List, length, set, get_or, refl, sym, ◌∙◌, ap, arith}
-use Rattle.std.proofs.lemmas.List.{length-set, get_or-set_same, get_or_read}
-use Rattle.ksv_memo_links.specs.declared.blocks.Entry.{Entry}
-use Rattle.ksv_memo_links.specs.declared.blocks.Block.{Block}
-use Rattle.ksv_memo_links.specs.Shelved.{row}
-use Rattle.ksv_memo_links.specs.Chained.{block_at, named_of, IsLive}
+use Rattle.ksv_memo_links.proofs.Common.{◌≡◌, ℕ, suc, ◌+◌, ◌-◌, ◌<◌, List, length, set, get_or, refl, sym, ◌∙◌, ap, arith, length-set, get_or-set_same}
+use Rattle.ksv_memo_links.proofs.Common.{get_or_read, Entry, Block, row, block_at, named_of, IsLive}
 use Rattle.ksv_memo_links.proofs.Clearing.{cut-more}
 use Rattle.ksv_memo_links.proofs.Linking.{named-less, chained-less, row-length, before-inside, next-inside, named-inside}
 use Rattle.ksv_memo_links.proofs.blocks.clear_block.Goals as goal

@@ -1,5 +1,4 @@
-use Rattle.std.proofs.Common.{◌≡◌, ◌+◌, ◌*◌, length}
-use Rattle.ksv_memo_links.specs.Chained.{block_at, named_of, IsChained}
+use Rattle.ksv_memo_links.proofs.Common.{◌≡◌, ◌+◌, ◌*◌, length, block_at, named_of, IsChained}
 use Rattle.ksv_memo_links.proofs.Clearing.{IsCutTo}
 use Rattle.ksv_memo_links.proofs.blocks.clear_block.Given as goal
 

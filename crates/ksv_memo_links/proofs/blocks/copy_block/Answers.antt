@@ -1,6 +1,4 @@
-use Rattle.std.proofs.Common.{◌≡◌, ℕ, suc, ◌+◌, List, [], ◌∷◌, ◌++◌, sym, ◌∙◌, ap, arith}
-use Rattle.ksv_memo_links.specs.declared.blocks.Entry.{Entry}
-use Rattle.ksv_memo_links.specs.Chained.{entry_at, lists_in}
+use Rattle.ksv_memo_links.proofs.Common.{◌≡◌, ℕ, suc, ◌+◌, List, [], ◌∷◌, ◌++◌, sym, ◌∙◌, ap, arith, Entry, entry_at, lists_in}
 use Rattle.ksv_memo_links.proofs.Linking.{block-more}
 use Rattle.ksv_memo_links.proofs.blocks.copy_block.Goals as goal
 

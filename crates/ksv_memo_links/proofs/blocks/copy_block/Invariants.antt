@@ -1,5 +1,4 @@
-use Rattle.std.proofs.Common.{◌≡◌}
-use Rattle.ksv_memo_links.specs.Chained.{lists_in}
+use Rattle.ksv_memo_links.proofs.Common.{◌≡◌, lists_in}
 use Rattle.ksv_memo_links.proofs.blocks.copy_block.Given as goal
 
 abbrev pub invariant-loop-i : goal.invariant-loop-i

@@ -1,5 +1,5 @@
-use Rattle.std.proofs.Common.{◌≡◌, ℕ, ◌-◌, ◌≤◌, length, vec_capacity}
-use Rattle.ksv_memo_links.specs.Chained.{entry_at}
+use Rattle.ksv_memo_links.proofs.Common.{◌≡◌, ℕ, ◌-◌, ◌≤◌, length, entry_at}
+use Rattle.std.proofs.Common.{vec_capacity}
 use Rattle.ksv_memo_links.proofs.blocks.extend.Given as goal
 
 abbrev pub invariant-loop-entries : goal.invariant-loop-entries

@@ -1,7 +1,5 @@
-use Rattle.std.proofs.Common.{◌≡◌, ◌≢◌, ℕ, suc, ◌+◌, ◌<◌, List, [], length, set, get_or, refl, sym, ◌∙◌, ap, subst, arith}
-use Rattle.std.proofs.lemmas.List.{length-set, get_or-set_same, get_or-set_other, set-get_or}
-use Rattle.ksv_memo_links.specs.declared.blocks.Block.{Block}
-use Rattle.ksv_memo_links.specs.Chained.{block_at, named_of, IsChained, IsFree}
+use Rattle.ksv_memo_links.proofs.Common.{◌≡◌, ◌≢◌, ℕ, suc, ◌+◌, ◌<◌, List, [], length, set, get_or, refl, sym, ◌∙◌, ap, subst, arith, length-set}
+use Rattle.ksv_memo_links.proofs.Common.{get_or-set_same, get_or-set_other, set-get_or, Block, block_at, named_of, IsChained, IsFree}
 use Rattle.ksv_memo_links.proofs.Linking.{named-length, row-length, live-as, first-other, first-inside, named-more, chained-more}
 use Rattle.ksv_memo_links.proofs.Filling.{one-more}
 use Rattle.ksv_memo_links.proofs.blocks.fill_block.Goals as goal

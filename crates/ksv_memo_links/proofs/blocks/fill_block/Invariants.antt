@@ -1,5 +1,4 @@
-use Rattle.std.proofs.Common.{◌≡◌, ◌≢◌, ℕ, ◌<◌, ◌≤◌, length, take, set}
-use Rattle.ksv_memo_links.specs.Chained.{block_at, named_of, IsChained}
+use Rattle.ksv_memo_links.proofs.Common.{◌≡◌, ◌≢◌, ℕ, ◌<◌, ◌≤◌, length, take, set, block_at, named_of, IsChained}
 use Rattle.ksv_memo_links.proofs.blocks.fill_block.Given as goal
 
 abbrev pub invariant-loop-i : goal.invariant-loop-i

@@ -1,5 +1,4 @@
-use Rattle.std.proofs.Common.{◌≡◌, ℕ, ◌+◌, ◌<◌}
-use Rattle.ksv_memo_links.specs.Chained.{entry_at}
+use Rattle.ksv_memo_links.proofs.Common.{◌≡◌, ℕ, ◌+◌, ◌<◌, entry_at}
 use Rattle.ksv_memo_links.proofs.blocks.has_room.Given as goal
 
 abbrev pub invariant-loop-k : goal.invariant-loop-k

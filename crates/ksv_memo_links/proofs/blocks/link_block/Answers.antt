@@ -1,9 +1,6 @@
-use Rattle.std.proofs.Common.{◌≡◌, ◌⊎◌, inl, inr, ℕ, ◌+◌, ◌<◌, ◌≤◌, List, [], ◌∷◌, length, set, refl, sym, ◌∙◌, ap, subst, arith}
-use Rattle.std.proofs.lemmas.List.{set-get_or}
-use Rattle.ksv_memo_links.specs.declared.blocks.Entry.{Entry}
-use Rattle.ksv_memo_links.specs.declared.blocks.Block.{Block}
-use Rattle.ksv_memo_links.specs.Shelved.{row}
-use Rattle.ksv_memo_links.specs.Chained.{named_of, IsChained, IsFree, IsRoom, IsExtended}
+use Rattle.ksv_memo_links.proofs.Common.{◌≡◌, ◌⊎◌, inl, inr, ℕ, ◌+◌, ◌<◌, ◌≤◌, List, [], ◌∷◌, length, set, refl, sym, ◌∙◌, ap, subst, arith, set-get_or, Entry}
+use Rattle.ksv_memo_links.proofs.Common.{Block, row, named_of, IsChained, IsFree}
+use Rattle.ksv_memo_links.specs.Chained.{IsRoom, IsExtended}
 use Rattle.ksv_memo_links.proofs.Linking.{named-still, chained-still}
 use Rattle.ksv_memo_links.proofs.blocks.link_block.Goals as goal
 

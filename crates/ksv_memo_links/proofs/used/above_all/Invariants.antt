@@ -1,4 +1,4 @@
-use Rattle.std.proofs.Common.{ℕ, ◌<◌, get_or}
+use Rattle.ksv_memo_links.proofs.Common.{ℕ, ◌<◌, get_or}
 use Rattle.ksv_memo_links.proofs.used.above_all.Given as goal
 
 abbrev pub invariant-loop-list : goal.invariant-loop-list

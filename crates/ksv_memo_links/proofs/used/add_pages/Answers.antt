@@ -1,7 +1,6 @@
-use Rattle.std.proofs.Common.{◌≡◌, ℕ, zero, suc, ◌+◌, ◌-◌, ◌/◌, ◌≤◌, List, [], ◌∷◌, ◌++◌, map, sym, ◌∙◌, ap, arith, append_assoc}
-use Rattle.std.proofs.lemmas.List.{map-append}
-use Rattle.ksv_memo_links.specs.Touching.{numbers_from}
-use Rattle.ksv_memo_links.specs.Placed.{list_of_page}
+use Rattle.ksv_memo_links.proofs.Common.{◌≡◌, ℕ, zero, suc, ◌+◌, ◌-◌, ◌/◌, ◌≤◌, List, [], ◌∷◌, ◌++◌, map, sym, ◌∙◌, ap, arith, map-append, numbers_from}
+use Rattle.ksv_memo_links.proofs.Common.{list_of_page}
+use Rattle.std.proofs.Common.{append_assoc}
 use Rattle.ksv_memo_links.proofs.used.add_pages.Goals as goal
 
 numbers-more : (a n : ℕ) → numbers_from a (suc n) ≡ numbers_from a n ++ (a + n) ∷ []

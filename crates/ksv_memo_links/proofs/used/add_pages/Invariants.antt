@@ -1,6 +1,4 @@
-use Rattle.std.proofs.Common.{◌≡◌, ◌-◌, ◌/◌, ◌≤◌, ◌++◌, map}
-use Rattle.ksv_memo_links.specs.Touching.{numbers_from}
-use Rattle.ksv_memo_links.specs.Placed.{list_of_page}
+use Rattle.ksv_memo_links.proofs.Common.{◌≡◌, ◌-◌, ◌/◌, ◌≤◌, ◌++◌, map, numbers_from, list_of_page}
 use Rattle.ksv_memo_links.proofs.used.add_pages.Given as goal
 
 abbrev pub invariant-loop-page : goal.invariant-loop-page

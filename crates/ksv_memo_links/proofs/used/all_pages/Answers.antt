@@ -1,10 +1,8 @@
-use Rattle.std.proofs.Common.{◌≡◌, ℕ, ◌+◌, ◌<◌, List, [], ◌∷◌, ◌++◌, length, map, take, get_or, sym, ◌∙◌, ap}
-use Rattle.std.proofs.lemmas.List.{map-append, take_more, append-nil}
+use Rattle.ksv_memo_links.proofs.Common.{◌≡◌, ℕ, ◌+◌, ◌<◌, List, [], ◌∷◌, ◌++◌, length, map, take, get_or, sym, ◌∙◌, ap, map-append, append-nil, Use, Bytes}
+use Rattle.ksv_memo_links.proofs.Common.{pages_in, list_of_page}
+use Rattle.std.proofs.lemmas.List.{take_more}
 use Rattle.std.proofs.lemmas.Grind.{flat_map-append}
-use Rattle.ksv_bytes.specs.declared.uses.Use.{Use}
-use Rattle.ksv_bytes.specs.declared.uses.Use.TheVariants.{Bytes}
-use Rattle.ksv_memo_links.specs.Touching.{pages_in, pages_of}
-use Rattle.ksv_memo_links.specs.Placed.{list_of_page}
+use Rattle.ksv_memo_links.specs.Touching.{pages_of}
 use Rattle.ksv_memo_links.proofs.used.all_pages.Goals as goal
 
 pages-more : (us : List Use) (i : ℕ) → i < length us → pages_in (take (i + 1) us) ≡ pages_in (take i us) ++ pages_of (get_or us i (Bytes 0 0))

@@ -1,6 +1,4 @@
-use Rattle.std.proofs.Common.{◌≡◌, map, take}
-use Rattle.ksv_memo_links.specs.Touching.{pages_in}
-use Rattle.ksv_memo_links.specs.Placed.{list_of_page}
+use Rattle.ksv_memo_links.proofs.Common.{◌≡◌, map, take, pages_in, list_of_page}
 use Rattle.ksv_memo_links.proofs.used.all_pages.Given as goal
 
 abbrev pub invariant-loop-used : goal.invariant-loop-used

@@ -1,7 +1,5 @@
-use Rattle.std.proofs.Common.{◌≡◌, ℕ, zero, suc, ◌+◌, ◌<◌, max, List, [], ◌∷◌, length, take, get_or, ap, arith}
-use Rattle.ksv_bytes.specs.declared.uses.Use.{Use}
-use Rattle.ksv_bytes.specs.declared.uses.Use.TheVariants.{Bytes}
-use Rattle.ksv_memo_links.specs.Touching.{reach_of, farthest}
+use Rattle.ksv_memo_links.proofs.Common.{◌≡◌, ℕ, zero, suc, ◌+◌, ◌<◌, max, List, [], ◌∷◌, length, take, get_or, ap, arith, Use, Bytes, farthest}
+use Rattle.ksv_memo_links.specs.Touching.{reach_of}
 use Rattle.ksv_memo_links.proofs.used.farthest_of.Goals as goal
 
 farthest-more : (us : List Use) (i : ℕ) (d : Use) → i < length us → farthest (take (suc i) us) ≡ max (farthest (take i us)) (reach_of (get_or us i d))

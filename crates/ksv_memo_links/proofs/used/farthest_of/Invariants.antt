@@ -1,5 +1,4 @@
-use Rattle.std.proofs.Common.{◌≡◌, take}
-use Rattle.ksv_memo_links.specs.Touching.{farthest}
+use Rattle.ksv_memo_links.proofs.Common.{◌≡◌, take, farthest}
 use Rattle.ksv_memo_links.proofs.used.farthest_of.Given as goal
 
 abbrev pub invariant-loop-used : goal.invariant-loop-used

@@ -1,10 +1,9 @@
-use Rattle.std.proofs.Common.{rules, ◌≡◌, ℕ, ◌≤◌, List, [], ◌∷◌, ◌++◌, length, map, replicate, take, refl, sym, ◌∙◌, ap, subst, arith}
-use Rattle.std.proofs.lemmas.List.{take_all}
+use Rattle.ksv_memo_links.proofs.Common.{◌≡◌, ℕ, ◌≤◌, List, [], ◌∷◌, ◌++◌, length, map, replicate, take, refl, sym, ◌∙◌, ap, subst, arith, take_all, uses_of}
+use Rattle.ksv_memo_links.proofs.Common.{HasSameRows}
+use Rattle.std.proofs.Common.{rules}
 use Rattle.std.specs.List.{FoldsTo}
 use Rattle.ksv_memo_links.specs.declared.used.Noted.{Noted}
 use Rattle.ksv_memo_links.specs.declared.used.Noted.TheVariants.{Nothing}
-use Rattle.ksv_memo_links.specs.Placed.{uses_of}
-use Rattle.ksv_memo_links.specs.Shelved.{HasSameRows}
 use Rattle.ksv_memo_links.proofs.Padding.{rows_more}
 use Rattle.ksv_memo_links.proofs.used.reach_rows.Goals as goal
 

@@ -1,5 +1,4 @@
-use Rattle.std.proofs.Common.{◌≡◌, drop}
-use Rattle.ksv_nodes.specs.Reading.{first_at}
+use Rattle.ksv_nodes.proofs.Common.{◌≡◌, drop, first_at}
 use Rattle.ksv_nodes.proofs.First.{moved_on}
 use Rattle.ksv_nodes.proofs.search.first_in.Given as goal
 

@@ -1,5 +1,4 @@
-use Rattle.std.proofs.Common.{sym}
-use Rattle.ksv_nodes.specs.declared.node.NodeKind.TheVariants.{Head}
+use Rattle.ksv_places.proofs.Common.{sym, Head}
 use Rattle.ksv_places.proofs.Pairing.{paired}
 use Rattle.ksv_places.proofs.spots.spot_at.Goals as goal
 

@@ -1,6 +1,5 @@
-use Rattle.std.proofs.Common.{◌≡◌, ℕ, ◌+◌, ◌-◌, ◌≤◌, length}
+use Rattle.ksv_places.proofs.Common.{◌≡◌, ℕ, ◌+◌, ◌-◌, ◌≤◌, length, row_at}
 use Rattle.std.specs.Prelude.{max}
-use Rattle.ksv_places.specs.Spots.{row_at}
 use Rattle.ksv_places.proofs.spots.widen.Given as goal
 
 abbrev pub invariant-loop-rows : goal.invariant-loop-rows

@@ -1,8 +1,7 @@
-use Rattle.std.proofs.Common.{◌≡◌, ◌<◌, ℕ, List, [], Ok, Err, Result, IfOk, OnErr, length, get_or, sym, ◌∙◌, ap, subst, refl, arith}
-use Rattle.ksv_expr_value.specs.declared.step.Step.{Step}
-use Rattle.ksv_places.specs.declared.links.Link.{Link}
-use Rattle.ksv_places.specs.Table.{number_at, shelf_at}
-use Rattle.ksv_places.specs.Tree.{look, paths_of, IsMore, IsFurther, IsGrown}
+use Rattle.ksv_places.proofs.Common.{◌≡◌, ◌<◌, ℕ, List, [], Ok, Err, Result, OnErr, length, get_or, sym, ◌∙◌, ap, subst, refl, arith, Step, Link, number_at}
+use Rattle.ksv_places.proofs.Common.{shelf_at, look, paths_of, IsMore}
+use Rattle.std.proofs.Common.{IfOk}
+use Rattle.ksv_places.specs.Tree.{IsFurther, IsGrown}
 use Rattle.ksv_places.proofs.Walking.{further, inside}
 use Rattle.ksv_places.proofs.Reaching.{same_more, grown_more, grown_further}
 use Rattle.ksv_places.proofs.tree.further.Goals as goal

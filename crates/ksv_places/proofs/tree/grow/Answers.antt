@@ -1,7 +1,5 @@
-use Rattle.std.proofs.Common.{◌≡◌, ◌++◌, ◌∷◌, [], length, sym, ◌∙◌, ap, subst}
-use Rattle.ksv_places.specs.declared.links.Link.{Link}
-use Rattle.ksv_places.specs.Table.{number_at, shelf_at}
-use Rattle.ksv_places.specs.Tree.{IsTree, Hooks}
+use Rattle.ksv_places.proofs.Common.{◌≡◌, ◌++◌, ◌∷◌, [], length, sym, ◌∙◌, ap, subst, Link, number_at, shelf_at, IsTree}
+use Rattle.ksv_places.specs.Tree.{Hooks}
 use Rattle.ksv_places.proofs.Hooking.{hooked}
 use Rattle.ksv_places.proofs.tree.grow.Goals as goal
 

@@ -1,5 +1,4 @@
-use Rattle.std.proofs.Common.{◌<◌, length, arith}
-use Rattle.ksv_places.specs.Tree.{link_at}
+use Rattle.ksv_places.proofs.Common.{◌<◌, length, arith, link_at}
 use Rattle.ksv_places.proofs.Chains.{length_on}
 use Rattle.ksv_places.proofs.tree.has_room.Goals as goal
 

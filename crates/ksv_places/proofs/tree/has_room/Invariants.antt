@@ -1,4 +1,4 @@
-use Rattle.std.proofs.Common.{◌≡◌, ◌+◌, ◌<◌, length}
+use Rattle.ksv_places.proofs.Common.{◌≡◌, ◌+◌, ◌<◌, length}
 use Rattle.ksv_places.specs.Tree.{chain_length}
 use Rattle.ksv_places.proofs.tree.has_room.Given as goal
 

@@ -1,5 +1,4 @@
-use Rattle.std.proofs.Common.{◌<◌, length, sym, ◌∙◌, arith}
-use Rattle.ksv_places.specs.Tree.{link_at}
+use Rattle.ksv_places.proofs.Common.{◌<◌, length, sym, ◌∙◌, arith, link_at}
 use Rattle.ksv_places.proofs.Chains.{step_on, found_at}
 use Rattle.ksv_places.proofs.tree.member.Goals as goal
 

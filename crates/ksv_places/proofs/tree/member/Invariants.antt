@@ -1,5 +1,4 @@
-use Rattle.std.proofs.Common.{◌≡◌, ◌<◌, length}
-use Rattle.ksv_places.specs.Tree.{chain}
+use Rattle.ksv_places.proofs.Common.{◌≡◌, ◌<◌, length, chain}
 use Rattle.ksv_places.proofs.tree.member.Given as goal
 
 abbrev pub invariant-loop-path : goal.invariant-loop-path

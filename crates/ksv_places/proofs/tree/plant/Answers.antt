@@ -1,9 +1,6 @@
-use Rattle.std.proofs.Common.{◌≡◌, ℕ, suc, true, List, [], ◌∷◌, ◌++◌, length, sym, ◌∙◌, ap, subst, refl, arith}
+use Rattle.ksv_places.proofs.Common.{◌≡◌, ℕ, suc, true, List, [], ◌∷◌, ◌++◌, length, sym, ◌∙◌, ap, subst, refl, arith, nat_tests, Name, Link, paths_of, IsTree}
+use Rattle.ksv_places.proofs.Common.{IsMore}
 use Rattle.std.specs.Bool.{◌==◌}
-use Rattle.std.proofs.lemmas.Bool.Decides.{nat_tests}
-use Rattle.ksv_expr_value.specs.declared.step.Step.TheVariants.{Name}
-use Rattle.ksv_places.specs.declared.links.Link.{Link}
-use Rattle.ksv_places.specs.Tree.{paths_of, IsTree, IsMore}
 use Rattle.ksv_places.proofs.Planting.{planted}
 use Rattle.ksv_places.proofs.Reaching.{from_none}
 use Rattle.ksv_places.proofs.tree.plant.Goals as goal

@@ -1,8 +1,6 @@
-use Rattle.std.proofs.Common.{subst}
+use Rattle.ksv_questions.proofs.Common.{subst, Trail, Node, bytes_of, desc_of}
 use Rattle.std.specs.declared.alloc.AllocError.{AllocError}
-use Rattle.ksv_expr_value.specs.Trail.{Trail}
-use Rattle.ksv_nodes.specs.declared.node.Node.{Node}
-use Rattle.ksv_questions.specs.Code.{Hears, bytes_of, desc_of, plain_answer}
+use Rattle.ksv_questions.specs.Code.{Hears, plain_answer}
 use Rattle.ksv_questions.proofs.AskLemmas.{asked_is, hears, heard_one}
 use Rattle.ksv_questions.proofs.asking.ask.Goals as goal
 

@@ -1,13 +1,11 @@
 -- What each exit of a dump's functions gives.
-use Rattle.std.proofs.Common.{◌∙◌, ◌+◌, ◌-◌, drop, get_or, map, Err, Ok, ap, refl, subst, sym}
-use Rattle.std.proofs.lemmas.Result.{err_from_is_err_and}
-use Rattle.serde_json.specs.Data.{no_members, put}
-use Rattle.serde_json.specs.View.{members_view, view}
+use Rattle.ksv_questions.proofs.Common.{◌∙◌, ◌+◌, ◌-◌, drop, map, Err, Ok, ap, refl, subst, sym, err_from_is_err_and, no_members, put, view, Runs, bytes_of}
+use Rattle.ksv_questions.proofs.Common.{desc_of, dumped, found_of, begin, begun_part, elements_part, members_part, part, unasked, value_part, written}
+use Rattle.std.proofs.Common.{get_or}
+use Rattle.serde_json.specs.View.{members_view}
 use Rattle.serde_json.specs.declared.value.Value.{Array, Object}
 use Rattle.ksv_texts.proofs.Json.{array_view, object_view}
-use Rattle.ksv_questions.specs.Code.{Runs, bytes_of, desc_of, dumped, found_of}
-use Rattle.ksv_questions.specs.Dumps.{asked_part, begin, begun_part, elements_part, list_part, members_part}
-use Rattle.ksv_questions.specs.Dumps.{object_part, part, unasked, value_part, written}
+use Rattle.ksv_questions.specs.Dumps.{asked_part, list_part, object_part}
 use Rattle.ksv_questions.proofs.Dumping.{at_bottom, at_level, drop_end, drop_step, elements_begin, elements_end, found_inside, found_written, is_deeper}
 use Rattle.ksv_questions.proofs.Dumping.{members_end, pending_as, pending_same, plain_is, elements_failed, elements_on, loop_done, members_failed, members_on}
 use Rattle.ksv_questions.proofs.Steps.{pending_short, runs_failed, runs_first, runs_settled, settled_failed}

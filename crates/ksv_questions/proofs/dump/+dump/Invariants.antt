@@ -1,8 +1,5 @@
-use Rattle.std.proofs.Common.{◌+◌, ◌-◌, ◌*◌, [], drop, map}
-use Rattle.serde_json.specs.Data.{no_members}
-use Rattle.serde_json.specs.View.{members_view, view}
-use Rattle.ksv_questions.specs.Code.{bytes_of, desc_of}
-use Rattle.ksv_questions.specs.Dumps.{elements_part, members_part, part}
+use Rattle.ksv_questions.proofs.Common.{◌+◌, ◌-◌, ◌*◌, [], drop, map, no_members, view, bytes_of, desc_of, elements_part, members_part, part}
+use Rattle.serde_json.specs.View.{members_view}
 use Rattle.ksv_questions.proofs.Steps.{Pending}
 use Rattle.ksv_questions.proofs.dump.+dump.Given as goal
 

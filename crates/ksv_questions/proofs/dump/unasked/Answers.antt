@@ -1,10 +1,6 @@
-use Rattle.std.proofs.Common.{◌∙◌, [], ap, sym}
-use Rattle.std.proofs.lemmas.Result.{err_from_is_err_and}
-use Rattle.serde_json.specs.Data.{Data}
+use Rattle.ksv_questions.proofs.Common.{◌∙◌, [], ap, sym, err_from_is_err_and, Data, dumped, begin, unasked, written}
 use Rattle.ksv_desc.specs.Whole.{plain_pieces}
 use Rattle.ksv_texts.specs.Parts.{too_long_part}
-use Rattle.ksv_questions.specs.Code.{dumped}
-use Rattle.ksv_questions.specs.Dumps.{begin, unasked, written}
 use Rattle.ksv_questions.proofs.Bound.{bind_is}
 use Rattle.ksv_questions.proofs.Steps.{settled_failed}
 use Rattle.ksv_questions.proofs.dump.unasked.Goals as goal

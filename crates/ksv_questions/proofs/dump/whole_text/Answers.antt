@@ -1,9 +1,6 @@
-use Rattle.std.proofs.Common.{◌-◌, String, Global, string_bytes}
-use Rattle.std.proofs.lemmas.Result.{err_from_is_err_and}
+use Rattle.ksv_questions.proofs.Common.{◌-◌, String, Global, string_bytes, err_from_is_err_and, Answer, bytes_of, desc_of, dumped, Part, part, value_part}
 use Rattle.serde_json.specs.Written.{compact_text}
-use Rattle.ksv_basics.specs.Plan.{Answer}
-use Rattle.ksv_questions.specs.Code.{bytes_of, desc_of, dumped}
-use Rattle.ksv_questions.specs.Dumps.{Part, depth_limit, part, part_limit, value_part, whole_text}
+use Rattle.ksv_questions.specs.Dumps.{depth_limit, part_limit, whole_text}
 use Rattle.ksv_questions.proofs.Exact.{whole_exact}
 use Rattle.ksv_questions.proofs.Steps.{runs_ended, runs_failed}
 use Rattle.ksv_questions.proofs.dump.whole_text.Goals as goal

@@ -1,7 +1,6 @@
-use Rattle.ksv_basics.specs.Plan.{Answer}
+use Rattle.ksv_questions.proofs.Common.{Answer, bytes_of, desc_of, found_of, find_list}
 use Rattle.ksv_nodes.specs.Rule.{rest_node}
-use Rattle.ksv_questions.specs.Code.{bytes_of, desc_of, found_of}
-use Rattle.ksv_questions.specs.Dumps.{count_in, find_list}
+use Rattle.ksv_questions.specs.Dumps.{count_in}
 use Rattle.ksv_questions.proofs.AskLemmas.{heard_settled}
 use Rattle.ksv_questions.proofs.found.counted.Goals as goal
 

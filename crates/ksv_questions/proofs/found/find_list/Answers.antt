@@ -1,6 +1,4 @@
-use Rattle.std.proofs.Common.{◌∙◌, None, subst, sym}
-use Rattle.ksv_questions.specs.Code.{Runs, bytes_of, desc_of, found_of}
-use Rattle.ksv_questions.specs.Dumps.{find_list}
+use Rattle.ksv_questions.proofs.Common.{◌∙◌, None, subst, sym, Runs, bytes_of, desc_of, found_of, find_list}
 use Rattle.ksv_questions.proofs.Steps.{runs_settled}
 use Rattle.ksv_questions.proofs.found.find_list.Goals as goal
 

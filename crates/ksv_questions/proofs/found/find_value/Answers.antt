@@ -1,6 +1,5 @@
-use Rattle.ksv_basics.specs.Plan.{Answer}
+use Rattle.ksv_questions.proofs.Common.{Answer, bytes_of, desc_of, found_of}
 use Rattle.ksv_nodes.specs.Rule.{value_node}
-use Rattle.ksv_questions.specs.Code.{bytes_of, desc_of, found_of}
 use Rattle.ksv_questions.specs.Dumps.{find_value, value_in}
 use Rattle.ksv_questions.proofs.AskLemmas.{heard_settled}
 use Rattle.ksv_questions.proofs.found.find_value.Goals as goal

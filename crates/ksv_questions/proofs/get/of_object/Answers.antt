@@ -1,7 +1,5 @@
-use Rattle.std.proofs.Common.{String, Global, string_bytes}
-use Rattle.std.proofs.lemmas.Result.{err_from_is_err_and}
-use Rattle.ksv_questions.specs.Code.{desc_of, bytes_of}
-use Rattle.ksv_questions.specs.Questions.{ask_head, object_text, of_object}
+use Rattle.ksv_questions.proofs.Common.{String, Global, string_bytes, err_from_is_err_and, desc_of, bytes_of, ask_head}
+use Rattle.ksv_questions.specs.Questions.{object_text, of_object}
 use Rattle.ksv_questions.proofs.Steps.{runs_ended, runs_failed}
 use Rattle.ksv_questions.proofs.get.of_object.Goals as goal
 

@@ -1,5 +1,4 @@
-use Rattle.std.proofs.Common.{Global, String, string_bytes, subst, sym}
-use Rattle.ksv_questions.specs.Code.{Runs, bytes_of, desc_of}
+use Rattle.ksv_questions.proofs.Common.{Global, String, string_bytes, subst, sym, Runs, bytes_of, desc_of}
 use Rattle.ksv_questions.specs.Questions.{plain_value}
 use Rattle.ksv_questions.proofs.Cases.{of_plain}
 use Rattle.ksv_questions.proofs.Steps.{runs_settled}

@@ -1,7 +1,5 @@
-use Rattle.std.proofs.Common.{String, Global, string_bytes}
-use Rattle.std.proofs.lemmas.Result.{err_from_is_err_and}
-use Rattle.ksv_questions.specs.Code.{desc_of, bytes_of}
-use Rattle.ksv_questions.specs.Questions.{ask_value, of_value, value_question}
+use Rattle.ksv_questions.proofs.Common.{String, Global, string_bytes, err_from_is_err_and, desc_of, bytes_of, ask_value}
+use Rattle.ksv_questions.specs.Questions.{of_value, value_question}
 use Rattle.ksv_questions.proofs.Steps.{runs_on, runs_failed}
 use Rattle.ksv_questions.proofs.get.value_question.Goals as goal
 

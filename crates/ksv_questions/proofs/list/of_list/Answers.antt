@@ -1,9 +1,4 @@
-use Rattle.std.proofs.Common.{String, Global, string_bytes}
-use Rattle.std.proofs.lemmas.Result.{err_from_is_err_and}
-use Rattle.ksv_basics.specs.Plan.{Answer}
-use Rattle.ksv_expr_value.specs.Trail.{child}
-use Rattle.ksv_expr_value.specs.declared.step.Step.TheVariants.{Index}
-use Rattle.ksv_questions.specs.Code.{desc_of, bytes_of}
+use Rattle.ksv_questions.proofs.Common.{String, Global, string_bytes, err_from_is_err_and, Answer, child, Index, desc_of, bytes_of}
 use Rattle.ksv_questions.specs.Questions.{first_asked, list_text, of_list}
 use Rattle.ksv_questions.proofs.Steps.{runs_ended, runs_failed}
 use Rattle.ksv_questions.proofs.list.of_list.Goals as goal

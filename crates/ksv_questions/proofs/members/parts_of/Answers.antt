@@ -1,8 +1,5 @@
-use Rattle.std.proofs.Common.{◌∙◌, ◌++◌, Global, Ok, String, ap, codes, string_bytes, sym}
-use Rattle.ksv_basics.specs.Plan.{Answer}
+use Rattle.ksv_questions.proofs.Common.{◌∙◌, ◌++◌, Global, Ok, String, ap, codes, string_bytes, sym, Answer, desc_of, bytes_of, parts_of}
 use Rattle.ksv_texts.specs.Texts.{names_text}
-use Rattle.ksv_questions.specs.Code.{desc_of, bytes_of}
-use Rattle.ksv_questions.specs.Questions.{parts_of}
 use Rattle.ksv_questions.proofs.Cases.{no_members}
 use Rattle.ksv_questions.proofs.Steps.{runs_settled}
 use Rattle.ksv_questions.proofs.members.parts_of.Goals as goal

@@ -1,6 +1,5 @@
-use Rattle.std.proofs.lemmas.Result.{err_from_is_err_and}
+use Rattle.ksv_questions.proofs.Common.{err_from_is_err_and, desc_of, bytes_of}
 use Rattle.ksv_nodes.specs.Rule.{end_node}
-use Rattle.ksv_questions.specs.Code.{desc_of, bytes_of}
 use Rattle.ksv_questions.specs.Questions.{ask_end, in_end}
 use Rattle.ksv_questions.proofs.AskLemmas.{asked_ended, asked_failed}
 use Rattle.ksv_questions.proofs.parts.ask_end.Goals as goal

@@ -1,7 +1,6 @@
-use Rattle.std.proofs.lemmas.Result.{err_from_is_err_and}
+use Rattle.ksv_questions.proofs.Common.{err_from_is_err_and, desc_of, bytes_of, ask_head}
 use Rattle.ksv_nodes.specs.Rule.{head_node}
-use Rattle.ksv_questions.specs.Code.{desc_of, bytes_of}
-use Rattle.ksv_questions.specs.Questions.{ask_head, in_head}
+use Rattle.ksv_questions.specs.Questions.{in_head}
 use Rattle.ksv_questions.proofs.AskLemmas.{asked_ended, asked_failed}
 use Rattle.ksv_questions.proofs.parts.ask_head.Goals as goal
 

@@ -1,7 +1,6 @@
-use Rattle.std.proofs.lemmas.Result.{err_from_is_err_and}
+use Rattle.ksv_questions.proofs.Common.{err_from_is_err_and, desc_of, bytes_of, ask_value}
 use Rattle.ksv_nodes.specs.Rule.{value_node}
-use Rattle.ksv_questions.specs.Code.{desc_of, bytes_of}
-use Rattle.ksv_questions.specs.Questions.{ask_value, in_value}
+use Rattle.ksv_questions.specs.Questions.{in_value}
 use Rattle.ksv_questions.proofs.AskLemmas.{asked_ended, asked_failed}
 use Rattle.ksv_questions.proofs.parts.ask_value.Goals as goal
 

@@ -1,9 +1,7 @@
-use Rattle.std.proofs.Common.{◌∙◌, Err, None, subst, sym}
-use Rattle.std.proofs.lemmas.Result.{err_from_is_err_and}
+use Rattle.ksv_questions.proofs.Common.{◌∙◌, Err, None, subst, sym, err_from_is_err_and, Runs, bytes_of, desc_of}
 use Rattle.ksv_expr_value.specs.declared.fault.FaultKind.TheVariants.{PathTooLong}
 use Rattle.ksv_nodes.specs.Rule.{rest_node}
 use Rattle.ksv_nodes.specs.NodeFaults.{raised_at}
-use Rattle.ksv_questions.specs.Code.{Runs, bytes_of, desc_of}
 use Rattle.ksv_questions.specs.Questions.{first_asked, in_rest}
 use Rattle.ksv_questions.proofs.AskLemmas.{asked_ended, asked_failed}
 use Rattle.ksv_questions.proofs.Steps.{runs_settled, settled_fault}

@@ -1,8 +1,5 @@
-use Rattle.std.proofs.Common.{String, Global, string_bytes, codes, ◌++◌}
-use Rattle.std.proofs.lemmas.Result.{err_from_is_err_and}
-use Rattle.ksv_basics.specs.Plan.{Answer}
+use Rattle.ksv_questions.proofs.Common.{String, Global, string_bytes, codes, ◌++◌, err_from_is_err_and, Answer, desc_of, bytes_of}
 use Rattle.ksv_texts.specs.Texts.{place_text}
-use Rattle.ksv_questions.specs.Code.{desc_of, bytes_of}
 use Rattle.ksv_questions.specs.Questions.{ask_end, from_place}
 use Rattle.ksv_questions.proofs.Steps.{runs_ended, runs_failed}
 use Rattle.ksv_questions.proofs.place.from_place.Goals as goal

@@ -1,6 +1,4 @@
-use Rattle.std.proofs.Common.{◌∙◌, Global, Ok, String, ap, string_bytes, sym}
-use Rattle.ksv_basics.specs.Plan.{Answer}
-use Rattle.ksv_questions.specs.Code.{desc_of, bytes_of}
+use Rattle.ksv_questions.proofs.Common.{◌∙◌, Global, Ok, String, ap, string_bytes, sym, Answer, desc_of, bytes_of}
 use Rattle.ksv_questions.specs.Questions.{of_head}
 use Rattle.ksv_questions.proofs.Steps.{runs_settled}
 use Rattle.ksv_questions.proofs.place.of_head.Goals as goal

@@ -1,4 +1,4 @@
-use Rattle.std.proofs.Common.{length, arith}
+use Rattle.ksv_questions.proofs.Common.{length, arith}
 use Rattle.ksv_expr_value.specs.Bytes.{content}
 use Rattle.ksv_expr_value.proofs.Places.{few_between}
 use Rattle.ksv_questions.proofs.put.over_bits.Goals as goal

@@ -1,6 +1,4 @@
-use Rattle.std.proofs.lemmas.Result.{err_from_is_err_and}
-use Rattle.ksv_questions.specs.Code.{desc_of, bytes_of}
-use Rattle.ksv_questions.specs.Questions.{ask_head}
+use Rattle.ksv_questions.proofs.Common.{err_from_is_err_and, desc_of, bytes_of, ask_head}
 use Rattle.ksv_questions.specs.Seen.{overwrite_of}
 use Rattle.ksv_questions.specs.Writing.{over_head, put_question}
 use Rattle.ksv_questions.proofs.Steps.{runs_ended, runs_failed}

@@ -1,4 +1,4 @@
-use Rattle.std.proofs.Common.{sym, subst}
+use Rattle.ksv_schema.proofs.Common.{sym, subst}
 use Rattle.ksv_yaml_tree.specs.View.{view}
 use Rattle.ksv_desc.specs.declared.pieces.Pieces.{Pieces}
 use Rattle.ksv_desc.specs.Whole.{plain_pieces}

@@ -1,6 +1,4 @@
-use Rattle.std.proofs.Common.{◌≡◌, drop, map}
-use Rattle.std.specs.Prelude.{find}
-use Rattle.ksv_yaml_tree.specs.View.{pair}
+use Rattle.ksv_schema_names.proofs.Common.{◌≡◌, drop, map, find, pair}
 use Rattle.ksv_schema_names.specs.Enums.{is_numbered}
 use Rattle.ksv_schema_names.proofs.entries.id_in.Given as goal
 

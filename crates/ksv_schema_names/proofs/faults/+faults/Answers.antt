@@ -1,8 +1,5 @@
 -- Each form by its own equation; arguments are noted one after the other, and a call's parts likewise.
-use Rattle.std.proofs.Common.{◌∙◌, sym, ap, arith}
-use Rattle.ksv_expr_tree.specs.Tree.{view}
-use Rattle.ksv_schema_names.specs.Table.{declared}
-use Rattle.ksv_schema_names.specs.Names.{Other, part_faults, least}
+use Rattle.ksv_schema_names.proofs.Common.{◌∙◌, sym, ap, arith, view, declared, Other, part_faults, least}
 use Rattle.ksv_schema_names.specs.Code.{behind_of, faults_at}
 use Rattle.ksv_schema_names.proofs.Noted.{least_step, least_end, steps}
 use Rattle.ksv_schema_names.proofs.Forms.{list_flat, noted_call, of_literal, of_name, of_special, of_member, of_unary, of_binary, of_logical, of_choice}

@@ -1,8 +1,4 @@
-use Rattle.std.proofs.Common.{◌≡◌, map, drop}
-use Rattle.std.specs.List.{flat_map}
-use Rattle.ksv_expr_tree.specs.Tree.{view}
-use Rattle.ksv_schema_names.specs.Table.{declared}
-use Rattle.ksv_schema_names.specs.Names.{Other, part_faults, least}
+use Rattle.ksv_schema_names.proofs.Common.{◌≡◌, map, drop, flat_map, view, declared, Other, part_faults, least}
 use Rattle.ksv_schema_names.proofs.faults.+faults.Given as goal
 
 -- with the faults of the arguments from this one on, those of all are noted

@@ -1,7 +1,5 @@
-use Rattle.std.proofs.Common.{◌≡◌, ◌++◌, map, drop}
-use Rattle.ksv_yaml_tree.specs.View.{pair}
+use Rattle.ksv_schema_names.proofs.Common.{◌≡◌, ◌++◌, map, drop, pair, member_of}
 use Rattle.ksv_schema_names.specs.Members.{instance}
-use Rattle.ksv_schema_names.specs.View.{member_of}
 use Rattle.ksv_schema_names.proofs.members.add_instances.Given as goal
 
 abbrev pub invariant-loop-entry : goal.invariant-loop-entry

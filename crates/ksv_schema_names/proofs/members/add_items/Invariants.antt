@@ -1,7 +1,6 @@
-use Rattle.std.proofs.Common.{◌≡◌, ◌++◌, map, drop}
+use Rattle.ksv_schema_names.proofs.Common.{◌≡◌, ◌++◌, map, drop, member_of}
 use Rattle.ksv_yaml_tree.specs.View.{view}
 use Rattle.ksv_schema_names.specs.Members.{items_from}
-use Rattle.ksv_schema_names.specs.View.{member_of}
 use Rattle.ksv_schema_names.proofs.members.add_items.Given as goal
 
 abbrev pub invariant-loop-number : goal.invariant-loop-number

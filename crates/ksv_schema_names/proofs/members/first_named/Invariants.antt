@@ -1,7 +1,4 @@
-use Rattle.std.proofs.Common.{◌≡◌, map, drop}
-use Rattle.std.specs.List.{position_from}
-use Rattle.std.specs.Str.{bytes_eq}
-use Rattle.ksv_schema_names.specs.View.{member_of}
+use Rattle.ksv_schema_names.proofs.Common.{◌≡◌, map, drop, position_from, bytes_eq, member_of}
 use Rattle.ksv_schema_names.proofs.members.first_named.Given as goal
 
 abbrev pub invariant-loop-place : goal.invariant-loop-place

@@ -1,8 +1,6 @@
-use Rattle.std.proofs.Common.{◌≡◌, ◌++◌, map, drop}
+use Rattle.ksv_schema_names.proofs.Common.{◌≡◌, ◌++◌, map, drop, pair, members_of, member_of, row_of}
 use Rattle.std.specs.Prelude.{flat_map}
-use Rattle.ksv_yaml_tree.specs.View.{pair}
-use Rattle.ksv_schema_names.specs.Members.{members_of, members_at_key}
-use Rattle.ksv_schema_names.specs.View.{member_of, row_of}
+use Rattle.ksv_schema_names.specs.Members.{members_at_key}
 use Rattle.ksv_schema_names.proofs.members.members_of.Given as goal
 
 abbrev pub invariant-loop-entry : goal.invariant-loop-entry

@@ -1,6 +1,4 @@
-use Rattle.std.proofs.Common.{◌≡◌, ◌++◌, map, drop}
-use Rattle.ksv_schema_names.specs.Members.{members_of}
-use Rattle.ksv_schema_names.specs.View.{member_of, row_of}
+use Rattle.ksv_schema_names.proofs.Common.{◌≡◌, ◌++◌, map, drop, members_of, member_of, row_of}
 use Rattle.ksv_schema_names.proofs.members.members_of_each.Given as goal
 
 abbrev pub invariant-loop-row : goal.invariant-loop-row

@@ -1,9 +1,8 @@
 -- Each form from its parts.
-use Rattle.std.proofs.Common.{arith}
+use Rattle.ksv_schema_names.proofs.Common.{arith, path_of, declared, numbered_word}
 use Rattle.ksv_expr_tree.specs.declared.tree.Expr as opened
-use Rattle.ksv_expr_tree.specs.Tree.{name_of, path_of, member_of}
-use Rattle.ksv_schema_names.specs.Table.{declared}
-use Rattle.ksv_schema_names.specs.Numbered.{numbered_word, numbered_type, numbered_member}
+use Rattle.ksv_expr_tree.specs.Tree.{name_of, member_of}
+use Rattle.ksv_schema_names.specs.Numbered.{numbered_type, numbered_member}
 use Rattle.ksv_schema_names.proofs.Numbers.{part, piece, literal_numbered, name_numbered, special_numbered, member_numbered, unary_numbered, binary_numbered}
 use Rattle.ksv_schema_names.proofs.Numbers.{logical_numbered, choice_numbered, field_numbered, special_field_numbered, call_numbered, index_numbered}
 use Rattle.ksv_schema_names.proofs.Numbers.{cast_numbered, each_numbered, refilled}

@@ -1,8 +1,4 @@
-use Rattle.std.proofs.Common.{◌≡◌, ℕ, ◌<◌, get_or}
-use Rattle.ksv_expr_tree.specs.declared.tree.Expr.{Expr}
-use Rattle.ksv_expr_tree.specs.Tree.{view}
-use Rattle.ksv_schema_names.specs.Table.{declared}
-use Rattle.ksv_schema_names.specs.Numbered.{numbered}
+use Rattle.ksv_schema_names.proofs.Common.{◌≡◌, ℕ, ◌<◌, get_or, Expr, view, declared, numbered}
 use Rattle.ksv_schema_names.proofs.numbering.+numbers.Given as goal
 
 -- the arguments before this one were given their numbers, and the others are as they were

@@ -1,5 +1,5 @@
+use Rattle.ksv_schema_names.proofs.Common.{declared}
 use Rattle.ksv_expr_tree.specs.Tree.{member_of}
-use Rattle.ksv_schema_names.specs.Table.{declared}
 use Rattle.ksv_schema_names.proofs.Numbers.{given_is}
 use Rattle.ksv_schema_names.proofs.numbering.number_member.Goals as goal
 

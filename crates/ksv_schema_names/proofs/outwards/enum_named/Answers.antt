@@ -1,7 +1,6 @@
-use Rattle.std.proofs.Common.{map, ap, sym, ◌∙◌, List, ℕ}
+use Rattle.ksv_schema_names.proofs.Common.{map, ap, sym, ◌∙◌, List, ℕ, row_of}
 use Rattle.std.specs.Prelude.{string_bytes}
 use Rattle.ksv_schema_names.specs.Types.{enum_behind}
-use Rattle.ksv_schema_names.specs.View.{row_of}
 use Rattle.ksv_schema_names.proofs.Lookup.{last_named}
 use Rattle.ksv_schema_names.proofs.outwards.enum_named.Goals as goal
 

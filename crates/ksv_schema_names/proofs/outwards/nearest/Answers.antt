@@ -1,8 +1,9 @@
-use Rattle.std.proofs.Common.{◌<◌, List, length, map, refl, subst, arith}
+use Rattle.ksv_schema_names.proofs.Common.{◌<◌, List, length, map, refl, arith, row_of}
+use Rattle.std.proofs.Common.{subst}
 use Rattle.std.proofs.lemmas.List.{length-map}
 use Rattle.ksv_schema_names.specs.declared.row.Row.{Row}
 use Rattle.ksv_schema_names.specs.Types.{from}
-use Rattle.ksv_schema_names.specs.View.{row_of, has_sought}
+use Rattle.ksv_schema_names.specs.View.{has_sought}
 use Rattle.ksv_schema_names.proofs.Lookup.{further}
 use Rattle.ksv_schema_names.proofs.outwards.nearest.Goals as goal
 

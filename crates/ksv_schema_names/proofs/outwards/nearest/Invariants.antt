@@ -1,7 +1,6 @@
-use Rattle.std.proofs.Common.{◌≡◌, ℕ, ◌+◌, length, map}
-use Rattle.std.specs.Prelude.{find}
+use Rattle.ksv_schema_names.proofs.Common.{◌≡◌, ℕ, ◌+◌, length, map, find, row_of}
 use Rattle.ksv_schema_names.specs.Types.{around, from}
-use Rattle.ksv_schema_names.specs.View.{row_of, has_sought}
+use Rattle.ksv_schema_names.specs.View.{has_sought}
 use Rattle.ksv_schema_names.proofs.outwards.nearest.Given as goal
 
 -- from here at most this many types are left

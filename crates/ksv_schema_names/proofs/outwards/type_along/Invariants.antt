@@ -1,7 +1,6 @@
-use Rattle.std.proofs.Common.{◌≡◌, ◌<◌, drop, length, map}
+use Rattle.ksv_schema_names.proofs.Common.{◌≡◌, ◌<◌, drop, length, map, row_of}
 use Rattle.std.specs.Prelude.{string_bytes}
 use Rattle.ksv_schema_names.specs.Types.{type_along}
-use Rattle.ksv_schema_names.specs.View.{row_of}
 use Rattle.ksv_schema_names.proofs.outwards.type_along.Given as goal
 
 abbrev pub invariant-loop-name : goal.invariant-loop-name

@@ -1,4 +1,4 @@
-use Rattle.std.proofs.Common.{◌∙◌, ap, List}
+use Rattle.ksv_schema_names.proofs.Common.{◌∙◌, ap, List}
 use Rattle.std.specs.Prelude.{codes}
 use Rattle.ksv_yaml_tree.specs.Tree.{Pair}
 use Rattle.ksv_yaml_tree.specs.View.{view}

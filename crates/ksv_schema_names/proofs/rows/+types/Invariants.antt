@@ -1,7 +1,6 @@
-use Rattle.std.proofs.Common.{◌≡◌, ◌≤◌, drop, map}
-use Rattle.ksv_yaml_tree.specs.View.{view, pair, entries_of}
+use Rattle.ksv_schema_names.proofs.Common.{◌≡◌, ◌≤◌, drop, map, pair, row_of}
+use Rattle.ksv_yaml_tree.specs.View.{view, entries_of}
 use Rattle.ksv_schema_names.specs.Rows.{with_types, with_each}
-use Rattle.ksv_schema_names.specs.View.{row_of}
 use Rattle.ksv_schema_names.proofs.Weight.{weight, weights}
 use Rattle.ksv_schema_names.proofs.rows.+types.Given as goal
 

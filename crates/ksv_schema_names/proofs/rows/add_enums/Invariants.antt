@@ -1,7 +1,5 @@
-use Rattle.std.proofs.Common.{◌≡◌, ◌++◌, map, drop}
-use Rattle.ksv_yaml_tree.specs.View.{pair}
+use Rattle.ksv_schema_names.proofs.Common.{◌≡◌, ◌++◌, map, drop, pair, row_of}
 use Rattle.ksv_schema_names.specs.Rows.{named_row}
-use Rattle.ksv_schema_names.specs.View.{row_of}
 use Rattle.ksv_schema_names.proofs.rows.add_enums.Given as goal
 
 abbrev pub invariant-loop-name : goal.invariant-loop-name

@@ -1,6 +1,5 @@
-use Rattle.std.proofs.Common.{◌≡◌, ◌++◌, map, drop}
+use Rattle.ksv_schema_names.proofs.Common.{◌≡◌, ◌++◌, map, drop, row_of}
 use Rattle.ksv_schema_names.specs.Rows.{enums_from}
-use Rattle.ksv_schema_names.specs.View.{row_of}
 use Rattle.ksv_schema_names.proofs.rows.enums_of.Given as goal
 
 abbrev pub invariant-loop-n : goal.invariant-loop-n

@@ -1,4 +1,4 @@
-use Rattle.std.proofs.Common.{arith}
+use Rattle.ksv_schema_names.proofs.Common.{arith}
 use Rattle.ksv_schema_names.proofs.Placed.{all_placed}
 use Rattle.ksv_schema_names.proofs.rows.places_of.Goals as goal
 

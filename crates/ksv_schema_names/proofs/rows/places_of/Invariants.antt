@@ -1,4 +1,4 @@
-use Rattle.std.proofs.Common.{◌≤◌, length}
+use Rattle.ksv_schema_names.proofs.Common.{◌≤◌, length}
 use Rattle.ksv_schema_names.proofs.Placed.{ArePlacedFrom}
 use Rattle.ksv_schema_names.proofs.rows.places_of.Given as goal
 

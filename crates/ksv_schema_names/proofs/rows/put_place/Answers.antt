@@ -1,7 +1,5 @@
-use Rattle.std.proofs.Common.{ℕ, Option, Some, false, cond, ◌&&◌, ap, sym, ◌∙◌}
+use Rattle.ksv_schema_names.proofs.Common.{ℕ, Option, Some, false, cond, ◌&&◌, ap, sym, ◌∙◌, option_map_or, bytes_eq}
 use Rattle.std.specs.Prelude.{◌==◌}
-use Rattle.std.specs.Option.{option_map_or}
-use Rattle.std.specs.Str.{bytes_eq}
 use Rattle.ksv_schema_names.specs.Placed.{place_at}
 use Rattle.ksv_schema_names.proofs.rows.put_place.Goals as goal
 

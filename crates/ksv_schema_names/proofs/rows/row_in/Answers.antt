@@ -1,6 +1,5 @@
-use Rattle.std.proofs.Common.{◌≡◌, map, rules}
-use Rattle.ksv_schema_names.specs.Rows.{row_in}
-use Rattle.ksv_schema_names.specs.View.{row_of}
+use Rattle.ksv_schema_names.proofs.Common.{◌≡◌, map, row_in, row_of}
+use Rattle.std.proofs.Common.{rules}
 use Rattle.ksv_schema_names.proofs.Placed.{row_inside}
 use Rattle.ksv_schema_names.proofs.rows.row_in.Goals as goal
 

@@ -1,12 +1,11 @@
 -- What the text spells is what its lines spell, where there is no control character.
-use Rattle.std.proofs.Common.{◌≤◌, List, length, max, sym, subst, ◌∙◌}
-use Rattle.ksv_yaml_tree.specs.View.{view}
+use Rattle.ksv_yaml.proofs.Common.{◌≤◌, List, length, sym, subst, ◌∙◌, view, lines_view}
+use Rattle.std.proofs.Common.{max}
 use Rattle.ksv_yaml.specs.Code.{wants_memory}
 use Rattle.ksv_yaml.proofs.TextTheorem.{one_tree_of_text}
 use Rattle.ksv_yaml.proofs.Whole.{text_read, cut_refused, refuses_memory}
 use Rattle.ksv_yaml_scan.specs.declared.line.Line.{Line}
 use Rattle.ksv_yaml_scan.specs.Text.{IsCut}
-use Rattle.ksv_yaml_scan.specs.Views.{lines_view}
 use Rattle.ksv_yaml.proofs.document.read.Goals as goal
 
 pub returns-in-Err-clause-exact : goal.returns-in-Err-clause-exact

@@ -1,13 +1,10 @@
 -- Each step of the loops is one of `FlowLoops`.
-use Rattle.std.proofs.Common.{◌-◌, map, None, refl, sym, ap, arith}
+use Rattle.ksv_yaml.proofs.Common.{◌-◌, map, None, refl, sym, ap, arith, view, pair, items_of, entries_of, keys_of, got, tokens_view}
 use Rattle.std.proofs.lemmas.Result.{err_from_is_err_and}
-use Rattle.ksv_yaml_tree.specs.View.{view, pair, items_of, entries_of}
-use Rattle.ksv_yaml.specs.Code.{keys_of, FlowIs, FlowItemsIs, FlowEntriesIs}
+use Rattle.ksv_yaml.specs.Code.{FlowIs, FlowItemsIs, FlowEntriesIs}
 use Rattle.ksv_yaml.proofs.Answering.{fails_on, front_part, key_tells, keys_none, keys_hold, pushed_item, pushed_entry}
 use Rattle.ksv_yaml.proofs.FlowLoops.{node_items, node_entries, items_start, items_close, items_fail, items_end, items_stop, items_on, entries_start}
 use Rattle.ksv_yaml.proofs.FlowLoops.{entries_close, entries_no_key, entries_twice, entries_fail, entries_end, entries_stop, entries_on}
-use Rattle.ksv_yaml_scan.specs.Got.{got}
-use Rattle.ksv_yaml_scan.specs.Views.{tokens_view}
 use Rattle.ksv_yaml.proofs.flow.+flow.Goals as goal
 
 pub flow_entries-entries-init : goal.flow_entries-entries-init

@@ -1,10 +1,6 @@
 -- Each call is made on fewer parts, or on as many by a lower function.
-use Rattle.std.proofs.Common.{◌+◌, ◌*◌, ◌≤◌, length, map}
-use Rattle.ksv_yaml_tree.specs.View.{view, pair}
-use Rattle.ksv_yaml.specs.Code.{keys_of}
-use Rattle.ksv_yaml.specs.Keys.{HoldsKeys}
+use Rattle.ksv_yaml.proofs.Common.{◌+◌, ◌*◌, ◌≤◌, length, map, view, pair, keys_of, HoldsKeys, tokens_view}
 use Rattle.ksv_yaml.proofs.FlowLoops.{ItemsNow, EntriesNow}
-use Rattle.ksv_yaml_scan.specs.Views.{tokens_view}
 use Rattle.ksv_yaml.proofs.flow.+flow.Given as goal
 
 abbrev pub decreases-flow_entries : goal.decreases-flow_entries

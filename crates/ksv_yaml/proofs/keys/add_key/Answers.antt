@@ -1,7 +1,5 @@
 -- The set has one key more.
-use Rattle.std.proofs.Common.{ℕ, Bool, true, cond, List, sym, ap, ◌∙◌}
-use Rattle.std.specs.Str.{bytes_eq}
-use Rattle.ksv_yaml.specs.Reading.{is_among}
+use Rattle.ksv_yaml.proofs.Common.{ℕ, Bool, true, cond, List, sym, ap, ◌∙◌, bytes_eq, is_among}
 use Rattle.ksv_yaml.proofs.Distinct.{among_push}
 use Rattle.ksv_yaml.proofs.keys.add_key.Goals as goal
 

@@ -1,21 +1,15 @@
 -- Each step of the reader is one of `BlockLoops`.
-use Rattle.std.proofs.Common.{◌≡◌, ◌+◌, ◌-◌, ◌<◌, ℕ, List, length, map, Option, None, false, refl, sym, ap, ◌∙◌, arith}
+use Rattle.ksv_yaml.proofs.Common.{◌≡◌, ◌+◌, ◌-◌, ◌<◌, ℕ, List, length, map, Option, None, false, refl, sym, ap, ◌∙◌, arith, Tree, Text, view, pair, items_of}
+use Rattle.ksv_yaml.proofs.Common.{entries_of, at_column, inlined, value_here, weight, keys_of, Got, got, Line, Dashed, start_of, line_view, lines_view}
 use Rattle.std.proofs.lemmas.Result.{err_from_is_err_and}
-use Rattle.ksv_yaml_tree.specs.Tree.{Tree, Text}
-use Rattle.ksv_yaml_tree.specs.View.{view, pair, items_of, entries_of}
-use Rattle.ksv_yaml.specs.Grammar.{at_column}
-use Rattle.ksv_yaml.specs.Reading.{inlined, value_here, weight}
-use Rattle.ksv_yaml.specs.Code.{keys_of, NodeIs, EntriesIs, ValueIs, ItemsIs, ItemIs}
+use Rattle.ksv_yaml.specs.Code.{NodeIs, EntriesIs, ValueIs, ItemsIs, ItemIs}
 use Rattle.ksv_yaml.proofs.Answering.{fails_on, gives_on, own_key_tells, keys_none, keys_hold, pushed_item, pushed_entry, empty_nil, not_empty}
 use Rattle.ksv_yaml.proofs.BlockLoops.{EndsBefore, before_first, before_end, inline_lighter, node_items_fail, node_items_end, node_items_stay, node_items_limit}
 use Rattle.ksv_yaml.proofs.BlockLoops.{node_entries, node_entries_limit, node_inline, node_nothing, node_refused, value_on_line, value_deep, value_end}
 use Rattle.ksv_yaml.proofs.BlockLoops.{value_above, value_beside, value_level, value_limit, item_on_line, item_behind_tab, item_deep, item_end, item_beside}
 use Rattle.ksv_yaml.proofs.BlockLoops.{entries_start, entries_no_key, entries_twice, entries_fail, entries_end, entries_deeper, entries_on, items_start}
 use Rattle.ksv_yaml.proofs.BlockLoops.{items_no_dash, items_fail, items_end, items_beside, items_deeper, items_on}
-use Rattle.ksv_yaml_scan.specs.Got.{Got, got}
-use Rattle.ksv_yaml_scan.specs.Lines.{Line}
-use Rattle.ksv_yaml_scan.specs.Starts.{Dashed, start_of}
-use Rattle.ksv_yaml_scan.specs.Views.{line_view, lines_view, kind_view, start_view}
+use Rattle.ksv_yaml_scan.specs.Views.{kind_view, start_view}
 use Rattle.ksv_yaml.proofs.reader.+reader.Goals as goal
 use Rattle.ksv_yaml.proofs.reader.+reader.Goals.{node-in-Some+else-line-first, node-in_default}
 

@@ -1,11 +1,6 @@
 -- What is left to read: the bytes of the lines and one for each line, and less for the functions that call one another on the same lines.
-use Rattle.std.proofs.Common.{◌≡◌, ◌+◌, ◌*◌, ◌≤◌, length, map}
-use Rattle.ksv_yaml_tree.specs.View.{view, pair}
-use Rattle.ksv_yaml.specs.Reading.{weight}
-use Rattle.ksv_yaml.specs.Code.{keys_of}
-use Rattle.ksv_yaml.specs.Keys.{HoldsKeys}
+use Rattle.ksv_yaml.proofs.Common.{◌≡◌, ◌+◌, ◌*◌, ◌≤◌, length, map, view, pair, weight, keys_of, HoldsKeys, line_view, lines_view}
 use Rattle.ksv_yaml.proofs.BlockLoops.{EntriesNow, ItemsNow}
-use Rattle.ksv_yaml_scan.specs.Views.{line_view, lines_view}
 use Rattle.ksv_yaml.proofs.reader.+reader.Given as goal
 
 abbrev pub decreases-node : goal.decreases-node

@@ -1,8 +1,6 @@
 -- Fewer lines are no more to read.
-use Rattle.std.proofs.Common.{ap, arith}
-use Rattle.ksv_yaml.specs.Reading.{weight}
+use Rattle.ksv_yaml.proofs.Common.{ap, arith, weight, lines_view}
 use Rattle.ksv_yaml.proofs.BlockLoops.{loud_lighter}
-use Rattle.ksv_yaml_scan.specs.Views.{lines_view}
 use Rattle.ksv_yaml.proofs.reader.skip.Goals as goal
 
 pub returns-clause-shorter : goal.returns-clause-shorter

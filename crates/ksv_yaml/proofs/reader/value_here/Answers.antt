@@ -1,8 +1,7 @@
 -- The node is the one that begins after the key.
-use Rattle.std.proofs.Common.{◌+◌, ap, ◌∙◌}
-use Rattle.ksv_yaml.specs.Grammar.{from_here}
+use Rattle.ksv_yaml.proofs.Common.{◌+◌, ap, ◌∙◌, from_here, line_view, lines_view}
 use Rattle.ksv_yaml.proofs.BlockLoops.{here_read, inline_lighter}
-use Rattle.ksv_yaml_scan.specs.Views.{line_view, lines_view, kind_view, start_view}
+use Rattle.ksv_yaml_scan.specs.Views.{kind_view, start_view}
 use Rattle.ksv_yaml.proofs.reader.value_here.Goals as goal
 
 pub returns-in-Inline-clause-read : goal.returns-in-Inline-clause-read

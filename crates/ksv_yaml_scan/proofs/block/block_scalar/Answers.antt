@@ -1,5 +1,4 @@
-use Rattle.std.proofs.Common.{sym, ◌∙◌}
-use Rattle.ksv_yaml_scan.specs.Views.{lines_view}
+use Rattle.ksv_yaml_scan.proofs.Common.{sym, ◌∙◌, lines_view}
 use Rattle.ksv_yaml_scan.proofs.Folding.{block_is}
 use Rattle.ksv_yaml_scan.proofs.block.block_scalar.Goals as goal
 

@@ -1,6 +1,5 @@
-use Rattle.std.proofs.Common.{◌≡◌, drop}
+use Rattle.ksv_yaml_scan.proofs.Common.{◌≡◌, drop, lines_view}
 use Rattle.ksv_yaml_scan.specs.Blocks.{inner_indent}
-use Rattle.ksv_yaml_scan.specs.Views.{lines_view}
 use Rattle.ksv_yaml_scan.proofs.block.first_inner.Given as goal
 
 abbrev pub invariant-loop-line : goal.invariant-loop-line

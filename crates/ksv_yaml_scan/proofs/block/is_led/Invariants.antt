@@ -1,6 +1,5 @@
-use Rattle.std.proofs.Common.{◌≡◌, drop}
+use Rattle.ksv_yaml_scan.proofs.Common.{◌≡◌, drop, lines_view}
 use Rattle.ksv_yaml_scan.specs.Blocks.{is_led as is_led_at}
-use Rattle.ksv_yaml_scan.specs.Views.{lines_view}
 use Rattle.ksv_yaml_scan.proofs.block.is_led.Given as goal
 
 abbrev pub invariant-loop-line : goal.invariant-loop-line

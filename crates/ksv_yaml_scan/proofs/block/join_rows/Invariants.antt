@@ -1,6 +1,5 @@
-use Rattle.std.proofs.Common.{◌≡◌, ◌≤◌, ◌++◌, None, false, drop}
+use Rattle.ksv_yaml_scan.proofs.Common.{◌≡◌, ◌≤◌, ◌++◌, None, false, drop, lines_view}
 use Rattle.ksv_yaml_scan.specs.Rows.{rows, rows_on, last_ended}
-use Rattle.ksv_yaml_scan.specs.Views.{lines_view}
 use Rattle.ksv_yaml_scan.proofs.block.join_rows.Given as goal
 
 abbrev pub invariant-loop-line : goal.invariant-loop-line

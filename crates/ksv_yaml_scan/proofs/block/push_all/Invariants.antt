@@ -1,4 +1,5 @@
-use Rattle.std.proofs.Common.{◌≡◌, ◌++◌, replicate}
+use Rattle.ksv_yaml_scan.proofs.Common.{◌≡◌, ◌++◌}
+use Rattle.std.proofs.Common.{replicate}
 use Rattle.ksv_yaml_scan.proofs.block.push_all.Given as goal
 
 abbrev pub invariant-loop : goal.invariant-loop

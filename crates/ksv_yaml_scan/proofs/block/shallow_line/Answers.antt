@@ -1,9 +1,7 @@
-use Rattle.std.proofs.Common.{◌≡◌, ℕ, ◌+◌, ◌<◌, Bool, false, List, [], ◌∷◌, length, drop, get_or, refl, ap, sym, ◌∙◌, arith}
-use Rattle.std.specs.Prelude.{nat_le, ◌||◌, ◌&&◌, ◌==◌}
+use Rattle.ksv_yaml_scan.proofs.Common.{◌≡◌, ℕ, ◌+◌, ◌<◌, Bool, false, List, [], ◌∷◌, length, drop, get_or, refl, ap, sym, ◌∙◌, arith, nat_le, ◌||◌, ◌&&◌, ◌==◌}
+use Rattle.ksv_yaml_scan.proofs.Common.{is_nil, lines_view}
 use Rattle.ksv_yaml_scan.specs.declared.line.Line.{Line as CodeLine}
-use Rattle.ksv_yaml_scan.specs.Lines.{is_nil}
 use Rattle.ksv_yaml_scan.specs.Blocks.{is_level}
-use Rattle.ksv_yaml_scan.specs.Views.{lines_view}
 use Rattle.ksv_yaml_scan.proofs.Numbers.{number_at, lines_at}
 use Rattle.ksv_yaml_scan.proofs.block.shallow_line.Goals as goal
 

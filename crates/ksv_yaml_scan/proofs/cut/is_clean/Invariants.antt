@@ -1,4 +1,4 @@
-use Rattle.std.proofs.Common.{◌≡◌, drop}
+use Rattle.ksv_yaml_scan.proofs.Common.{◌≡◌, drop}
 use Rattle.ksv_yaml_scan.specs.Text.{is_clean as is_clean_of}
 use Rattle.ksv_yaml_scan.proofs.Cutting.{clean_behind}
 use Rattle.ksv_yaml_scan.proofs.cut.is_clean.Given as goal

@@ -1,4 +1,4 @@
-use Rattle.std.proofs.Common.{arith}
+use Rattle.ksv_yaml_scan.proofs.Common.{arith}
 use Rattle.ksv_yaml_scan.proofs.cut.lines.Goals as goal
 
 -- the line is a part of what is left

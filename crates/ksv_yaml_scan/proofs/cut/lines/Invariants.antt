@@ -1,7 +1,6 @@
-use Rattle.std.proofs.Common.{◌≡◌, ◌+◌, ◌<◌, ◌≤◌, ◌++◌, length}
+use Rattle.ksv_yaml_scan.proofs.Common.{◌≡◌, ◌+◌, ◌<◌, ◌≤◌, ◌++◌, length, cut_lines, lines_view}
 use Rattle.std.specs.Option.{option_or}
-use Rattle.ksv_yaml_scan.specs.Text.{cut_lines, number_from, stray_from}
-use Rattle.ksv_yaml_scan.specs.Views.{lines_view}
+use Rattle.ksv_yaml_scan.specs.Text.{number_from, stray_from}
 use Rattle.ksv_yaml_scan.proofs.cut.lines.Given as goal
 
 abbrev pub invariant-loop-first : goal.invariant-loop-first

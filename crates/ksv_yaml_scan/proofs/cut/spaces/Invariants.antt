@@ -1,4 +1,4 @@
-use Rattle.std.proofs.Common.{◌≡◌, ◌+◌, drop}
+use Rattle.ksv_yaml_scan.proofs.Common.{◌≡◌, ◌+◌, drop}
 use Rattle.ksv_yaml_scan.specs.Text.{spaces as spaces_of}
 use Rattle.ksv_yaml_scan.proofs.cut.spaces.Given as goal
 

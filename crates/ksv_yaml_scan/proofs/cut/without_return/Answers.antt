@@ -1,4 +1,4 @@
-use Rattle.std.proofs.Common.{ap, sym, ◌∙◌}
+use Rattle.ksv_yaml_scan.proofs.Common.{ap, sym, ◌∙◌}
 use Rattle.ksv_yaml_scan.specs.Text.{without_return}
 use Rattle.ksv_yaml_scan.proofs.Choices.{at_true, at_false, same_byte, other_byte}
 use Rattle.ksv_yaml_scan.proofs.Cutting.{return_last}

@@ -1,10 +1,11 @@
-use Rattle.std.proofs.Common.{◌≡◌, ◌+◌, true, false, List, [], ◌∷◌, drop, Option, Some, None, refl, sym, ap, subst, ◌∙◌, arith, inl, inr}
-use Rattle.std.specs.Prelude.{All, is_some}
+use Rattle.ksv_yaml_scan.proofs.Common.{◌≡◌, ◌+◌, true, false, List, [], ◌∷◌, drop, Option, Some, None, refl, sym, ap, subst, ◌∙◌, arith, inl, inr, All}
+use Rattle.ksv_yaml_scan.proofs.Common.{HasNumber, Token, both, line_view, lines_view, tokens_view}
+use Rattle.std.specs.Prelude.{is_some}
 use Rattle.ksv_yaml_scan.specs.declared.flow.Token.{Token as CodeToken}
 use Rattle.ksv_yaml_scan.specs.declared.fault.LineFault.{LineFault}
-use Rattle.ksv_yaml_scan.specs.Lines.{Line as LineOf, HasNumber}
-use Rattle.ksv_yaml_scan.specs.Tokens.{Token, both, tokens_of}
-use Rattle.ksv_yaml_scan.specs.Views.{line_view, lines_view, tokens_view, parts_of, LineAdds, PartsAre}
+use Rattle.ksv_yaml_scan.specs.Lines.{Line as LineOf}
+use Rattle.ksv_yaml_scan.specs.Tokens.{tokens_of}
+use Rattle.ksv_yaml_scan.specs.Views.{parts_of, LineAdds, PartsAre}
 use Rattle.ksv_yaml_scan.proofs.Parts.{both_assoc, both_nothing}
 use Rattle.ksv_yaml_scan.proofs.Numbers.{number_at, lines_at}
 use Rattle.ksv_yaml_scan.proofs.flow.flow_parts.Goals as goal

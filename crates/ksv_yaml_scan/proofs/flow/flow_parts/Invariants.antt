@@ -1,8 +1,5 @@
-use Rattle.std.proofs.Common.{◌≡◌, ◌∷◌, Some, drop}
-use Rattle.std.specs.Prelude.{All}
-use Rattle.ksv_yaml_scan.specs.Lines.{HasNumber}
-use Rattle.ksv_yaml_scan.specs.Tokens.{both, tokens_of}
-use Rattle.ksv_yaml_scan.specs.Views.{line_view, lines_view, tokens_view}
+use Rattle.ksv_yaml_scan.proofs.Common.{◌≡◌, ◌∷◌, Some, drop, All, HasNumber, both, line_view, lines_view, tokens_view}
+use Rattle.ksv_yaml_scan.specs.Tokens.{tokens_of}
 use Rattle.ksv_yaml_scan.proofs.flow.flow_parts.Given as goal
 
 abbrev pub invariant-loop-line : goal.invariant-loop-line

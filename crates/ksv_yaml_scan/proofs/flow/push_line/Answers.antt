@@ -1,11 +1,10 @@
-use Rattle.std.proofs.Common.{◌≡◌, ℕ, Bool, false, List, [], ◌∷◌, ◌++◌, Some, sym, ap, subst, ◌∙◌}
-use Rattle.std.specs.Prelude.{All}
+use Rattle.ksv_yaml_scan.proofs.Common.{◌≡◌, ℕ, Bool, false, List, [], ◌∷◌, ◌++◌, Some, sym, ap, subst, ◌∙◌, All, HasNumber, Token, both, tokens_view}
 use Rattle.std.proofs.lemmas.List.{map_push}
 use Rattle.std.proofs.lemmas.List.Elements.{All-push}
 use Rattle.ksv_yaml_scan.specs.declared.flow.Token.{Token as CodeToken}
-use Rattle.ksv_yaml_scan.specs.Lines.{Line as LineOf, HasNumber}
-use Rattle.ksv_yaml_scan.specs.Tokens.{Token, cut, Part, both}
-use Rattle.ksv_yaml_scan.specs.Views.{cut_view, token_view, tokens_view}
+use Rattle.ksv_yaml_scan.specs.Lines.{Line as LineOf}
+use Rattle.ksv_yaml_scan.specs.Tokens.{cut, Part}
+use Rattle.ksv_yaml_scan.specs.Views.{cut_view, token_view}
 use Rattle.ksv_yaml_scan.proofs.Parts.{rest_tokens, rest_white, rest_part, both_token, white_shorter, part_shorter}
 use Rattle.ksv_yaml_scan.proofs.flow.push_line.Goals as goal
 

@@ -1,8 +1,5 @@
-use Rattle.std.proofs.Common.{◌≡◌, true, List, length, Some}
-use Rattle.std.specs.Prelude.{All}
-use Rattle.ksv_yaml_scan.specs.Lines.{Line as LineOf, HasNumber}
-use Rattle.ksv_yaml_scan.specs.Tokens.{both}
-use Rattle.ksv_yaml_scan.specs.Views.{tokens_view}
+use Rattle.ksv_yaml_scan.proofs.Common.{◌≡◌, true, List, length, Some, All, HasNumber, both, tokens_view}
+use Rattle.ksv_yaml_scan.specs.Lines.{Line as LineOf}
 use Rattle.ksv_yaml_scan.proofs.Parts.{rest_tokens}
 use Rattle.ksv_yaml_scan.proofs.flow.push_line.Given as goal
 

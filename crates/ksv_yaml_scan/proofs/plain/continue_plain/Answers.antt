@@ -1,18 +1,14 @@
-use Rattle.std.proofs.Common.{◌≡◌, ℕ, ◌+◌, ◌<◌, ◌≤◌, Bool, true, false, List, [], ◌∷◌, ◌++◌, length, drop, get_or, Some, None, sym, ap, ◌∙◌, append_assoc}
-use Rattle.std.proofs.Common.{arith}
-use Rattle.std.specs.Prelude.{nat_le}
+use Rattle.ksv_yaml_scan.proofs.Common.{◌≡◌, ℕ, ◌+◌, ◌<◌, ◌≤◌, Bool, true, false, List, [], ◌∷◌, ◌++◌, length, drop, get_or, Some, None, sym, ap, ◌∙◌}
+use Rattle.ksv_yaml_scan.proofs.Common.{append_assoc, arith, Line, loud, append-nil, plain_text, line_view, lines_view}
 use Rattle.ksv_yaml_scan.specs.declared.line.Line.{Line as CodeLine}
-use Rattle.ksv_yaml_scan.specs.Lines.{Line, is_quiet, loud}
-use Rattle.std.proofs.lemmas.List.{append-nil, drop_all}
+use Rattle.ksv_yaml_scan.specs.Lines.{is_quiet}
+use Rattle.std.proofs.lemmas.List.{drop_all}
+use Rattle.std.proofs.lemmas.Bool.{le-leb, lt-leb}
 use Rattle.ksv_yaml_scan.specs.Got.{got}
-use Rattle.ksv_yaml_scan.specs.Plain.{more_of, plain_text}
-use Rattle.ksv_yaml_scan.specs.Views.{line_view, lines_view}
+use Rattle.ksv_yaml_scan.specs.Plain.{more_of}
 use Rattle.ksv_yaml_scan.proofs.Continuing.{text_refused, text_more, text_quiet, text_commented, text_shallow}
 use Rattle.ksv_yaml_scan.proofs.Numbers.{number_at, lines_at}
 use Rattle.ksv_yaml_scan.proofs.plain.continue_plain.Goals as goal
-
-is_deep : (n m : ℕ) → n ≤ m → nat_le n m ≡ true
-is_deep n m h = grind arith
 
 -- a line that no comment ended the text before, deep enough
 record OnLine (text : List ℕ) (n : ℕ) (c : Bool) (ls : List CodeLine) (i : ℕ) (l : CodeLine) (b : Bool) : Type 0 where
@@ -31,17 +27,14 @@ start text n c ls i l b o = ap (λ (c : Bool). plain_text text n c (lines_view (
 refused : (text : List ℕ) (n : ℕ) (c : Bool) (ls : List CodeLine) (i : ℕ) (l : CodeLine) (b : Bool) → OnLine text n c ls i l b → None ≡ more_of l.content.now
     → plain_text text n c (lines_view (drop i ls)) ≡ None
 refused text n c ls i l b o m = start text n c ls i l b o
-    ∙ text_refused text n (line_view l) (lines_view (drop (i + 1) ls)) (sym o.quiet ∙ o.loud) (is_deep n l.indent o.deep) (sym m)
+    ∙ text_refused text n (line_view l) (lines_view (drop (i + 1) ls)) (sym o.quiet ∙ o.loud) (le-leb n l.indent o.deep) (sym m)
 
 goes : (text more new : List ℕ) (n : ℕ) (c d : Bool) (ls : List CodeLine) (i : ℕ) (l : CodeLine) (b : Bool) → OnLine text n c ls i l b
     → Some (more, d) ≡ more_of l.content.now → new ≡ text ++ 32 ∷ more
     → plain_text new n d (lines_view (drop (i + 1) ls)) ≡ plain_text text n c (lines_view (drop i ls))
 goes text more new n c d ls i l b o m e = ap (λ (t : List ℕ). plain_text t n d (lines_view (drop (i + 1) ls))) e
-    ∙ sym (start text n c ls i l b o ∙ text_more text more n d (line_view l) (lines_view (drop (i + 1) ls)) (sym o.quiet ∙ o.loud) (is_deep n l.indent o.deep)
+    ∙ sym (start text n c ls i l b o ∙ text_more text more n d (line_view l) (lines_view (drop (i + 1) ls)) (sym o.quiet ∙ o.loud) (le-leb n l.indent o.deep)
     (sym m))
-
-is_shallow : (n m : ℕ) → m < n → nat_le n m ≡ false
-is_shallow n m h = grind arith
 
 -- what is left where the text ends before the line `l` of the lines `ls`
 module _ (text : List ℕ) (n : ℕ) (ls here : List CodeLine) (i : ℕ) (l : CodeLine) (inside : i < length ls) (is : l ≡ get_or ls i l) (back : here ≡ drop i ls)
@@ -65,7 +58,7 @@ module _ (text : List ℕ) (n : ℕ) (ls here : List CodeLine) (i : ℕ) (l : Co
         → plain_text text n c (lines_view (drop i ls)) ≡ got text (lines_view here)
     ends_shallow c b q so e low =
         ap (λ (c : Bool). plain_text text n c (lines_view (drop i ls))) e ∙ ap (plain_text text n false) (lines_at ls i l inside is)
-        ∙ text_shallow text n (line_view l) (lines_view (drop (i + 1) ls)) (sym q ∙ so) (is_shallow n l.indent low) ∙ ap (λ (r : List Line). got text r) same
+        ∙ text_shallow text n (line_view l) (lines_view (drop (i + 1) ls)) (sym q ∙ so) (lt-leb n l.indent low) ∙ ap (λ (r : List Line). got text r) same
 
 ends_all : (text : List ℕ) (n : ℕ) (c : Bool) (ls here : List CodeLine) (i k : ℕ) → length ls ≤ i → length ls ≤ k → here ≡ drop k ls
     → plain_text text n c (lines_view (drop i ls)) ≡ got text (lines_view here)

@@ -1,6 +1,4 @@
-use Rattle.std.proofs.Common.{◌≡◌, drop}
-use Rattle.ksv_yaml_scan.specs.Plain.{plain_text}
-use Rattle.ksv_yaml_scan.specs.Views.{lines_view}
+use Rattle.ksv_yaml_scan.proofs.Common.{◌≡◌, drop, plain_text, lines_view}
 use Rattle.ksv_yaml_scan.proofs.plain.continue_plain.Given as goal
 
 abbrev pub invariant-loop-i : goal.invariant-loop-i

@@ -1,7 +1,5 @@
-use Rattle.std.proofs.Common.{◌≡◌, ℕ, ◌+◌, Bool, true, false, List, [], drop, sym, ap, ◌∙◌, arith, take, get_or}
+use Rattle.ksv_yaml_scan.proofs.Common.{◌≡◌, ℕ, ◌+◌, Bool, true, false, List, [], drop, sym, ap, ◌∙◌, arith, take, get_or, is_white, stop, run}
 use Rattle.std.specs.Prelude.{None, ◌<◌, length}
-use Rattle.ksv_yaml_scan.specs.Lines.{is_white}
-use Rattle.ksv_yaml_scan.specs.Plain.{stop, run}
 use Rattle.ksv_yaml_scan.proofs.Runs.{after, joined, run_more, end_white, end_other}
 use Rattle.ksv_yaml_scan.proofs.plain.plain_run.Goals as goal
 use Rattle.ksv_yaml_scan.proofs.plain.plain_run.Goals.{then-not-blank, else-not-blank}

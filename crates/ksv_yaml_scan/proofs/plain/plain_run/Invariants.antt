@@ -1,5 +1,4 @@
-use Rattle.std.proofs.Common.{◌≡◌, ◌≤◌, [], take, drop}
-use Rattle.ksv_yaml_scan.specs.Plain.{run}
+use Rattle.ksv_yaml_scan.proofs.Common.{◌≡◌, ◌≤◌, [], take, drop, run}
 use Rattle.ksv_yaml_scan.proofs.Runs.{after, joined}
 use Rattle.ksv_yaml_scan.proofs.plain.plain_run.Given as goal
 

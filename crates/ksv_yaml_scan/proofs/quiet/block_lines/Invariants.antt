@@ -1,7 +1,6 @@
-use Rattle.std.proofs.Common.{◌≡◌, ◌++◌, take, drop}
+use Rattle.ksv_yaml_scan.proofs.Common.{◌≡◌, ◌++◌, take, drop, lines_view}
 use Rattle.ksv_yaml_scan.specs.Lines.{front, behind}
 use Rattle.ksv_yaml_scan.specs.Blocks.{is_inner}
-use Rattle.ksv_yaml_scan.specs.Views.{lines_view}
 use Rattle.ksv_yaml_scan.proofs.quiet.block_lines.Given as goal
 
 abbrev pub invariant-loop-i : goal.invariant-loop-i

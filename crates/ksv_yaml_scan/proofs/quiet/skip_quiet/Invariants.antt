@@ -1,6 +1,4 @@
-use Rattle.std.proofs.Common.{◌≡◌, drop}
-use Rattle.ksv_yaml_scan.specs.Lines.{loud}
-use Rattle.ksv_yaml_scan.specs.Views.{lines_view}
+use Rattle.ksv_yaml_scan.proofs.Common.{◌≡◌, drop, loud, lines_view}
 use Rattle.ksv_yaml_scan.proofs.quiet.skip_quiet.Given as goal
 
 abbrev pub invariant-loop-i : goal.invariant-loop-i

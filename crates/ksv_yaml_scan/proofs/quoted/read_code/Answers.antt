@@ -1,7 +1,8 @@
-use Rattle.std.proofs.Common.{◌≡◌, ℕ, suc, ◌+◌, ◌*◌, List, [], ◌∷◌, refl, ap, ◌∙◌, arith}
+use Rattle.ksv_yaml_scan.proofs.Common.{◌≡◌, ℕ, suc, ◌+◌, List, [], ◌∷◌, refl, ap, ◌∙◌, arith, Quote, double, with_bytes, inside}
+use Rattle.std.proofs.Common.{◌*◌}
 use Rattle.std.specs.Prelude.{Some, None, Option}
 use Rattle.std.proofs.lemmas.Result.{IfOk-weaker, IfErr-weaker}
-use Rattle.ksv_yaml_scan.specs.Quoted.{Quote, Escaped, double, with_bytes, inside, digits_from}
+use Rattle.ksv_yaml_scan.specs.Quoted.{Escaped, digits_from}
 use Rattle.ksv_yaml_scan.proofs.quoted.read_code.Goals as goal
 
 with_nothing : (o : Option Quote) → with_bytes [] o ≡ o

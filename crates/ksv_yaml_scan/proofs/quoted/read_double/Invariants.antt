@@ -1,5 +1,4 @@
-use Rattle.std.proofs.Common.{◌≡◌, ◌≤◌, length}
-use Rattle.ksv_yaml_scan.specs.Quoted.{Between, double, with_bytes, inside}
+use Rattle.ksv_yaml_scan.proofs.Common.{◌≡◌, ◌≤◌, length, Between, double, with_bytes, inside}
 use Rattle.ksv_yaml_scan.proofs.quoted.read_double.Given as goal
 
 abbrev pub invariant-loop-byte : goal.invariant-loop-byte

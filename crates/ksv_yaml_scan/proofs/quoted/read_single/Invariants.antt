@@ -1,5 +1,5 @@
-use Rattle.std.proofs.Common.{◌≡◌, ◌≤◌, length}
-use Rattle.ksv_yaml_scan.specs.Quoted.{Between, single, with_bytes, inside}
+use Rattle.ksv_yaml_scan.proofs.Common.{◌≡◌, ◌≤◌, length, Between, with_bytes, inside}
+use Rattle.ksv_yaml_scan.specs.Quoted.{single}
 use Rattle.ksv_yaml_scan.proofs.quoted.read_single.Given as goal
 
 abbrev pub invariant-loop-byte : goal.invariant-loop-byte

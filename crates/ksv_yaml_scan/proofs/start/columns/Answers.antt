@@ -1,4 +1,4 @@
-use Rattle.std.proofs.Common.{sym, ◌∙◌, arith}
+use Rattle.ksv_yaml_scan.proofs.Common.{sym, ◌∙◌, arith}
 use Rattle.ksv_yaml_scan.proofs.Spaces.{columns_shown, columns_stop}
 use Rattle.ksv_yaml_scan.proofs.start.columns.Goals as goal
 

@@ -1,4 +1,4 @@
-use Rattle.std.proofs.Common.{◌≡◌, ◌+◌, drop}
+use Rattle.ksv_yaml_scan.proofs.Common.{◌≡◌, ◌+◌, drop}
 use Rattle.ksv_yaml_scan.specs.Lines.{columns as columns_of}
 use Rattle.ksv_yaml_scan.proofs.start.columns.Given as goal
 

@@ -1,4 +1,4 @@
-use Rattle.std.proofs.Common.{◌≡◌, drop}
+use Rattle.ksv_yaml_scan.proofs.Common.{◌≡◌, drop}
 use Rattle.ksv_yaml_scan.specs.Lines.{has_tab as has_tab_of}
 use Rattle.ksv_yaml_scan.proofs.start.has_tab.Given as goal
 

@@ -1,6 +1,4 @@
-use Rattle.std.proofs.Common.{◌≡◌, ℕ, List, ◌∷◌, Bool, false, ap, sym, ◌∙◌}
-use Rattle.std.specs.Prelude.{◌==◌, ◌&&◌}
-use Rattle.ksv_yaml_scan.specs.Lines.{white_or_end}
+use Rattle.ksv_yaml_scan.proofs.Common.{◌≡◌, ℕ, List, ◌∷◌, Bool, false, ap, sym, ◌∙◌, ◌==◌, ◌&&◌, white_or_end}
 use Rattle.ksv_yaml_scan.specs.Starts.{start_of, is_dash}
 use Rattle.std.proofs.lemmas.Bool.{and_left}
 use Rattle.ksv_yaml_scan.proofs.Choices.{same_byte, other_byte}

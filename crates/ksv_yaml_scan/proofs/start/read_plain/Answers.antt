@@ -1,5 +1,4 @@
-use Rattle.std.proofs.Common.{ap, sym, ◌∙◌, false}
-use Rattle.ksv_yaml_scan.specs.Plain.{Run}
+use Rattle.ksv_yaml_scan.proofs.Common.{ap, sym, ◌∙◌, false, Run}
 use Rattle.ksv_yaml_scan.specs.Views.{ending_view}
 use Rattle.ksv_yaml_scan.proofs.Starts.{no_bracket}
 use Rattle.ksv_yaml_scan.proofs.start.read_plain.Goals as goal

@@ -1,6 +1,5 @@
-use Rattle.std.proofs.Common.{ap, sym, ◌∙◌}
+use Rattle.ksv_yaml_scan.proofs.Common.{ap, sym, ◌∙◌, Quote}
 use Rattle.ksv_yaml_scan.specs.Starts.{key_at_colon}
-use Rattle.ksv_yaml_scan.specs.Quoted.{Quote}
 use Rattle.ksv_yaml_scan.proofs.Starts.{quote_refused}
 use Rattle.ksv_yaml_scan.proofs.start.read_quoted.Goals as goal
 

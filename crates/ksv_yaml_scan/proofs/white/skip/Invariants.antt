@@ -1,4 +1,4 @@
-use Rattle.std.proofs.Common.{◌≡◌, drop}
+use Rattle.ksv_yaml_scan.proofs.Common.{◌≡◌, drop}
 use Rattle.ksv_yaml_scan.specs.Lines.{skip as behind_white}
 use Rattle.ksv_yaml_scan.proofs.white.skip.Given as goal
 

@@ -1,11 +1,6 @@
-use Rattle.std.proofs.Common.{[], ◌++◌, ap, sym, subst}
-use Rattle.ksv_memo_rules.specs.Meaning.{on}
-use Rattle.ksv_memo_rules.specs.Evaluation.{done}
-use Rattle.ksv_memo_rules.specs.Right.{AreExactly, AreBetween, nodes_of}
-use Rattle.ksv_memo.specs.Behind.{AllEndBy}
-use Rattle.ksv_memo.specs.Nodes.{nodes}
+use Rattle.ksv_memo.proofs.Common.{[], ◌++◌, ap, sym, subst, on, done, AreExactly, nodes_of, AllEndBy, nodes, AreSame, to_keep}
+use Rattle.ksv_memo_rules.specs.Right.{AreBetween}
 use Rattle.ksv_memo.specs.Resting.{IsResting}
-use Rattle.ksv_memo.specs.Running.{AreSame, to_keep}
 use Rattle.ksv_memo.proofs.Questions.{exactly, between}
 use Rattle.ksv_memo.proofs.Ends.{right-ends}
 use Rattle.ksv_memo.proofs.engine.Engine.ask.Given

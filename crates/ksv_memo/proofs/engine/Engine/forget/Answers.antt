@@ -1,11 +1,7 @@
-use Rattle.std.proofs.Common.{◌≤◌, length, ap, sym, subst, refl, Contains}
-use Rattle.std.specs.List.{AllByRecursion}
-use Rattle.ksv_memo_rules.specs.Meaning.{on}
-use Rattle.ksv_memo_rules.specs.Right.{AreExactly, IsRight, nodes_of}
+use Rattle.ksv_memo.proofs.Common.{◌≤◌, length, ap, sym, subst, refl, Contains, AllByRecursion, on, AreExactly, IsRight, nodes_of, AllEndBy, pages_to, law_on}
 use Rattle.ksv_memo_rules.specs.Touched.{left_after}
 use Rattle.ksv_memo.specs.Near.{LooksNear}
-use Rattle.ksv_memo.specs.Behind.{AllEndBy, LooksBehind, pages_to}
-use Rattle.ksv_memo_rules.proofs.Standing.{law_on}
+use Rattle.ksv_memo.specs.Behind.{LooksBehind}
 use Rattle.ksv_memo.proofs.Forgetting.{forgets, forgets-right, forgets-kept, looks-near, looks-behind}
 use Rattle.ksv_memo.proofs.Ends.{ends-within, left-ends, reach-fits}
 use Rattle.ksv_memo.proofs.engine.Engine.forget.Goals as goal

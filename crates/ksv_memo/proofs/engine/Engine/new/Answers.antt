@@ -1,5 +1,4 @@
-use Rattle.std.proofs.Common.{ap}
-use Rattle.ksv_memo_rules.specs.Meaning.{on}
+use Rattle.ksv_memo.proofs.Common.{ap, on}
 use Rattle.ksv_memo_rules.proofs.Keeping.{none_right}
 use Rattle.ksv_memo.proofs.engine.Engine.new.Goals as goal
 

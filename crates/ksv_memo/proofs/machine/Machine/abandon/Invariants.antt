@@ -1,4 +1,4 @@
-use Rattle.std.proofs.Common.{◌≡◌, length}
+use Rattle.ksv_memo.proofs.Common.{◌≡◌, length}
 use Rattle.ksv_memo.proofs.machine.Machine.abandon.Given as goal
 
 abbrev pub invariant-loop : goal.invariant-loop

@@ -1,8 +1,4 @@
-use Rattle.std.proofs.Common.{[], sym, subst, OnOk}
-use Rattle.ksv_memo_rules.specs.Meaning.{on}
-use Rattle.ksv_memo_rules.specs.Evaluation.{done}
-use Rattle.ksv_memo_rules.specs.Right.{nodes_of}
-use Rattle.ksv_memo.specs.Running.{AreSame, to_keep}
+use Rattle.ksv_memo.proofs.Common.{[], sym, subst, OnOk, on, done, nodes_of, AreSame, to_keep}
 use Rattle.ksv_memo.proofs.machine.Machine.ask.Goals as goal
 
 -- what is kept after it is what the run has kept

@@ -1,5 +1,4 @@
-use Rattle.std.proofs.Common.{◌∙◌, ℕ, List, Result}
-use Rattle.ksv_memo.specs.Nodes.{nodes}
+use Rattle.ksv_memo.proofs.Common.{◌∙◌, ℕ, List, Result, nodes}
 use Rattle.ksv_memo.proofs.Turns.{on_err_always}
 use Rattle.ksv_memo.proofs.Taking.{Asking, asking, closes_last, closes_left}
 use Rattle.ksv_memo.proofs.machine.Machine.end.Given

@@ -1,8 +1,5 @@
-use Rattle.std.proofs.Common.{rules, List, ℕ, Result, ◌∙◌, ap, sym}
+use Rattle.ksv_memo.proofs.Common.{rules, List, ℕ, Result, ◌∙◌, ap, sym, Need, Done, Circle, nodes}
 use Rattle.std.proofs.lemmas.Result.{IfOk-weaker, on_err_weaker}
-use Rattle.ksv_memo_rules.specs.declared.rules.Next.TheVariants.{Need, Done}
-use Rattle.ksv_memo_rules.specs.declared.rules.Outcome.TheVariants.{Circle}
-use Rattle.ksv_memo.specs.Nodes.{nodes}
 use Rattle.ksv_memo.proofs.Turns.{on_err_always}
 use Rattle.ksv_memo.proofs.Taking.{Asking, Turn, asking, circles, closes_left, closes_on, counts_first, ended, ends_known, goes_on, hears_or_opens, holds_first}
 use Rattle.ksv_memo.proofs.Taking.{left, left_same, opens_first, reached}

@@ -1,4 +1,4 @@
-use Rattle.ksv_memo_rules.specs.Meaning.{on}
+use Rattle.ksv_memo.proofs.Common.{on}
 use Rattle.ksv_memo.specs.Running.{HoldsWith, CountsWith, turns_left}
 use Rattle.ksv_memo.proofs.machine.Machine.run.Given as goal
 

@@ -1,5 +1,4 @@
-use Rattle.std.proofs.Common.{◌∙◌, ◌++◌, ◌∷◌, [], ap, sym}
-use Rattle.std.specs.List.{list_any, zip}
+use Rattle.ksv_memo.proofs.Common.{◌∙◌, ◌++◌, ◌∷◌, [], ap, sym, list_any, zip}
 use Rattle.ksv_memo_rules.specs.declared.replies.Slot.TheVariants.{Open}
 use Rattle.ksv_memo.proofs.Zipping.{any-zip, push-zip}
 use Rattle.ksv_memo.proofs.slots.Slots.add.Goals as goal

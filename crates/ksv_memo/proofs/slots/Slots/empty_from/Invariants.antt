@@ -1,4 +1,4 @@
-use Rattle.std.proofs.Common.{◌≡◌, ◌≤◌}
+use Rattle.ksv_memo.proofs.Common.{◌≡◌, ◌≤◌}
 use Rattle.ksv_memo.proofs.slots.Slots.empty_from.Given as goal
 
 abbrev pub invariant-loop-place : goal.invariant-loop-place

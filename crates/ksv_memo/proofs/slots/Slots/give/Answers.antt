@@ -1,5 +1,4 @@
-use Rattle.std.proofs.Common.{◌∙◌, length, slice_set, ap, sym, arith}
-use Rattle.std.specs.List.{list_any, zip}
+use Rattle.ksv_memo.proofs.Common.{◌∙◌, length, slice_set, ap, sym, arith, list_any, zip}
 use Rattle.ksv_memo_rules.specs.declared.replies.Slot.TheVariants.{Open}
 use Rattle.ksv_memo.proofs.Zipping.{any-zip, count-zip, set-zip}
 use Rattle.ksv_memo.proofs.slots.Slots.give.Goals as goal

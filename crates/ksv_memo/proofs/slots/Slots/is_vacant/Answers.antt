@@ -1,7 +1,5 @@
-use Rattle.std.proofs.Common.{◌≡◌, ◌∙◌, ap, refl, subst, length, slice_get, Some}
+use Rattle.ksv_memo.proofs.Common.{◌≡◌, ◌∙◌, ap, refl, subst, length, slice_get, Some, Empty, IsVacant}
 use Rattle.std.proofs.lemmas.Option.{slice_get_read}
-use Rattle.ksv_memo_rules.specs.declared.replies.Slot.TheVariants.{Empty}
-use Rattle.ksv_memo.specs.Moves.{IsVacant}
 use Rattle.ksv_memo.proofs.Zipping.{slot-zip}
 use Rattle.ksv_memo.proofs.slots.Slots.is_vacant.Goals as goal
 

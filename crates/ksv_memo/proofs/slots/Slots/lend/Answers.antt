@@ -1,5 +1,4 @@
-use Rattle.std.proofs.Common.{◌∙◌, sym, ap}
-use Rattle.ksv_memo.specs.Layout.{slots_of}
+use Rattle.ksv_memo.proofs.Common.{◌∙◌, sym, ap, slots_of}
 use Rattle.ksv_memo.proofs.Zipping.{slots-zip}
 use Rattle.ksv_memo.proofs.slots.Slots.lend.Goals as goal
 

@@ -1,7 +1,4 @@
-use Rattle.std.proofs.Common.{◌∙◌, ap, length, arith}
-use Rattle.std.specs.List.{zip}
-use Rattle.std.proofs.lemmas.List.{length-set}
-use Rattle.ksv_memo.specs.Moves.{with_slot}
+use Rattle.ksv_memo.proofs.Common.{◌∙◌, ap, length, arith, zip, length-set, with_slot}
 use Rattle.ksv_memo.proofs.Zipping.{count-zip, write-zip}
 use Rattle.ksv_memo.proofs.slots.Slots.set.Goals as goal
 

@@ -1,8 +1,4 @@
-use Rattle.std.proofs.Common.{◌∙◌, ap, subst, true}
-use Rattle.std.proofs.lemmas.Option.{slice_get_within}
-use Rattle.ksv_memo_rules.specs.declared.replies.Slot.TheVariants.{Empty}
-use Rattle.ksv_memo.specs.Moves.{EndsWith}
-use Rattle.ksv_memo.specs.Layout.{opens_of}
+use Rattle.ksv_memo.proofs.Common.{◌∙◌, ap, subst, true, slice_get_within, Empty, EndsWith, opens_of}
 use Rattle.ksv_memo.specs.Nodes.{TakesFirst}
 use Rattle.ksv_memo.proofs.Topping.{IsPopped, top, pops, abandons-laid, abandons-kept, abandons-rest}
 use Rattle.ksv_memo.proofs.table.Table.abandon.Given

@@ -1,5 +1,5 @@
-use Rattle.std.proofs.Common.{◌∙◌, ap, subst, inl}
-use Rattle.ksv_memo.specs.Nodes.{Replies, nodes, nodes_with}
+use Rattle.ksv_memo.proofs.Common.{◌∙◌, ap, subst, inl, Replies, nodes}
+use Rattle.ksv_memo.specs.Nodes.{nodes_with}
 use Rattle.ksv_memo.proofs.Tabling.{hears, replies}
 use Rattle.ksv_memo.proofs.table.Table.ask.Goals as goal
 

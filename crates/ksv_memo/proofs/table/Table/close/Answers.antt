@@ -1,8 +1,5 @@
-use Rattle.std.proofs.Common.{◌∙◌, ap, refl, sym, subst, length, ◌==◌}
-use Rattle.std.proofs.lemmas.Option.{slice_get_within}
-use Rattle.ksv_memo.specs.Moves.{EndsWith}
-use Rattle.ksv_memo.specs.Layout.{entries_of, opens_of}
-use Rattle.ksv_memo.specs.Nodes.{Closes, MayKeep, nodes}
+use Rattle.ksv_memo.proofs.Common.{◌∙◌, ap, refl, sym, subst, length, slice_get_within, EndsWith, entries_of, opens_of, Closes, MayKeep, nodes}
+use Rattle.std.proofs.Common.{◌==◌}
 use Rattle.ksv_memo.proofs.Topping.{IsClosed, top, pops, closes-laid, closes-last, closes-more, hears-laid, may-keep, no-items, same-frames}
 use Rattle.ksv_memo.proofs.Topping.{unchanged-laid, keep_part, kept_part, keep-asks, keep-out, keep-in}
 use Rattle.ksv_memo.proofs.Turns.{on_err_always}

@@ -1,9 +1,6 @@
-use Rattle.std.proofs.Common.{◌≤◌, ◌+◌, ◌-◌, max, length, ◌∙◌, ap, sym, subst, refl, arith}
-use Rattle.ksv_memo.specs.declared.frames.Frames.{Frames}
-use Rattle.ksv_memo.specs.Layout.{entries_at, entries_of}
-use Rattle.std.specs.List.{AllByRecursion}
-use Rattle.ksv_memo_links.specs.Touching.{numbers_from, AreWithin}
-use Rattle.ksv_memo.specs.Sweep.{Sweeps}
+use Rattle.ksv_memo.proofs.Common.{◌≤◌, ◌+◌, ◌-◌, length, ◌∙◌, ap, sym, subst, refl, arith, Frames, entries_at, entries_of, AllByRecursion, numbers_from}
+use Rattle.ksv_memo.proofs.Common.{AreWithin, Sweeps}
+use Rattle.std.proofs.Common.{max}
 use Rattle.ksv_memo.proofs.Sweeping.{all_marks, entries, stays, marked, swept-links, gone-least, looks-most, looks-behind, kept-within, waits-in}
 use Rattle.ksv_memo.proofs.Resting.{no-frames, no-opens}
 use Rattle.ksv_memo.proofs.table.Table.forget.Goals as goal

@@ -1,8 +1,6 @@
-use Rattle.std.proofs.Common.{◌∙◌, ap, refl, subst, sym, IfOk}
-use Rattle.std.specs.Option.{option_map}
+use Rattle.ksv_memo.proofs.Common.{◌∙◌, ap, refl, subst, sym, IfOk, option_map, Answered, Circles, Opens, nodes}
 use Rattle.std.proofs.lemmas.Result.{IfOk-weaker}
-use Rattle.ksv_memo_rules.specs.declared.rules.Outcome.TheVariants.{Answered}
-use Rattle.ksv_memo.specs.Nodes.{Circles, HasEntry, Opens, Starts, nodes, nodes_with}
+use Rattle.ksv_memo.specs.Nodes.{HasEntry, Starts, nodes_with}
 use Rattle.ksv_memo.proofs.Tabling.{found}
 use Rattle.ksv_memo.proofs.table.Table.start.Goals as goal
 use Rattle.ksv_memo.proofs.table.Table.start.Goals.{in-Kept, in-Opened, in-Circle}

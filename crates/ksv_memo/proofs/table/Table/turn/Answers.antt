@@ -1,4 +1,4 @@
-use Rattle.ksv_memo_rules.specs.Meaning.{on}
+use Rattle.ksv_memo.proofs.Common.{on}
 use Rattle.ksv_memo.proofs.Topping.{called-laid}
 use Rattle.ksv_memo.proofs.table.Table.turn.Goals as goal
 

@@ -1,7 +1,4 @@
-use Rattle.std.proofs.Common.{◌≡◌, ◌+◌, List, length, ap, arith}
-use Rattle.std.proofs.lemmas.List.{get_or_read}
-use Rattle.ksv_memo_links.specs.declared.blocks.Block.{Block}
-use Rattle.ksv_memo_links.specs.Chained.{block_at}
+use Rattle.ksv_memo_links.proofs.Common.{◌≡◌, ◌+◌, List, length, ap, arith, get_or_read, Block, block_at}
 use Rattle.ksv_memo_links.proofs.Linking.{named-length}
 use Rattle.ksv_memo_links.proofs.chains.Chains.copy_row.Goals as goal
 

@@ -1,8 +1,4 @@
-use Rattle.std.proofs.Common.{◌≡◌, inl, ◌≤◌, length, sym, ◌∙◌, ap, subst, arith}
-use Rattle.std.proofs.lemmas.List.{get_or_read}
-use Rattle.ksv_memo_links.specs.Shelved.{row}
-use Rattle.ksv_memo_links.specs.Linked.{item_at}
-use Rattle.ksv_memo_links.specs.Chained.{Chained}
+use Rattle.ksv_memo_links.proofs.Common.{◌≡◌, inl, ◌≤◌, length, sym, ◌∙◌, ap, subst, arith, get_or_read, row, item_at, Chained}
 use Rattle.ksv_memo_links.proofs.Items.{lists-length, cursor, no-item}
 use Rattle.ksv_memo_links.proofs.chains.Chains.first_item.Goals as goal
 

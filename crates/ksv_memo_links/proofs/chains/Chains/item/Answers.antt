@@ -1,8 +1,4 @@
-use Rattle.std.proofs.Common.{◌≡◌, ◌≢◌, ◌⊎◌, inl, inr, ◌+◌, ◌<◌, ◌≤◌, length, ◌∙◌, ap, subst, arith}
-use Rattle.std.proofs.lemmas.List.{get_or_read}
-use Rattle.ksv_memo_links.specs.Shelved.{row}
-use Rattle.ksv_memo_links.specs.Linked.{item_at}
-use Rattle.ksv_memo_links.specs.Chained.{Chained, entry_at}
+use Rattle.ksv_memo_links.proofs.Common.{◌≡◌, ◌≢◌, ◌⊎◌, inl, inr, ◌+◌, ◌<◌, ◌≤◌, length, ◌∙◌, ap, subst, arith, get_or_read, row, item_at, Chained, entry_at}
 use Rattle.ksv_memo_links.proofs.Items.{item-found, no-item}
 use Rattle.ksv_memo_links.proofs.chains.Chains.item.Goals as goal
 use Rattle.ksv_memo_links.proofs.chains.Chains.item.Goals.{then-at-eq0-via-then-at-eq0, then-at-eq0-via-else-at-eq0+then-at-len}

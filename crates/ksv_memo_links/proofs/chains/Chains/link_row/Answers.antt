@@ -1,4 +1,4 @@
-use Rattle.std.proofs.Common.{length, sym, ◌∙◌, ap, arith}
+use Rattle.ksv_memo_links.proofs.Common.{length, sym, ◌∙◌, ap, arith}
 use Rattle.ksv_memo_links.proofs.Items.{lists-length}
 use Rattle.ksv_memo_links.proofs.chains.Chains.link_row.Goals as goal
 

@@ -1,5 +1,4 @@
-use Rattle.std.proofs.Common.{subst}
-use Rattle.ksv_memo_links.specs.Chained.{Chained, IsListed}
+use Rattle.ksv_memo_links.proofs.Common.{subst, Chained, IsListed}
 use Rattle.ksv_memo_links.proofs.Items.{all-listed}
 use Rattle.ksv_memo_links.proofs.chains.Chains.linked.Goals as goal
 

@@ -1,7 +1,4 @@
-use Rattle.std.proofs.Common.{◌≡◌, ℕ, ◌<◌, List, [], length, get_or, sym, ◌∙◌, ap, subst, arith}
-use Rattle.std.proofs.lemmas.List.{get_or_past}
-use Rattle.ksv_memo_links.specs.declared.blocks.Block.{Block}
-use Rattle.ksv_memo_links.specs.Shelved.{row}
+use Rattle.ksv_memo_links.proofs.Common.{◌≡◌, ℕ, ◌<◌, List, [], length, get_or, sym, ◌∙◌, ap, subst, arith, get_or_past, Block, row}
 use Rattle.ksv_memo_links.proofs.Linking.{named-length}
 use Rattle.ksv_memo_links.proofs.Items.{lists-length}
 use Rattle.ksv_memo_links.proofs.Packing.{copied-more, copied-all, list-there}

@@ -1,4 +1,4 @@
-use Rattle.std.proofs.Common.{◌≡◌, length}
+use Rattle.ksv_memo_links.proofs.Common.{◌≡◌, length}
 use Rattle.ksv_memo_links.proofs.Packing.{IsCopied}
 use Rattle.ksv_memo_links.proofs.chains.Chains.packed.Given as goal
 

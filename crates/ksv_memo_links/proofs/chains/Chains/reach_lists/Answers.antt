@@ -1,6 +1,5 @@
-use Rattle.std.proofs.Common.{ℕ, List, ◌-◌, length, sym, ap, subst, arith}
-use Rattle.std.proofs.lemmas.List.{length-append, length-replicate}
-use Rattle.ksv_memo_links.specs.Chained.{IsChained}
+use Rattle.ksv_memo_links.proofs.Common.{ℕ, List, ◌-◌, length, sym, ap, subst, arith, length-append, IsChained}
+use Rattle.std.proofs.lemmas.List.{length-replicate}
 use Rattle.ksv_memo_links.proofs.Items.{lists-length}
 use Rattle.ksv_memo_links.proofs.Growing.{padded-by, on-ok, chained-lists}
 use Rattle.ksv_memo_links.proofs.chains.Chains.reach_lists.Goals as goal

@@ -1,7 +1,4 @@
-use Rattle.std.proofs.Common.{List, ◌-◌, length, sym, ◌∙◌, ap, subst}
-use Rattle.ksv_memo_links.specs.declared.blocks.Block.{Block}
-use Rattle.ksv_memo_links.specs.Shelved.{HasSameRows}
-use Rattle.ksv_memo_links.specs.Chained.{Chained, named_of, IsChained}
+use Rattle.ksv_memo_links.proofs.Common.{List, ◌-◌, length, sym, ◌∙◌, ap, subst, Block, HasSameRows, Chained, named_of, IsChained}
 use Rattle.ksv_memo_links.proofs.Items.{lists-length}
 use Rattle.ksv_memo_links.proofs.Growing.{padded-by, chained-owners, same-named}
 use Rattle.ksv_memo_links.proofs.chains.Chains.reach_owners.Goals as goal

@@ -1,7 +1,5 @@
-use Rattle.std.proofs.Common.{◌≡◌, ℕ, true, sym, subst}
-use Rattle.ksv_memo_links.specs.Shelved.{row}
+use Rattle.ksv_memo_links.proofs.Common.{◌≡◌, ℕ, true, sym, subst, row, is_kept}
 use Rattle.ksv_memo_links.specs.Touching.{AreWithin}
-use Rattle.ksv_memo_links.specs.Marking.{is_kept}
 use Rattle.ksv_memo_links.specs.Links.{Linked}
 use Rattle.ksv_memo_links.proofs.links.Links.forget.Goals as goal
 

@@ -1,7 +1,6 @@
-use Rattle.std.proofs.Common.{◌≡◌, ◌+◌, ◌≤◌, ◌<◌, ℕ, Bool, true, false, cond, List, length, set, get_or, count_by, sym, ◌∙◌, ap, subst, arith}
-use Rattle.std.proofs.lemmas.List.{length-set}
-use Rattle.std.proofs.lemmas.List.Sums.{sum_by-set, count_by-le-length}
-use Rattle.ksv_memo_links.specs.Marking.{is_kept}
+use Rattle.ksv_memo_links.proofs.Common.{◌≡◌, ◌+◌, ◌≤◌, ◌<◌, ℕ, Bool, true, false, cond, List, length, set, get_or, count_by, sym, ◌∙◌, ap, subst, arith}
+use Rattle.ksv_memo_links.proofs.Common.{length-set, sum_by-set, is_kept}
+use Rattle.std.proofs.lemmas.List.Sums.{count_by-le-length}
 use Rattle.ksv_memo_links.proofs.marks.Marks.keep.Goals as goal
 
 -- one more is kept

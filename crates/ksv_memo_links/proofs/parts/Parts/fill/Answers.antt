@@ -1,4 +1,4 @@
-use Rattle.std.proofs.Common.{refl, ◌∙◌}
+use Rattle.ksv_memo_links.proofs.Common.{refl, ◌∙◌}
 use Rattle.ksv_memo_links.proofs.Keeping.{undone}
 use Rattle.ksv_memo_links.proofs.parts.Parts.fill.Goals as goal
 

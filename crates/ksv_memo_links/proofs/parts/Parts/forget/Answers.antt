@@ -1,4 +1,4 @@
-use Rattle.std.proofs.Common.{List, ℕ, length, ap, arith}
+use Rattle.ksv_memo_links.proofs.Common.{List, ℕ, length, ap, arith}
 use Rattle.ksv_memo_links.proofs.Closing.{forgets, whole-after, near, behind, rises}
 use Rattle.ksv_memo_links.proofs.parts.Parts.forget.Goals as goal
 

@@ -1,5 +1,4 @@
-use Rattle.std.proofs.Common.{refl, sym, ◌∙◌, arith}
-use Rattle.ksv_memo_links.specs.declared.parts.Parts.{Parts}
+use Rattle.ksv_memo_links.proofs.Common.{refl, sym, ◌∙◌, arith, Parts}
 use Rattle.ksv_memo_links.proofs.More.{MarksOne}
 use Rattle.ksv_memo_links.proofs.Hits.{hit-marked}
 use Rattle.ksv_memo_links.proofs.parts.Parts.hit.Goals as goal

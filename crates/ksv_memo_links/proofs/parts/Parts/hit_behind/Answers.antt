@@ -1,8 +1,4 @@
-use Rattle.std.proofs.Common.{◌≡◌, List, min, ◌+◌, length, ◌∙◌, subst, arith}
-use Rattle.ksv_memo_links.specs.declared.blocks.Item.{Item}
-use Rattle.ksv_memo_links.specs.Placed.{end_lists, page_lists}
-use Rattle.ksv_memo_links.specs.Links.{first_page}
-use Rattle.ksv_memo_links.specs.Forgetting.{HitsRows}
+use Rattle.ksv_memo_links.proofs.Common.{◌≡◌, List, min, ◌+◌, length, ◌∙◌, subst, arith, Item, end_lists, page_lists, first_page, HitsRows}
 use Rattle.ksv_memo_links.proofs.Hits.{hits-behind}
 use Rattle.ksv_memo_links.proofs.Turns.{count-ends}
 use Rattle.ksv_memo_links.proofs.parts.Parts.hit_behind.Goals as goal

@@ -1,7 +1,4 @@
-use Rattle.std.proofs.Common.{List, length, ◌∙◌, ap, arith}
-use Rattle.ksv_memo_links.specs.declared.blocks.Item.{Item}
-use Rattle.ksv_memo_links.specs.Shelved.{row}
-use Rattle.ksv_memo_links.specs.Placed.{end_lists}
+use Rattle.ksv_memo_links.proofs.Common.{List, length, ◌∙◌, ap, arith, Item, row, end_lists}
 use Rattle.ksv_memo_links.proofs.Hits.{rows-none, rows-more, row-as}
 use Rattle.ksv_memo_links.proofs.Turns.{row-of-end, count-ends, count-pages}
 use Rattle.ksv_memo_links.proofs.parts.Parts.hit_ends.Goals as goal

@@ -1,6 +1,4 @@
-use Rattle.std.proofs.Common.{◌≤◌, max}
-use Rattle.ksv_memo_links.specs.Placed.{end_lists}
-use Rattle.ksv_memo_links.specs.Forgetting.{HitsRows}
+use Rattle.ksv_memo_links.proofs.Common.{◌≤◌, max, end_lists, HitsRows}
 use Rattle.ksv_memo_links.proofs.parts.Parts.hit_ends.Given as goal
 
 abbrev pub invariant-loop-list : goal.invariant-loop-list

@@ -1,9 +1,4 @@
-use Rattle.std.proofs.Common.{map, sym, subst, arith}
-use Rattle.ksv_memo_links.specs.declared.parts.Parts.{Parts}
-use Rattle.ksv_memo_links.specs.Shelved.{row}
-use Rattle.ksv_memo_links.specs.Placed.{lists_of_uses}
-use Rattle.ksv_memo_links.specs.Linked.{item_at}
-use Rattle.ksv_memo_links.specs.Forgetting.{HitsRow}
+use Rattle.ksv_memo_links.proofs.Common.{map, sym, subst, arith, Parts, row, lists_of_uses, item_at, HitsRow}
 use Rattle.ksv_memo_links.proofs.Hits.{peek-uses, row-none, row-more, row-end, listed-in}
 use Rattle.ksv_memo_links.proofs.Cursors.{seen_to, starts, steps, ended}
 use Rattle.ksv_memo_links.proofs.parts.Parts.hit_items.Goals as goal

@@ -1,5 +1,4 @@
-use Rattle.ksv_memo_links.specs.Shelved.{row}
-use Rattle.ksv_memo_links.specs.Forgetting.{HitsRow}
+use Rattle.ksv_memo_links.proofs.Common.{row, HitsRow}
 use Rattle.ksv_memo_links.proofs.Cursors.{left_from, seen_to, StandsAt}
 use Rattle.ksv_memo_links.proofs.parts.Parts.hit_items.Given as goal
 

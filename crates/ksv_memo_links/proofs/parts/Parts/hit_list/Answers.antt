@@ -1,9 +1,4 @@
-use Rattle.std.proofs.Common.{List, length, sym, ◌∙◌, ap, subst, arith}
-use Rattle.ksv_memo_links.specs.declared.blocks.Item.{Item}
-use Rattle.ksv_memo_links.specs.declared.parts.Parts.{Parts}
-use Rattle.ksv_memo_links.specs.Shelved.{row}
-use Rattle.ksv_memo_links.specs.Linked.{item_at}
-use Rattle.ksv_memo_links.specs.Forgetting.{HitsRow}
+use Rattle.ksv_memo_links.proofs.Common.{List, length, sym, ◌∙◌, ap, subst, arith, Item, Parts, row, item_at, HitsRow}
 use Rattle.ksv_memo_links.proofs.Hits.{peek-uses, row-from}
 use Rattle.ksv_memo_links.proofs.parts.Parts.hit_list.Goals as goal
 

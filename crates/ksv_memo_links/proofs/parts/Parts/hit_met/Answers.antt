@@ -1,7 +1,4 @@
-use Rattle.std.proofs.Common.{◌≡◌, ◌-◌, ◌/◌, ◌+◌, min, length, subst, arith}
-use Rattle.ksv_memo_links.specs.Placed.{page_lists}
-use Rattle.ksv_memo_links.specs.Links.{first_page, end_page}
-use Rattle.ksv_memo_links.specs.Forgetting.{HitsRows}
+use Rattle.ksv_memo_links.proofs.Common.{◌≡◌, ◌-◌, ◌/◌, ◌+◌, min, length, subst, arith, page_lists, first_page, end_page, HitsRows}
 use Rattle.ksv_memo_links.proofs.Turns.{count-pages}
 use Rattle.ksv_memo_links.proofs.parts.Parts.hit_met.Goals as goal
 

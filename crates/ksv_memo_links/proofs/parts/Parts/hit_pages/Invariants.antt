@@ -1,6 +1,4 @@
-use Rattle.std.proofs.Common.{◌≤◌, max}
-use Rattle.ksv_memo_links.specs.Placed.{page_lists}
-use Rattle.ksv_memo_links.specs.Forgetting.{HitsRows}
+use Rattle.ksv_memo_links.proofs.Common.{◌≤◌, max, page_lists, HitsRows}
 use Rattle.ksv_memo_links.proofs.parts.Parts.hit_pages.Given as goal
 
 abbrev pub invariant-loop-page : goal.invariant-loop-page

@@ -1,7 +1,4 @@
-use Rattle.std.proofs.Common.{◌≡◌, min, ◌+◌, length, ◌∙◌, ap, subst, arith}
-use Rattle.ksv_memo_links.specs.Shelved.{row}
-use Rattle.ksv_memo_links.specs.Placed.{end_lists}
-use Rattle.ksv_memo_links.specs.Forgetting.{HitsRows}
+use Rattle.ksv_memo_links.proofs.Common.{◌≡◌, min, ◌+◌, length, ◌∙◌, ap, subst, arith, row, end_lists, HitsRows}
 use Rattle.ksv_memo_links.proofs.Hits.{rows-none, rows-more, row-as}
 use Rattle.ksv_memo_links.proofs.Turns.{row-of-end, count-ends}
 use Rattle.ksv_memo_links.proofs.parts.Parts.hit_size.Goals as goal

@@ -1,7 +1,6 @@
-use Rattle.std.proofs.Common.{length, min, subst, sym}
-use Rattle.ksv_memo_links.specs.Placed.{end_lists}
+use Rattle.ksv_memo_links.proofs.Common.{length, min, subst, sym, end_lists, HitsRows}
 use Rattle.ksv_memo_links.specs.Links.{IsMove}
-use Rattle.ksv_memo_links.specs.Forgetting.{AreAllWithin, HitsRows, HitsTouched}
+use Rattle.ksv_memo_links.specs.Forgetting.{AreAllWithin, HitsTouched}
 use Rattle.ksv_memo_links.proofs.Closing.{pages-touched, insert-touched, delete-touched, append-touched}
 use Rattle.ksv_memo_links.proofs.parts.Parts.hit_touched.Goals as goal
 

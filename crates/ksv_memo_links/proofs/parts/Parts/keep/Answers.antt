@@ -1,5 +1,4 @@
-use Rattle.std.proofs.Common.{refl, sym, ◌∙◌, ap, set, true, arith}
-use Rattle.ksv_memo_links.specs.declared.parts.Parts.{Parts}
+use Rattle.ksv_memo_links.proofs.Common.{refl, sym, ◌∙◌, ap, set, true, arith, Parts}
 use Rattle.ksv_memo_links.proofs.Keeping.{same_whole, filled_whole}
 use Rattle.ksv_memo_links.proofs.parts.Parts.keep.Goals as goal
 

@@ -1,7 +1,4 @@
-use Rattle.std.proofs.Common.{sym, subst, refl, arith}
-use Rattle.ksv_memo_links.specs.declared.parts.Parts.{Parts}
-use Rattle.ksv_memo_links.specs.Shelved.{row}
-use Rattle.ksv_memo_links.specs.Forgetting.{HitsUsers}
+use Rattle.ksv_memo_links.proofs.Common.{sym, subst, refl, arith, Parts, row, HitsUsers}
 use Rattle.ksv_memo_links.proofs.More.{MarksOne}
 use Rattle.ksv_memo_links.proofs.Hits.{peek-asks}
 use Rattle.ksv_memo_links.proofs.Spreading.{users-first, users-more, users-end, user-there}

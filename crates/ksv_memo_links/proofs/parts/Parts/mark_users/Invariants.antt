@@ -1,5 +1,4 @@
-use Rattle.ksv_memo_links.specs.Shelved.{row}
-use Rattle.ksv_memo_links.specs.Forgetting.{HitsUsers}
+use Rattle.ksv_memo_links.proofs.Common.{row, HitsUsers}
 use Rattle.ksv_memo_links.proofs.Cursors.{left_from, seen_to, StandsAt}
 use Rattle.ksv_memo_links.proofs.parts.Parts.mark_users.Given as goal
 

@@ -1,6 +1,4 @@
-use Rattle.std.proofs.Common.{ℕ, List, length, refl, sym, ap, subst, arith}
-use Rattle.ksv_memo_links.specs.declared.parts.Parts.{Parts}
-use Rattle.ksv_memo_links.specs.Shelved.{HasSameRows}
+use Rattle.ksv_memo_links.proofs.Common.{ℕ, List, length, refl, sym, ap, subst, arith, Parts, HasSameRows}
 use Rattle.ksv_memo_links.specs.Marking.{HasMore}
 use Rattle.ksv_memo_links.proofs.Keeping.{same_rows, grown_whole}
 use Rattle.ksv_memo_links.proofs.parts.Parts.reach.Goals as goal

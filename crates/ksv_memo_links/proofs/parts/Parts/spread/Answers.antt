@@ -1,5 +1,4 @@
-use Rattle.std.proofs.Common.{refl, arith}
-use Rattle.ksv_memo_links.specs.declared.parts.Parts.{Parts}
+use Rattle.ksv_memo_links.proofs.Common.{refl, arith, Parts}
 use Rattle.ksv_memo_links.proofs.Hits.{Peeks}
 use Rattle.ksv_memo_links.proofs.Spreading.{spread-none, spread-more, spread-end}
 use Rattle.ksv_memo_links.proofs.parts.Parts.spread.Goals as goal

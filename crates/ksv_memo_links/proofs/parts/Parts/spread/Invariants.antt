@@ -1,5 +1,4 @@
-use Rattle.std.proofs.Common.{◌-◌, length}
-use Rattle.ksv_memo_links.specs.Forgetting.{Spreads}
+use Rattle.ksv_memo_links.proofs.Common.{◌-◌, length, Spreads}
 use Rattle.ksv_memo_links.proofs.parts.Parts.spread.Given as goal
 
 abbrev pub invariant-loop-slot : goal.invariant-loop-slot

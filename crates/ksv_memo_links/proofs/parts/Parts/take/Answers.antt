@@ -1,5 +1,4 @@
-use Rattle.std.proofs.Common.{refl}
-use Rattle.ksv_memo_links.specs.declared.parts.Parts.{Parts}
+use Rattle.ksv_memo_links.proofs.Common.{refl, Parts}
 use Rattle.ksv_memo_links.proofs.Keeping.{taken_whole}
 use Rattle.ksv_memo_links.proofs.parts.Parts.take.Goals as goal
 

@@ -1,9 +1,5 @@
-use Rattle.std.proofs.Common.{◌≡◌, ◌<◌, [], List, length, map, sym, ◌∙◌, ap, refl, subst, arith}
-use Rattle.ksv_bytes.specs.declared.uses.Use.{Use}
+use Rattle.ksv_memo_links.proofs.Common.{◌≡◌, ◌<◌, [], List, length, map, sym, ◌∙◌, ap, refl, subst, arith, Use, uses_of, lists_of_uses, ends_in, row}
 use Rattle.ksv_memo_links.specs.declared.used.Noted.TheVariants.{Nothing}
-use Rattle.ksv_memo_links.specs.Placed.{uses_of, lists_of_uses}
-use Rattle.ksv_memo_links.specs.Touching.{ends_in}
-use Rattle.ksv_memo_links.specs.Shelved.{row}
 use Rattle.ksv_memo_links.proofs.Writing.{row_written, row_read}
 use Rattle.ksv_memo_links.proofs.Meeting.{met-put, pages-among}
 use Rattle.ksv_memo_links.proofs.used.Uses.clear.Goals as goal

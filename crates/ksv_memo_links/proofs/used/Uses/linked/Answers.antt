@@ -1,6 +1,5 @@
-use Rattle.std.proofs.Common.{map, subst}
-use Rattle.ksv_memo_links.specs.Chained.{IsListed}
-use Rattle.ksv_memo_links.specs.Placed.{Used, uses_of, lists_of_uses}
+use Rattle.ksv_memo_links.proofs.Common.{map, subst, IsListed, uses_of, lists_of_uses}
+use Rattle.ksv_memo_links.specs.Placed.{Used}
 use Rattle.ksv_memo_links.proofs.Turns.{listed-as}
 use Rattle.ksv_memo_links.proofs.used.Uses.linked.Goals as goal
 

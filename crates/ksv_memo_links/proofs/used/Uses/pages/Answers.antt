@@ -1,4 +1,4 @@
-use Rattle.std.proofs.Common.{length, ap, arith}
+use Rattle.ksv_memo_links.proofs.Common.{length, ap, arith}
 use Rattle.ksv_memo_links.proofs.Turns.{count-pages}
 use Rattle.ksv_memo_links.proofs.used.Uses.pages.Goals as goal
 

@@ -1,7 +1,4 @@
-use Rattle.std.proofs.Common.{◌<◌, List, length, map, sym, ◌∙◌, ap, refl, subst, arith}
-use Rattle.ksv_bytes.specs.declared.uses.Use.{Use}
-use Rattle.ksv_memo_links.specs.Placed.{uses_of, lists_of_uses}
-use Rattle.ksv_memo_links.specs.Shelved.{row}
+use Rattle.ksv_memo_links.proofs.Common.{◌<◌, List, length, map, sym, ◌∙◌, ap, refl, subst, arith, Use, uses_of, lists_of_uses, row}
 use Rattle.ksv_memo_links.proofs.Writing.{row_written}
 use Rattle.ksv_memo_links.proofs.Meeting.{met-put}
 use Rattle.ksv_memo_links.proofs.used.Uses.put.Goals as goal

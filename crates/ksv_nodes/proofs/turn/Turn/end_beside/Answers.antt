@@ -1,9 +1,6 @@
-use Rattle.std.proofs.Common.{◌≡◌, ◌∙◌, sym, ap}
-use Rattle.ksv_basics.specs.Plan.{Done, run}
-use Rattle.ksv_expr_value.specs.Trail.{Trail, parent}
-use Rattle.ksv_memo_rules.specs.Slots.{lent}
-use Rattle.ksv_nodes.specs.Rule.{in_end, part}
-use Rattle.ksv_nodes.specs.Turning.{turns}
+use Rattle.ksv_nodes.proofs.Common.{◌≡◌, ◌∙◌, sym, ap, Done, run, Trail, lent, part, turns}
+use Rattle.ksv_expr_value.specs.Trail.{parent}
+use Rattle.ksv_nodes.specs.Rule.{in_end}
 use Rattle.ksv_nodes.specs.declared.node.NodeKind.TheVariants as nodes
 use Rattle.ksv_nodes.proofs.Parts.{runs_missing, runs_replied, needed_part}
 use Rattle.ksv_nodes.proofs.turn.Turn.end_beside.Goals as goal

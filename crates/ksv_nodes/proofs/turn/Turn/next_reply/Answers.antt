@@ -1,9 +1,7 @@
-use Rattle.std.proofs.Common.{◌≡◌, ◌+◌, ◌∙◌, sym, ap, subst, arith}
+use Rattle.ksv_nodes.proofs.Common.{◌≡◌, ◌+◌, ◌∙◌, sym, ap, subst, arith, lent, Need, run, come, turns}
 use Rattle.std.specs.Option.{option_map}
 use Rattle.std.proofs.lemmas.Option.{slice_get_within}
-use Rattle.ksv_memo_rules.specs.Slots.{lent}
-use Rattle.ksv_basics.specs.Plan.{Need, run}
-use Rattle.ksv_nodes.specs.Turning.{TakesReply, ask, come, turns}
+use Rattle.ksv_nodes.specs.Turning.{TakesReply, ask}
 use Rattle.ksv_nodes.proofs.Replied.{from, needed_next, given_next}
 use Rattle.ksv_nodes.proofs.turn.Turn.next_reply.Goals as goal
 

@@ -1,5 +1,4 @@
-use Rattle.std.proofs.Common.{◌∙◌, sym}
-use Rattle.ksv_memo_rules.specs.Slots.{lent}
+use Rattle.ksv_nodes.proofs.Common.{◌∙◌, sym, lent}
 use Rattle.ksv_expr_value.specs.declared.fault.FaultKind.TheVariants as kinds
 use Rattle.ksv_nodes.specs.Rule.{in_value}
 use Rattle.ksv_nodes.specs.declared.node.NodeKind.TheVariants as nodes

@@ -1,7 +1,5 @@
-use Rattle.std.proofs.Common.{◌≡◌, ℕ, ◌<◌, ◌∙◌, List, length, set, arith}
+use Rattle.ksv_places.proofs.Common.{◌≡◌, ℕ, ◌<◌, ◌∙◌, List, length, set, arith, get_or-set_same, get_or-set_other, number_at, IsPut}
 use Rattle.std.proofs.lemmas.Grind.{common_steps}
-use Rattle.std.proofs.lemmas.List.{get_or-set_same, get_or-set_other}
-use Rattle.ksv_places.specs.Table.{number_at, IsPut}
 use Rattle.ksv_places.proofs.numbers.Numbers.put.Goals as goal
 use Rattle.ksv_places.proofs.numbers.Numbers.put.Goals.{then-len-index-2+in_ok-resize, else-len-index-2}
 

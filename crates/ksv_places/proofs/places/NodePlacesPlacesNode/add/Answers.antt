@@ -1,11 +1,6 @@
-use Rattle.std.proofs.Common.{◌++◌, ◌∷◌, List, [], Some, reverse, sym, ◌∙◌, ap, subst}
-use Rattle.std.specs.List.{list_any}
-use Rattle.std.proofs.lemmas.Result.{on_ok_weaker}
-use Rattle.ksv_expr_value.specs.declared.step.Step.{Step}
-use Rattle.ksv_nodes.specs.declared.node.NodeKind.{NodeKind}
+use Rattle.ksv_places.proofs.Common.{◌++◌, ◌∷◌, List, [], Some, reverse, sym, ◌∙◌, ap, subst, list_any, on_ok_weaker, Step, NodeKind, Placed, all_named, AllFit}
+use Rattle.ksv_places.proofs.Common.{EndsAt}
 use Rattle.ksv_nodes.specs.contracts.node.NodePartialEq.TheImpl.{ghosts as node_tests}
-use Rattle.ksv_places.specs.Nodes.{Placed, all_named, AllFit}
-use Rattle.ksv_places.specs.Tree.{EndsAt}
 use Rattle.ksv_places.proofs.Naming.{either_way, is_none, fit_push, named_push, steps_up}
 use Rattle.ksv_places.proofs.places.NodePlacesPlacesNode.add.Goals as goal
 

@@ -1,11 +1,8 @@
-use Rattle.std.proofs.Common.{◌≡◌, false, List, Option, Some, None, sym, ◌∙◌, ap, subst, slice_get}
-use Rattle.std.specs.List.{IsDistinct, list_any}
+use Rattle.ksv_places.proofs.Common.{◌≡◌, false, List, Some, sym, ◌∙◌, ap, subst, slice_get, list_any, Step, NodeKind, Placed, all_named, AllFit, EndsAt}
+use Rattle.std.proofs.Common.{Option, None}
+use Rattle.std.specs.List.{IsDistinct}
 use Rattle.std.specs.Option.{IfSome, IfNone}
-use Rattle.ksv_expr_value.specs.declared.step.Step.{Step}
-use Rattle.ksv_nodes.specs.declared.node.NodeKind.{NodeKind}
 use Rattle.ksv_nodes.specs.contracts.node.NodePartialEq.TheImpl.{ghosts as node_tests}
-use Rattle.ksv_places.specs.Nodes.{Placed, all_named, AllFit}
-use Rattle.ksv_places.specs.Tree.{EndsAt}
 use Rattle.ksv_places.proofs.Naming.{at_named, none_is, apart_named, distinct, steps_up}
 use Rattle.ksv_places.proofs.places.NodePlacesPlacesNode.find.Goals as goal
 

@@ -1,10 +1,5 @@
-use Rattle.std.proofs.Common.{◌≡◌, ℕ, ◌+◌, ◌++◌, ◌∷◌, List, [], Some, length, set, reverse, ◌∙◌, sym, ap, subst, arith, slice_get}
-use Rattle.std.proofs.lemmas.List.{length_push}
-use Rattle.ksv_expr_value.specs.declared.step.Step.{Step}
-use Rattle.ksv_nodes.specs.declared.node.NodeKind.{NodeKind}
-use Rattle.ksv_places.specs.declared.links.Row.{Row}
-use Rattle.ksv_places.specs.Spots.{spots_of, with_mark, row_at, nodes_of, IsFiled, Spotted}
-use Rattle.ksv_places.specs.Tree.{EndsAt}
+use Rattle.ksv_places.proofs.Common.{◌≡◌, ℕ, ◌+◌, ◌++◌, ◌∷◌, List, [], Some, length, set, reverse, ◌∙◌, sym, ap, subst, arith, slice_get, length_push, Step}
+use Rattle.ksv_places.proofs.Common.{NodeKind, Row, spots_of, with_mark, row_at, nodes_of, IsFiled, Spotted, EndsAt}
 use Rattle.ksv_places.proofs.Filing.{filed_more, nodes_same, open_behind, no_mark, filed_push, nodes_push}
 use Rattle.ksv_places.proofs.Pairing.{count, on_err, pushed}
 use Rattle.ksv_places.proofs.spots.Spots.add.Goals as goal

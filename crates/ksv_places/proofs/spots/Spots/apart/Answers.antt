@@ -1,5 +1,4 @@
-use Rattle.std.proofs.Common.{◌≡◌, ℕ, ◌<◌, length, subst, slice_get}
-use Rattle.ksv_places.specs.Spots.{spots_of, Spotted}
+use Rattle.ksv_places.proofs.Common.{◌≡◌, ℕ, ◌<◌, length, subst, slice_get, spots_of, Spotted}
 use Rattle.ksv_places.proofs.Filing.{one_place}
 use Rattle.ksv_places.proofs.spots.Spots.apart.Goals as goal
 

@@ -1,5 +1,6 @@
-use Rattle.std.proofs.Common.{◌≡◌, ◌-◌, ◌<◌, Option, Some, None, IfNone, reverse, ◌∙◌, sym, ap, arith, slice_get}
-use Rattle.ksv_places.specs.Spots.{spots_of, mark_in, row_at, nodes_of}
+use Rattle.ksv_places.proofs.Common.{◌≡◌, ◌-◌, ◌<◌, Some, reverse, ◌∙◌, sym, ap, arith, slice_get, spots_of, row_at, nodes_of}
+use Rattle.std.proofs.Common.{Option, None, IfNone}
+use Rattle.ksv_places.specs.Spots.{mark_in}
 use Rattle.ksv_places.proofs.Filing.{no_path_node, no_mark_node, marked}
 use Rattle.ksv_places.proofs.spots.Spots.find.Goals as goal
 

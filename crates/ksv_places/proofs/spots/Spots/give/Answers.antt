@@ -1,10 +1,5 @@
-use Rattle.std.proofs.Common.{◌≡◌, ℕ, ◌+◌, ◌<◌, List, Some, length, set, reverse, ◌∙◌, sym, ap, subst, arith, slice_get}
-use Rattle.std.proofs.lemmas.List.{length-map, length-set}
-use Rattle.ksv_expr_value.specs.declared.step.Step.{Step}
-use Rattle.ksv_nodes.specs.declared.node.NodeKind.{NodeKind}
-use Rattle.ksv_places.specs.declared.links.Row.{Row}
-use Rattle.ksv_places.specs.declared.links.Spot.{Spot}
-use Rattle.ksv_places.specs.Spots.{spots_of, with_mark, row_at, spot_at, node_of, nodes_of, IsFiled, Spotted}
+use Rattle.ksv_places.proofs.Common.{◌≡◌, ℕ, ◌+◌, ◌<◌, List, Some, length, set, reverse, ◌∙◌, sym, ap, subst, arith, slice_get, length-map, length-set, Step}
+use Rattle.ksv_places.proofs.Common.{NodeKind, Row, Spot, spots_of, with_mark, row_at, spot_at, node_of, nodes_of, IsFiled, Spotted}
 use Rattle.ksv_places.proofs.Filing.{filed_more, nodes_same, path_in, open_at, still_none, no_mark, filed_set, nodes_set}
 use Rattle.ksv_places.proofs.Pairing.{count, on_err, put}
 use Rattle.ksv_places.proofs.spots.Spots.give.Goals as goal

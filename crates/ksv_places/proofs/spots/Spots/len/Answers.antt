@@ -1,6 +1,4 @@
-use Rattle.std.proofs.Common.{length, ◌∙◌, sym, ap}
-use Rattle.std.proofs.lemmas.List.{length-map}
-use Rattle.ksv_places.specs.Spots.{Spotted, node_of, spots_of}
+use Rattle.ksv_places.proofs.Common.{length, ◌∙◌, sym, ap, length-map, Spotted, node_of, spots_of}
 use Rattle.ksv_places.proofs.Pairing.{count}
 use Rattle.ksv_places.proofs.spots.Spots.len.Goals as goal
 

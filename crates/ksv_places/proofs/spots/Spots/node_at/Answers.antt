@@ -1,10 +1,5 @@
-use Rattle.std.proofs.Common.{◌≡◌, ◌<◌, List, [], Some, length, get_or, reverse, sym, ◌∙◌, ap, subst, arith, slice_get}
-use Rattle.std.specs.Option.{option_map}
-use Rattle.std.proofs.lemmas.List.{length-map}
-use Rattle.std.proofs.lemmas.Option.{slice_get-map, slice_get-get_or}
-use Rattle.ksv_expr_value.specs.declared.step.Step.{Step}
-use Rattle.ksv_places.specs.declared.links.Spot.{Spot}
-use Rattle.ksv_places.specs.Spots.{spots_of, Spotted, spot_at, node_of}
+use Rattle.ksv_places.proofs.Common.{◌≡◌, ◌<◌, List, [], Some, length, get_or, reverse, sym, ◌∙◌, ap, subst, arith, slice_get, option_map, length-map}
+use Rattle.ksv_places.proofs.Common.{slice_get-map, slice_get-get_or, Step, Spot, spots_of, Spotted, spot_at, node_of}
 use Rattle.ksv_places.proofs.Filing.{path_in}
 use Rattle.ksv_places.proofs.Pairing.{count}
 use Rattle.ksv_places.proofs.spots.Spots.node_at.Goals as goal

@@ -1,10 +1,7 @@
-use Rattle.std.proofs.Common.{◌≡◌, ℕ, suc, ◌+◌, ◌<◌, ◌≤◌, ◌++◌, ◌∷◌, List, [], Some, length, take, reverse, sym, ◌∙◌, ap, arith, slice_get}
+use Rattle.ksv_places.proofs.Common.{◌≡◌, ℕ, suc, ◌+◌, ◌<◌, ◌≤◌, ◌++◌, ◌∷◌, List, [], Some, length, take, reverse, sym, ◌∙◌, ap, arith, slice_get}
+use Rattle.ksv_places.proofs.Common.{slice_get-get_or, slice_get_within, get_or_from_slice_get, Step, NodeKind, Head}
 use Rattle.std.proofs.Math.Seq.{take-suc}
 use Rattle.std.proofs.lemmas.List.{get_or-take, length-take}
-use Rattle.std.proofs.lemmas.Option.{slice_get-get_or, slice_get_within, get_or_from_slice_get}
-use Rattle.ksv_expr_value.specs.declared.step.Step.{Step}
-use Rattle.ksv_nodes.specs.declared.node.NodeKind.{NodeKind}
-use Rattle.ksv_nodes.specs.declared.node.NodeKind.TheVariants.{Head}
 use Rattle.ksv_places.proofs.spots.Spots.rebuilt.Goals as goal
 
 -- an element among the first ones is at the same place of the whole

@@ -1,4 +1,4 @@
-use Rattle.std.proofs.Common.{◌≡◌, take}
+use Rattle.ksv_places.proofs.Common.{◌≡◌, take}
 use Rattle.ksv_places.proofs.spots.Spots.rebuilt.Given as goal
 
 abbrev pub invariant-loop-place : goal.invariant-loop-place

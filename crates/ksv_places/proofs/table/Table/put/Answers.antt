@@ -1,7 +1,8 @@
-use Rattle.std.proofs.Common.{◌≡◌, ℕ, ◌/◌, ◌%◌, ◌-◌, ◌≤◌, false, List, [], length, get_or, set, sym, ◌∙◌, ap, subst, arith}
-use Rattle.std.proofs.lemmas.List.{get_or_default}
-use Rattle.std.proofs.lemmas.Result.{on_ok_weaker, on_err_weaker}
-use Rattle.ksv_places.specs.Table.{number_at, part_at, takes, table_at, IsPut, IsPartOf, Pages}
+use Rattle.ksv_places.proofs.Common.{◌≡◌, ℕ, ◌-◌, ◌≤◌, false, List, [], length, get_or, set, sym, ◌∙◌, ap, subst, arith, get_or_default, on_ok_weaker}
+use Rattle.ksv_places.proofs.Common.{number_at, part_at, table_at, IsPut, IsPartOf, Pages}
+use Rattle.std.proofs.Common.{◌/◌, ◌%◌}
+use Rattle.std.proofs.lemmas.Result.{on_err_weaker}
+use Rattle.ksv_places.specs.Table.{takes}
 use Rattle.ksv_places.proofs.Paging.{page_put, page_same}
 use Rattle.ksv_places.proofs.table.Table.put.Goals as goal
 

@@ -1,7 +1,7 @@
-use Rattle.std.proofs.Common.{◌≡◌, ℕ, ◌-◌, length, get_or, set, ◌∙◌, ap, subst, arith}
-use Rattle.std.proofs.lemmas.List.{get_or_default}
-use Rattle.std.proofs.lemmas.Result.{on_ok_weaker, on_err_weaker}
-use Rattle.ksv_places.specs.Table.{IsPut, IsPutAt, IsPartOf, no_pages, number_at, part_at, shelf_at, table_at, Pages, Shelf}
+use Rattle.ksv_places.proofs.Common.{◌≡◌, ℕ, ◌-◌, length, get_or, set, ◌∙◌, ap, subst, arith, get_or_default, on_ok_weaker, IsPut, IsPutAt, IsPartOf, number_at}
+use Rattle.ksv_places.proofs.Common.{part_at, shelf_at, table_at, Pages}
+use Rattle.std.proofs.lemmas.Result.{on_err_weaker}
+use Rattle.ksv_places.specs.Table.{no_pages, Shelf}
 use Rattle.ksv_places.proofs.Shelves.{shelf_put, shelf_same}
 use Rattle.ksv_places.proofs.tables.Tables.put.Goals as goal
 

@@ -1,7 +1,4 @@
-use Rattle.std.proofs.Common.{◌≡◌, ℕ, ◌<◌, List, [], length, get_or, subst, arith, refl}
-use Rattle.ksv_expr_value.specs.declared.step.Step.{Step}
-use Rattle.ksv_places.specs.Table.{number_at, shelf_at}
-use Rattle.ksv_places.specs.Tree.{paths_of}
+use Rattle.ksv_places.proofs.Common.{◌≡◌, ℕ, ◌<◌, List, [], length, get_or, subst, arith, refl, Step, number_at, shelf_at, paths_of}
 use Rattle.ksv_places.proofs.Walking.{one_path, length-paths}
 use Rattle.ksv_places.proofs.tree.Tree.apart.Goals as goal
 

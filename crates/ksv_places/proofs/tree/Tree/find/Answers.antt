@@ -1,11 +1,6 @@
-use Rattle.std.proofs.Common.{◌≡◌, ◌<◌, ℕ, List, [], Some, zero, suc, false, length, get_or, reverse, sym, ◌∙◌, ap, subst, arith, refl, slice_get}
+use Rattle.ksv_places.proofs.Common.{◌≡◌, ◌<◌, ℕ, List, [], Some, zero, suc, false, length, get_or, reverse, sym, ◌∙◌, ap, subst, arith, refl, slice_get}
+use Rattle.ksv_places.proofs.Common.{slice_get-get_or, take_all, Step, Name, number_at, shelf_at, look, paths_of, EndsAt}
 use Rattle.std.specs.Bool.{◌==◌}
-use Rattle.std.proofs.lemmas.Option.{slice_get-get_or}
-use Rattle.std.proofs.lemmas.List.{take_all}
-use Rattle.ksv_expr_value.specs.declared.step.Step.{Step}
-use Rattle.ksv_expr_value.specs.declared.step.Step.TheVariants.{Name}
-use Rattle.ksv_places.specs.Table.{number_at, shelf_at}
-use Rattle.ksv_places.specs.Tree.{look, paths_of, EndsAt}
 use Rattle.ksv_places.proofs.Walking.{length-paths, root_at, further, inside, no_path, beyond, more}
 use Rattle.ksv_places.proofs.Reaching.{stopped, whole}
 use Rattle.ksv_places.proofs.tree.Tree.find.Goals as goal

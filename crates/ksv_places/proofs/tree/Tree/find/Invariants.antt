@@ -1,5 +1,4 @@
-use Rattle.std.proofs.Common.{◌≡◌, ◌<◌, ◌≤◌, [], length, get_or, take, reverse}
-use Rattle.ksv_places.specs.Tree.{paths_of}
+use Rattle.ksv_places.proofs.Common.{◌≡◌, ◌<◌, ◌≤◌, [], length, get_or, take, reverse, paths_of}
 use Rattle.ksv_places.proofs.tree.Tree.find.Given as goal
 
 abbrev pub invariant-loop-count : goal.invariant-loop-count

@@ -1,9 +1,5 @@
-use Rattle.std.proofs.Common.{◌<◌, List, [], ◌∷◌, Some, length, get_or, reverse, ◌∙◌, ap, subst, arith}
-use Rattle.std.proofs.lemmas.Option.{slice_get-get_or}
-use Rattle.std.proofs.lemmas.List.{take_all}
-use Rattle.ksv_expr_value.specs.declared.step.Step.{Step}
-use Rattle.ksv_expr_value.specs.declared.step.Step.TheVariants.{Name}
-use Rattle.ksv_places.specs.Tree.{paths_of, IsMore}
+use Rattle.ksv_places.proofs.Common.{◌<◌, List, [], ◌∷◌, Some, length, get_or, reverse, ◌∙◌, ap, subst, arith, slice_get-get_or, take_all, Step, Name, paths_of}
+use Rattle.ksv_places.proofs.Common.{IsMore}
 use Rattle.ksv_places.proofs.Walking.{length-paths, root_at, more}
 use Rattle.ksv_places.proofs.Reaching.{more_more, goes_on}
 use Rattle.ksv_places.proofs.tree.Tree.go_on.Goals as goal

@@ -1,6 +1,4 @@
-use Rattle.std.proofs.Common.{◌≡◌, ◌<◌, [], length, get_or, take, reverse}
-use Rattle.ksv_places.specs.Table.{number_at, shelf_at}
-use Rattle.ksv_places.specs.Tree.{paths_of, IsTree, IsMore}
+use Rattle.ksv_places.proofs.Common.{◌≡◌, ◌<◌, [], length, get_or, take, reverse, number_at, shelf_at, paths_of, IsTree, IsMore}
 use Rattle.ksv_places.proofs.tree.Tree.go_on.Given as goal
 
 abbrev pub invariant-loop-count : goal.invariant-loop-count

@@ -1,4 +1,4 @@
-use Rattle.std.proofs.Common.{length, sym, ◌∙◌, ap}
+use Rattle.ksv_places.proofs.Common.{length, sym, ◌∙◌, ap}
 use Rattle.ksv_places.proofs.Walking.{length-paths}
 use Rattle.ksv_places.proofs.tree.Tree.len.Goals as goal
 

@@ -1,6 +1,4 @@
-use Rattle.std.proofs.Common.{List, subst}
-use Rattle.ksv_expr_value.specs.declared.step.Step.{Step}
-use Rattle.ksv_places.specs.Tree.{EndsAt}
+use Rattle.ksv_places.proofs.Common.{List, subst, Step, EndsAt}
 use Rattle.ksv_places.proofs.Reaching.{at_start}
 use Rattle.ksv_places.proofs.tree.Tree.start.Goals as goal
 

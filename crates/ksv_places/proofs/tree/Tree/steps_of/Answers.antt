@@ -1,8 +1,7 @@
-use Rattle.std.proofs.Common.{◌≡◌, ◌<◌, ◌++◌, ◌∷◌, List, [], length, get_or, reverse, sym, ◌∙◌, ap, subst, arith, append_assoc}
-use Rattle.std.proofs.lemmas.List.{append-nil, reverse-reverse, get_or_default}
-use Rattle.ksv_expr_value.specs.declared.step.Step.{Step}
-use Rattle.ksv_places.specs.declared.links.Link.{Link}
-use Rattle.ksv_places.specs.Tree.{link_at, paths_of}
+use Rattle.ksv_places.proofs.Common.{◌≡◌, ◌<◌, ◌++◌, ◌∷◌, List, [], length, get_or, reverse, sym, ◌∙◌, ap, subst, arith, get_or_default, Step, Link, link_at}
+use Rattle.ksv_places.proofs.Common.{paths_of}
+use Rattle.std.proofs.Common.{append_assoc}
+use Rattle.std.proofs.lemmas.List.{append-nil, reverse-reverse}
 use Rattle.ksv_places.proofs.Walking.{length-paths, root_at, path_at}
 use Rattle.ksv_places.proofs.tree.Tree.steps_of.Goals as goal
 

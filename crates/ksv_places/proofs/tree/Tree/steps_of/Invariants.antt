@@ -1,5 +1,4 @@
-use Rattle.std.proofs.Common.{◌≡◌, ◌<◌, ◌++◌, [], length, get_or}
-use Rattle.ksv_places.specs.Tree.{paths_of}
+use Rattle.ksv_places.proofs.Common.{◌≡◌, ◌<◌, ◌++◌, [], length, get_or, paths_of}
 use Rattle.ksv_places.proofs.tree.Tree.steps_of.Given as goal
 
 abbrev pub invariant-loop-above : goal.invariant-loop-above

@@ -1,5 +1,4 @@
-use Rattle.std.proofs.Common.{◌≡◌, drop, map}
-use Rattle.ksv_schema.specs.Keys.{form_among}
+use Rattle.ksv_schema.proofs.Common.{◌≡◌, drop, map, form_among}
 use Rattle.ksv_schema.specs.KeyCode.{seen_key}
 use Rattle.ksv_schema.proofs.keys.forms.form_among.Given as goal
 

@@ -1,6 +1,5 @@
 -- The table is the definition's.
-use Rattle.std.proofs.Common.{◌∙◌, ap, map}
-use Rattle.ksv_schema.specs.Keys.{form_among, form_in}
+use Rattle.ksv_schema.proofs.Common.{◌∙◌, ap, map, form_among, form_in}
 use Rattle.ksv_schema.specs.KeyCode.{seen_key}
 use Rattle.ksv_schema.proofs.keys.forms.form_in.Goals as goal
 

@@ -1,5 +1,5 @@
 -- A name goes on up to `::`.
-use Rattle.std.proofs.Common.{sym}
+use Rattle.ksv_schema.proofs.Common.{sym}
 use Rattle.ksv_schema.proofs.Paths.{first_stop, first_on}
 use Rattle.ksv_schema.proofs.keys.ids.first_name.Goals as goal
 

@@ -1,5 +1,4 @@
-use Rattle.std.proofs.Common.{◌≡◌, [], take, drop}
-use Rattle.ksv_schema.specs.KeyTexts.{names_in}
+use Rattle.ksv_schema.proofs.Common.{◌≡◌, [], take, drop, names_in}
 use Rattle.ksv_schema.proofs.keys.ids.first_name.Given as goal
 
 abbrev pub invariant-loop-at : goal.invariant-loop-at

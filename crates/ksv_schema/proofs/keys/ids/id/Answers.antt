@@ -1,5 +1,5 @@
 -- An id is ASCII.
-use Rattle.std.proofs.Common.{sym, ◌∙◌}
+use Rattle.ksv_schema.proofs.Common.{sym, ◌∙◌}
 use Rattle.ksv_schema.proofs.Paths.{id_is_utf8}
 use Rattle.ksv_schema.proofs.keys.ids.id.Goals as goal
 

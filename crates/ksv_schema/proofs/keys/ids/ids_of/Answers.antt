@@ -1,6 +1,5 @@
 -- The names of a text, one after the other.
-use Rattle.std.proofs.Common.{◌++◌, [], ◌∷◌, sym, ap, ◌∙◌, map, option_map, string_bytes}
-use Rattle.std.proofs.lemmas.List.{map-append}
+use Rattle.ksv_schema.proofs.Common.{◌++◌, [], ◌∷◌, sym, ap, ◌∙◌, map, option_map, string_bytes, map-append}
 use Rattle.ksv_schema.proofs.Paths.{ids_none, ids_end}
 use Rattle.ksv_schema.proofs.keys.ids.ids_of.Goals as goal
 

@@ -1,7 +1,4 @@
-use Rattle.std.proofs.Common.{◌≡◌, [], ◌++◌, true, map, length, string_bytes}
-use Rattle.std.specs.List.{list_all}
-use Rattle.ksv_schema.specs.Keys.{is_id}
-use Rattle.ksv_schema.specs.KeyTexts.{names_in}
+use Rattle.ksv_schema.proofs.Common.{◌≡◌, [], ◌++◌, true, map, length, string_bytes, list_all, is_id, names_in}
 use Rattle.ksv_schema.proofs.keys.ids.ids_of.Given as goal
 
 abbrev pub invariant-names : goal.invariant-names

@@ -1,5 +1,4 @@
-use Rattle.std.proofs.Common.{◌≡◌, ◌++◌, drop, map}
-use Rattle.ksv_yaml_tree.specs.View.{pair}
+use Rattle.ksv_schema.proofs.Common.{◌≡◌, ◌++◌, drop, map, pair}
 use Rattle.ksv_schema.proofs.members.check.add_lines.Given as goal
 
 abbrev pub invariant-loop-entry : goal.invariant-loop-entry

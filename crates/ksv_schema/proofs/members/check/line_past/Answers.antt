@@ -1,6 +1,5 @@
 -- The first line past the limit, of lines that rise.
-use Rattle.std.proofs.Common.{◌∙◌, ap}
-use Rattle.std.specs.Prelude.{slice_get}
+use Rattle.ksv_schema.proofs.Common.{◌∙◌, ap, slice_get}
 use Rattle.ksv_schema.proofs.Limits.{line_past_is}
 use Rattle.ksv_schema.proofs.members.check.line_past.Goals as goal
 

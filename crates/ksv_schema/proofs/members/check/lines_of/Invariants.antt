@@ -1,7 +1,4 @@
-use Rattle.std.proofs.Common.{◌≡◌, ◌++◌, drop, map}
-use Rattle.std.specs.List.{flat_map}
-use Rattle.ksv_schema_names.specs.Rows.{keys_of}
-use Rattle.ksv_schema_names.specs.View.{row_of}
+use Rattle.ksv_schema.proofs.Common.{◌≡◌, ◌++◌, drop, map, flat_map, keys_of, row_of}
 use Rattle.ksv_schema.proofs.members.check.lines_of.Given as goal
 
 abbrev pub invariant-loop-row : goal.invariant-loop-row

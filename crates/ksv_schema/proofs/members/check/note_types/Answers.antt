@@ -1,9 +1,6 @@
-use Rattle.std.proofs.Common.{◌≡◌, ℕ, suc, ◌+◌, ◌<◌, ◌≤◌, List, map, length, get_or, drop, Option, sym, ap, ◌∙◌, add-one, drop-cons}
-use Rattle.std.proofs.lemmas.List.{drop_all}
+use Rattle.ksv_schema.proofs.Common.{◌≡◌, ℕ, suc, ◌+◌, ◌<◌, ◌≤◌, List, map, length, get_or, drop, Option, sym, ap, ◌∙◌, add-one, drop-cons, drop_all, row_of}
+use Rattle.ksv_schema.proofs.Common.{Fault, noted, type_faults, all_types_faults}
 use Rattle.ksv_schema_names.specs.declared.row.Row.{Row}
-use Rattle.ksv_schema_names.specs.View.{row_of}
-use Rattle.ksv_schema.specs.Faults.{Fault, noted}
-use Rattle.ksv_schema.specs.Description.{type_faults, all_types_faults}
 use Rattle.ksv_schema.proofs.Noted.{noted_append, noted_none}
 use Rattle.ksv_schema.proofs.members.check.note_types.Goals as goal
 

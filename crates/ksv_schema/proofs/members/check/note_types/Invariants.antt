@@ -1,8 +1,4 @@
-use Rattle.std.proofs.Common.{◌≡◌, drop, map}
-use Rattle.ksv_schema_names.specs.View.{row_of}
-use Rattle.ksv_schema.specs.Faults.{noted}
-use Rattle.ksv_schema.specs.Description.{all_types_faults}
-use Rattle.ksv_schema.specs.Code.{seen_fault}
+use Rattle.ksv_schema.proofs.Common.{◌≡◌, drop, map, row_of, noted, all_types_faults, seen_fault}
 use Rattle.ksv_schema.proofs.members.check.note_types.Given as goal
 
 abbrev pub invariant-loop-number : goal.invariant-loop-number

@@ -1,5 +1,5 @@
 -- Sorted lines rise.
-use Rattle.std.proofs.Common.{subst}
+use Rattle.ksv_schema.proofs.Common.{subst}
 use Rattle.std.specs.List.Sorted.{IsPermutation}
 use Rattle.std.proofs.lemmas.List.Sorted.{IsNonDecreasingBy-from_sort}
 use Rattle.ksv_schema.proofs.members.check.rising_lines.Goals as goal

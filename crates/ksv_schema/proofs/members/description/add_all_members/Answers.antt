@@ -1,8 +1,8 @@
-use Rattle.std.proofs.Common.{◌≡◌, true, map, ap, sym, ◌∙◌, rules}
+use Rattle.ksv_schema.proofs.Common.{◌≡◌, true, map, ap, sym, ◌∙◌, distinct_behind, are_texts}
+use Rattle.std.proofs.Common.{rules}
 use Rattle.ksv_schema_names.specs.View.{member_of as row}
-use Rattle.ksv_desc.specs.Names.{distinct_behind}
 use Rattle.ksv_desc.proofs.Dots.{distinct_step}
-use Rattle.ksv_schema.specs.Description.{names_in, are_texts}
+use Rattle.ksv_schema.specs.Description.{names_in}
 use Rattle.ksv_schema.proofs.Named.{all_step}
 use Rattle.ksv_schema.proofs.members.description.add_all_members.Goals as goal
 

@@ -1,8 +1,6 @@
-use Rattle.std.proofs.Common.{◌≡◌, map, drop}
-use Rattle.std.specs.List.{flat_map, list_all}
+use Rattle.ksv_schema.proofs.Common.{◌≡◌, map, drop, flat_map, list_all, distinct_behind, are_texts}
 use Rattle.ksv_schema_names.specs.View.{member_of as row}
-use Rattle.ksv_desc.specs.Names.{distinct_behind}
-use Rattle.ksv_schema.specs.Description.{names_in, are_texts}
+use Rattle.ksv_schema.specs.Description.{names_in}
 use Rattle.ksv_schema.proofs.members.description.add_all_members.Given as goal
 
 abbrev pub invariant-loop-members : goal.invariant-loop-members

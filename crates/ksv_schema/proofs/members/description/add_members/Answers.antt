@@ -1,5 +1,4 @@
-use Rattle.std.proofs.Common.{ap, ◌∙◌}
-use Rattle.ksv_desc.specs.Description.{as_text}
+use Rattle.ksv_schema.proofs.Common.{ap, ◌∙◌, as_text}
 use Rattle.ksv_schema.proofs.Named.{added_step, texts_step, texts_stop, texts_end}
 use Rattle.ksv_schema.proofs.members.description.add_members.Goals as goal
 

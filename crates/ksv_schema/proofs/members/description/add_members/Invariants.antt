@@ -1,7 +1,5 @@
-use Rattle.std.proofs.Common.{◌≡◌, map, drop}
+use Rattle.ksv_schema.proofs.Common.{◌≡◌, map, drop, distinct_behind, are_texts}
 use Rattle.ksv_schema_names.specs.View.{member_of as row}
-use Rattle.ksv_desc.specs.Names.{distinct_behind}
-use Rattle.ksv_schema.specs.Description.{are_texts}
 use Rattle.ksv_schema.proofs.Named.{names_in}
 use Rattle.ksv_schema.proofs.members.description.add_members.Given as goal
 

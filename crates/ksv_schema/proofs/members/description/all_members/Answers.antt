@@ -1,9 +1,5 @@
-use Rattle.std.proofs.Common.{map, subst}
-use Rattle.ksv_desc.specs.Pieces.{plain_kind}
-use Rattle.ksv_schema_names.specs.Table.{declared}
+use Rattle.ksv_schema.proofs.Common.{map, subst, plain_kind, declared, Reads, members}
 use Rattle.ksv_schema_names.specs.View.{member_of as row}
-use Rattle.ksv_schema.specs.Code.{Reads}
-use Rattle.ksv_schema.specs.Description.{members}
 use Rattle.ksv_schema.proofs.Each.{each_from_read, each_from_end}
 use Rattle.ksv_schema.proofs.members.description.all_members.Goals as goal
 

@@ -1,7 +1,5 @@
-use Rattle.ksv_desc.specs.Pieces.{plain_kind}
-use Rattle.ksv_schema_names.specs.Table.{declared}
+use Rattle.ksv_schema.proofs.Common.{plain_kind, declared, member}
 use Rattle.ksv_schema_names.specs.View.{member_of as row}
-use Rattle.ksv_schema.specs.Members.{member}
 use Rattle.ksv_schema.proofs.Each.{each_from_read, each_from_end}
 use Rattle.ksv_schema.proofs.members.description.each_member.Goals as goal
 

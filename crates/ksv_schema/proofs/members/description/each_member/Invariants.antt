@@ -1,9 +1,5 @@
-use Rattle.std.proofs.Common.{drop, map, option_map}
-use Rattle.ksv_desc.specs.Pieces.{plain_kind}
-use Rattle.ksv_schema_names.specs.Table.{declared}
+use Rattle.ksv_schema.proofs.Common.{drop, map, option_map, plain_kind, declared, each_from, member}
 use Rattle.ksv_schema_names.specs.View.{member_of as row}
-use Rattle.ksv_schema.specs.Reading.{each_from}
-use Rattle.ksv_schema.specs.Members.{member}
 use Rattle.ksv_schema.proofs.Each.{IsSoFar}
 use Rattle.ksv_schema.proofs.members.description.each_member.Given as goal
 

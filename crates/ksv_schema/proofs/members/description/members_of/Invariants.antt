@@ -1,8 +1,7 @@
-use Rattle.std.proofs.Common.{◌≡◌, drop, map}
+use Rattle.ksv_schema.proofs.Common.{◌≡◌, drop, map, plain_kind, context_of}
 use Rattle.std.specs.Vec.Iter.{into_iter_items}
-use Rattle.ksv_desc.specs.Pieces.{plain_kind, plain_member}
+use Rattle.ksv_desc.specs.Pieces.{plain_member}
 use Rattle.ksv_schema_names.specs.View.{member_of as row}
-use Rattle.ksv_schema.specs.Plain.{context_of}
 use Rattle.ksv_schema.specs.Description.{each_of, member_of}
 use Rattle.ksv_schema.proofs.Made.{onto}
 use Rattle.ksv_schema.proofs.members.description.members_of.Given as goal

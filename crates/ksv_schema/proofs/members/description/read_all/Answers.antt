@@ -1,9 +1,5 @@
-use Rattle.std.proofs.Common.{◌∙◌, List, ap}
-use Rattle.ksv_desc.specs.Names.{distinct_behind}
-use Rattle.ksv_schema_names.specs.Table.{declared}
-use Rattle.ksv_schema_names.specs.Members.{Member}
-use Rattle.ksv_schema.specs.Reading.{each_from}
-use Rattle.ksv_schema.specs.Description.{members, all_members}
+use Rattle.ksv_schema.proofs.Common.{◌∙◌, List, ap, distinct_behind, declared, Member, each_from, members}
+use Rattle.ksv_schema.specs.Description.{all_members}
 use Rattle.ksv_schema.proofs.Enums.{each_enum_words}
 use Rattle.ksv_schema.proofs.members.description.read_all.Goals as goal
 

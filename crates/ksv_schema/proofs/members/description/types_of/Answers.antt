@@ -1,6 +1,5 @@
-use Rattle.std.proofs.Common.{◌∙◌, ap, map, arith}
-use Rattle.ksv_schema_names.specs.Members.{members_of}
-use Rattle.ksv_schema_names.specs.View.{row_of, member_of}
+use Rattle.ksv_schema.proofs.Common.{◌∙◌, ap, map, arith, members_of, row_of}
+use Rattle.ksv_schema_names.specs.View.{member_of}
 use Rattle.ksv_schema.proofs.Made.{same_at, same_length}
 use Rattle.ksv_schema.proofs.members.description.types_of.Goals as goal
 

@@ -1,8 +1,6 @@
-use Rattle.std.proofs.Common.{◌≡◌, drop, map}
+use Rattle.ksv_schema.proofs.Common.{◌≡◌, drop, map, plain_kind, declared, row_of}
 use Rattle.std.specs.Vec.Iter.{into_iter_items}
-use Rattle.ksv_desc.specs.Pieces.{plain_kind, plain_type}
-use Rattle.ksv_schema_names.specs.Table.{declared}
-use Rattle.ksv_schema_names.specs.View.{row_of}
+use Rattle.ksv_desc.specs.Pieces.{plain_type}
 use Rattle.ksv_schema.specs.Description.{types_of}
 use Rattle.ksv_schema.proofs.Made.{onto}
 use Rattle.ksv_schema.proofs.members.description.types_of.Given as goal

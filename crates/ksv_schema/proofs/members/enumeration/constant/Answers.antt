@@ -1,8 +1,7 @@
-use Rattle.std.proofs.Common.{◌∙◌, arith}
+use Rattle.ksv_schema.proofs.Common.{◌∙◌, arith, pair, constant}
 use Rattle.std.proofs.lemmas.Grind.{common_steps}
-use Rattle.ksv_yaml_tree.specs.View.{pair}
 use Rattle.ksv_schema_names.specs.Enums.{number_of, id_of, is_numbered, is_named}
-use Rattle.ksv_schema.specs.Description.{is_number_again, is_id_again, constant}
+use Rattle.ksv_schema.specs.Description.{is_number_again, is_id_again}
 use Rattle.ksv_schema.specs.Plain.{has_number, has_id}
 use Rattle.ksv_schema.proofs.Noted.{steps}
 use Rattle.ksv_schema.proofs.Given.{again_is}

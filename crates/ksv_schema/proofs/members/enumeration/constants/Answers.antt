@@ -1,7 +1,4 @@
-use Rattle.std.proofs.Common.{◌∙◌, ap, sym, subst, take, map, add-one}
-use Rattle.ksv_yaml_tree.specs.View.{pair}
-use Rattle.ksv_desc.specs.Pieces.{plain_entry}
-use Rattle.ksv_schema.specs.Description.{constant}
+use Rattle.ksv_schema.proofs.Common.{◌∙◌, ap, sym, subst, take, map, add-one, pair, plain_entry, constant}
 use Rattle.ksv_schema.specs.Plain.{AreOf}
 use Rattle.ksv_schema.proofs.Each.{each_from_step, each_from_end, pushed_seen}
 use Rattle.ksv_schema.proofs.Given.{take_more}

@@ -1,10 +1,5 @@
-use Rattle.std.proofs.Common.{ℕ, drop, take, map, option_map}
-use Rattle.ksv_yaml_tree.specs.Tree.{Pair}
-use Rattle.ksv_yaml_tree.specs.View.{pair}
+use Rattle.ksv_schema.proofs.Common.{ℕ, drop, take, map, option_map, Pair, pair, plain_entry, Reading, each_from, constant}
 use Rattle.ksv_desc.specs.Description.{Numbered}
-use Rattle.ksv_desc.specs.Pieces.{plain_entry}
-use Rattle.ksv_schema.specs.Reading.{Reading, each_from}
-use Rattle.ksv_schema.specs.Description.{constant}
 use Rattle.ksv_schema.specs.Plain.{AreOf}
 use Rattle.ksv_schema.proofs.Each.{IsSoFar}
 use Rattle.ksv_schema.proofs.members.enumeration.constants.Given as goal

@@ -1,10 +1,6 @@
-use Rattle.std.proofs.Common.{◌≡◌, [], subst, sym, Some, map, string_bytes, rules, arith}
+use Rattle.ksv_schema.proofs.Common.{◌≡◌, [], subst, sym, Some, map, string_bytes, arith, Enum, plain_entry, plain_enum, row_of, IsRead, enum}
+use Rattle.std.proofs.Common.{rules}
 use Rattle.std.proofs.lemmas.Grind.{common_steps}
-use Rattle.ksv_desc.specs.Description.{Enum}
-use Rattle.ksv_desc.specs.Pieces.{plain_entry, plain_enum}
-use Rattle.ksv_schema_names.specs.View.{row_of}
-use Rattle.ksv_schema.specs.Code.{IsRead}
-use Rattle.ksv_schema.specs.Description.{enum}
 use Rattle.ksv_schema.proofs.Noted.{steps}
 use Rattle.ksv_schema.proofs.members.enumeration.enumeration.Goals as goal
 

@@ -1,6 +1,4 @@
-use Rattle.ksv_desc.specs.Pieces.{plain_enum}
-use Rattle.ksv_schema_names.specs.View.{row_of}
-use Rattle.ksv_schema.specs.Description.{enum}
+use Rattle.ksv_schema.proofs.Common.{plain_enum, row_of, enum}
 use Rattle.ksv_schema.proofs.Each.{each_from_read, each_from_end}
 use Rattle.ksv_schema.proofs.members.enumeration.enumerations.Goals as goal
 

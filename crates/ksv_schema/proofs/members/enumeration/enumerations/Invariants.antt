@@ -1,8 +1,4 @@
-use Rattle.std.proofs.Common.{drop, map, option_map}
-use Rattle.ksv_desc.specs.Pieces.{plain_enum}
-use Rattle.ksv_schema_names.specs.View.{row_of}
-use Rattle.ksv_schema.specs.Reading.{each, each_from}
-use Rattle.ksv_schema.specs.Description.{enum}
+use Rattle.ksv_schema.proofs.Common.{drop, map, option_map, plain_enum, row_of, each, each_from, enum}
 use Rattle.ksv_schema.proofs.Each.{IsSoFar}
 use Rattle.ksv_schema.proofs.members.enumeration.enumerations.Given as goal
 

@@ -1,14 +1,9 @@
-use Rattle.std.proofs.Common.{map, option_map}
-use Rattle.std.specs.Prelude.{codes}
-use Rattle.ksv_yaml_tree.specs.Tree.{entry_at}
-use Rattle.ksv_yaml_tree.specs.View.{pair}
-use Rattle.ksv_expr_tree.specs.Tree.{view}
+use Rattle.ksv_schema.proofs.Common.{map, option_map, codes, entry_at, pair, view, must, expression}
 use Rattle.ksv_desc.specs.Description.{ParseInstance}
 use Rattle.ksv_desc.specs.Pieces.{plain_field}
 use Rattle.ksv_schema.specs.declared.keys.forms.MappingKind.TheVariants as kinds
 use Rattle.ksv_schema_names.specs.declared.position.Site.TheVariants as sites
-use Rattle.ksv_schema.specs.Reading.{perhaps, must}
-use Rattle.ksv_schema.specs.Values.{expression}
+use Rattle.ksv_schema.specs.Reading.{perhaps}
 use Rattle.ksv_schema.specs.Members.{own_field, parse_instance}
 use Rattle.ksv_schema.specs.Code.{seen_home}
 use Rattle.ksv_schema.proofs.Both.{three_read}

@@ -1,7 +1,4 @@
-use Rattle.std.proofs.Common.{arith}
-use Rattle.ksv_desc.specs.Pieces.{plain_case}
-use Rattle.ksv_schema.specs.Description.{in_case}
-use Rattle.ksv_schema.specs.Plain.{context_of}
+use Rattle.ksv_schema.proofs.Common.{arith, plain_case, in_case, context_of}
 use Rattle.ksv_schema.proofs.InPlace.{each_same, done_more, left_less}
 use Rattle.ksv_schema.proofs.members.number.number_cases.Goals as goal
 

@@ -1,8 +1,5 @@
-use Rattle.std.proofs.Common.{◌≡◌, ℕ, ◌<◌, ◌≤◌, get_or}
+use Rattle.ksv_schema.proofs.Common.{◌≡◌, ℕ, ◌<◌, ◌≤◌, get_or, plain_case, in_case, context_of}
 use Rattle.ksv_desc.specs.declared.content.Case.{Case}
-use Rattle.ksv_desc.specs.Pieces.{plain_case}
-use Rattle.ksv_schema.specs.Description.{in_case}
-use Rattle.ksv_schema.specs.Plain.{context_of}
 use Rattle.ksv_schema.proofs.members.number.number_cases.Given as goal
 
 -- the cases before this one were given their numbers, and the others are as they were

@@ -1,7 +1,4 @@
-use Rattle.std.proofs.Common.{arith}
-use Rattle.ksv_expr_tree.specs.Tree.{view}
-use Rattle.ksv_schema.specs.Description.{in_tree}
-use Rattle.ksv_schema.specs.Plain.{context_of}
+use Rattle.ksv_schema.proofs.Common.{arith, view, in_tree, context_of}
 use Rattle.ksv_schema.proofs.InPlace.{each_same, done_more, left_less}
 use Rattle.ksv_schema.proofs.members.number.number_trees.Goals as goal
 

@@ -1,8 +1,5 @@
-use Rattle.std.proofs.Common.{◌≡◌, ℕ, ◌<◌, ◌≤◌, get_or}
+use Rattle.ksv_schema.proofs.Common.{◌≡◌, ℕ, ◌<◌, ◌≤◌, get_or, view, in_tree, context_of}
 use Rattle.ksv_expr_tree.specs.declared.tree.Expr.{Expr}
-use Rattle.ksv_expr_tree.specs.Tree.{view}
-use Rattle.ksv_schema.specs.Description.{in_tree}
-use Rattle.ksv_schema.specs.Plain.{context_of}
 use Rattle.ksv_schema.proofs.members.number.number_trees.Given as goal
 
 -- the expressions before this one were given their numbers, and the others are as they were

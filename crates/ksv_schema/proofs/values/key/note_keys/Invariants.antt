@@ -1,9 +1,5 @@
-use Rattle.std.proofs.Common.{◌≡◌, drop, map}
-use Rattle.std.specs.List.{flat_map}
-use Rattle.ksv_yaml_tree.specs.View.{pair}
+use Rattle.ksv_schema.proofs.Common.{◌≡◌, drop, map, flat_map, pair, noted, seen_fault}
 use Rattle.ksv_schema.specs.Rules.{key_faults}
-use Rattle.ksv_schema.specs.Faults.{noted}
-use Rattle.ksv_schema.specs.Code.{seen_fault}
 use Rattle.ksv_schema.proofs.values.key.note_keys.Given as goal
 
 abbrev pub invariant-loop-entry : goal.invariant-loop-entry

@@ -1,11 +1,6 @@
-use Rattle.std.proofs.Common.{◌≡◌, drop, map}
-use Rattle.std.specs.List.{flat_map}
-use Rattle.ksv_yaml_tree.specs.View.{pair}
+use Rattle.ksv_schema.proofs.Common.{◌≡◌, drop, map, flat_map, pair, ruled_faults, noted, seen_fault}
 use Rattle.ksv_schema.specs.KeyCode.{seen_type_at}
-use Rattle.ksv_schema.specs.Rules.{ruled_faults}
 use Rattle.ksv_schema.specs.Code.{seen_ruled}
-use Rattle.ksv_schema.specs.Faults.{noted}
-use Rattle.ksv_schema.specs.Code.{seen_fault}
 use Rattle.ksv_schema.proofs.values.rule.note_each.Given as goal
 
 abbrev pub invariant-loop-ruled : goal.invariant-loop-ruled

@@ -1,12 +1,9 @@
 -- The table is the definition's.
-use Rattle.std.proofs.Common.{◌∙◌, ap, map, List}
-use Rattle.std.specs.List.{flat_map}
-use Rattle.ksv_yaml_tree.specs.View.{pair}
+use Rattle.ksv_schema.proofs.Common.{◌∙◌, ap, map, List, flat_map, pair, noted, ruled_faults, seen_fault}
 use Rattle.ksv_schema.specs.declared.values.rule.Ruled.{Ruled}
-use Rattle.ksv_schema.specs.Faults.{noted}
 use Rattle.ksv_schema.specs.KeyCode.{seen_type_at}
-use Rattle.ksv_schema.specs.Rules.{ruled_faults, together}
-use Rattle.ksv_schema.specs.Code.{seen_fault, seen_ruled}
+use Rattle.ksv_schema.specs.Rules.{together}
+use Rattle.ksv_schema.specs.Code.{seen_ruled}
 use Rattle.ksv_schema.proofs.values.rule.note_together.Goals as goal
 
 pub returns : goal.returns

@@ -1,5 +1,4 @@
-use Rattle.ksv_yaml_tree.specs.View.{pair}
-use Rattle.ksv_desc.specs.Pieces.{plain_case}
+use Rattle.ksv_schema.proofs.Common.{pair, plain_case}
 use Rattle.ksv_schema.proofs.Each.{each_from_read, each_from_end}
 use Rattle.ksv_schema.proofs.values.types.cases.Goals as goal
 

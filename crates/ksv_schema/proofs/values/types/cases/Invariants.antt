@@ -1,7 +1,4 @@
-use Rattle.std.proofs.Common.{drop, map, option_map}
-use Rattle.ksv_yaml_tree.specs.View.{pair}
-use Rattle.ksv_desc.specs.Pieces.{plain_case}
-use Rattle.ksv_schema.specs.Reading.{each, each_from}
+use Rattle.ksv_schema.proofs.Common.{drop, map, option_map, pair, plain_case, each, each_from}
 use Rattle.ksv_schema.specs.Values.{case}
 use Rattle.ksv_schema.specs.Code.{seen_keys}
 use Rattle.ksv_schema.proofs.Each.{IsSoFar}

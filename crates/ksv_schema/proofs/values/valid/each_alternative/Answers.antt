@@ -1,5 +1,5 @@
+use Rattle.ksv_schema.proofs.Common.{view}
 use Rattle.ksv_yaml_tree.specs.View.{view as view_node}
-use Rattle.ksv_expr_tree.specs.Tree.{view}
 use Rattle.ksv_schema.proofs.Each.{each_from_read, each_from_end}
 use Rattle.ksv_schema.proofs.values.valid.each_alternative.Goals as goal
 

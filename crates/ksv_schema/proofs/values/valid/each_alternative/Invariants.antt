@@ -1,7 +1,5 @@
-use Rattle.std.proofs.Common.{drop, map, option_map}
+use Rattle.ksv_schema.proofs.Common.{drop, map, option_map, view, each, each_from}
 use Rattle.ksv_yaml_tree.specs.View.{view as view_node}
-use Rattle.ksv_expr_tree.specs.Tree.{view}
-use Rattle.ksv_schema.specs.Reading.{each, each_from}
 use Rattle.ksv_schema.specs.Valid.{alternative}
 use Rattle.ksv_schema.specs.Code.{seen_home}
 use Rattle.ksv_schema.proofs.Each.{IsSoFar}

@@ -1,5 +1,4 @@
-use Rattle.std.proofs.Common.{◌≡◌, drop, map}
-use Rattle.ksv_yaml_tree.specs.View.{pair}
+use Rattle.ksv_schema.proofs.Common.{◌≡◌, drop, map, pair}
 use Rattle.ksv_schema.specs.Valid.{has_no_key}
 use Rattle.ksv_schema.proofs.values.valid.has_no_key.Given as goal
 

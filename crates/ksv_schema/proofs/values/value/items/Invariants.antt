@@ -1,7 +1,6 @@
-use Rattle.std.proofs.Common.{drop, map}
+use Rattle.ksv_schema.proofs.Common.{drop, map, items, seen_fault}
 use Rattle.ksv_yaml_tree.specs.View.{view}
-use Rattle.ksv_schema.specs.Values.{items}
-use Rattle.ksv_schema.specs.Code.{seen_fault, items_of}
+use Rattle.ksv_schema.specs.Code.{items_of}
 use Rattle.ksv_schema.proofs.Items.{AreSoFar}
 use Rattle.ksv_schema.proofs.values.value.items.Given as goal
 
