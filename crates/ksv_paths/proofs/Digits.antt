@@ -1,12 +1,13 @@
 -- Decimal digits, and what `parse` reads of them.
-use Rattle.std.proofs.Common.{◌≡◌, ℕ, ◌^◌, ◌<◌, true, List, length, Result, Ok, Err, refl, subst, arith, rules, inl, inr}
+use Rattle.std.proofs.Common.{◌≡◌, ℕ, ◌^◌, ◌<◌, true, List, length, Result, Ok, Err, refl, subst, arith, rules}
 use Rattle.std.specs.Prelude.{IsOk, MatchResult}
 use Rattle.std.specs.Char.{is_ascii_digit}
 use Rattle.std.specs.List.{list_all}
 use Rattle.std.specs.Result.{OkIff, result_ok}
 use Rattle.std.specs.Str.{IsUtf8}
 use Rattle.std.specs.Str.Parse.{ParsesUnsigned, digits_value}
-use Rattle.std.proofs.lemmas.Bool.{cases_lt, lt-ltb, le-ltb}
+use Rattle.std.proofs.lemmas.Bool.{lt-ltb}
+use Rattle.std.proofs.lemmas.Bool.Decides.{nat_tests}
 use Rattle.std.proofs.lemmas.Fmt.{IsAscii-from_digits}
 use Rattle.std.proofs.lemmas.Str.{IsUtf8-from_ascii}
 use Rattle.std.proofs.lemmas.Str.Parse.{IsNumeralModel, numerals_by_value, parse_digits}
@@ -30,13 +31,7 @@ ok_part r x P Q is h = subst (λ t. MatchResult t P Q) is h
 by_result : {E : Type 0} (bs : List ℕ) (r : Result ℕ E) → list_all is_ascii_digit bs ≡ true
     → OkIff r ((0 < length bs) × (digits_value 10 bs < 2 ^ 64)) (digits_value 10 bs) → result_ok r ≡ decimal_of bs
 by_result bs (Ok x) h p = rw (h, lt-ltb 0 (length bs) p.0.0, lt-ltb (digits_value 10 bs) (2 ^ 64) p.0.1, p.1) refl
-by_result bs (Err e) h none = elim (cases_lt 0 (length bs)) [
-  | inl some ↦ elim (cases_lt (digits_value 10 bs) (2 ^ 64)) [
-    | inl small ↦ absurd (none (some, small))
-    | inr large ↦ rw (h, lt-ltb 0 (length bs) some, le-ltb (digits_value 10 bs) (2 ^ 64) (omega arith)) refl
-  ]
-  | inr empty ↦ rw (h, le-ltb 0 (length bs) (omega arith)) refl
-]
+by_result bs (Err e) h none = grind (arith, nat_tests)
 
 pub decimal_parsed : {E : Type 0} (bs text : List ℕ) (r : Result ℕ E) → text ≡ bs → list_all is_ascii_digit bs ≡ true
     → ParsesUnsigned 64 10 text r → result_ok r ≡ decimal_of bs

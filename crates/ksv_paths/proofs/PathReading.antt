@@ -1,10 +1,10 @@
 -- The text of a path whose names are those of members, read, gives the path again.
-use Rattle.std.proofs.Common.{◌≡◌, ◌∙◌, ℕ, zero, suc, ◌+◌, ◌^◌, ◌<◌, ◌≤◌, Bool, true, false, cond, if◌then◌else◌, List, [], ◌∷◌, ◌++◌, length, get_or, map}
-use Rattle.std.proofs.Common.{reverse, take, Some, None, refl, sym, ap, subst, arith, inl, inr, append-nil, length-append}
-use Rattle.std.specs.Prelude.{◌==◌, ◌||◌, not, decimal, slice_get, slice_index, unwrap_or, option_map, option_and_then}
+use Rattle.std.proofs.Common.{◌≡◌, ◌∙◌, ℕ, ◌^◌, ◌<◌, ◌≤◌, true, false, cond, if◌then◌else◌, List, [], ◌∷◌, ◌++◌, length, get_or, map}
+use Rattle.std.proofs.Common.{reverse, Option, Some, None, refl, sym, ap, subst, arith, inl, inr, append-nil, length-append}
+use Rattle.std.specs.Prelude.{◌==◌, ◌||◌, not, decimal, slice_get, slice_index, option_map, option_and_then}
 use Rattle.std.specs.Char.{is_ascii_digit}
 use Rattle.std.specs.Cmp.{first_so, second_so}
-use Rattle.std.specs.List.{All, AllByRecursion, list_all, position_from, slice_split}
+use Rattle.std.specs.List.{All, AllByRecursion, list_all, slice_split}
 use Rattle.std.specs.Str.{bytes_eq, is_utf8}
 use Rattle.std.specs.Str.Parse.{digits_value}
 use Rattle.std.proofs.lemmas.Bool.{cases_lt, lt-ltb}
@@ -14,7 +14,6 @@ use Rattle.std.proofs.lemmas.List.{reverse-append, reverse-reverse}
 use Rattle.std.proofs.lemmas.List.Splits.{slice_split_at, slice_split_none}
 use Rattle.std.proofs.lemmas.List.Sums.{AllPass-from_list_all}
 use Rattle.std.proofs.lemmas.Option.{slice_get-get_or, unwrap_or-slice_get}
-use Rattle.std.proofs.lemmas.Slice.Eq.{bytes_eq-Decides}
 use Rattle.std.proofs.lemmas.Str.{IsUtf8-from_ascii, is_utf8-from_IsUtf8}
 use Rattle.std.proofs.lemmas.Str.Ascii.{IsAscii-from_all}
 use Rattle.ksv_expr_value.specs.Trail.{root, same_trail, step_fits, all_fit}
@@ -25,9 +24,10 @@ use Rattle.ksv_desc.specs.Description.{Description, as_text, name, number_of_nam
 use Rattle.ksv_desc.proofs.Readers.{found_in_front}
 use Rattle.ksv_paths.specs.PathTexts.{step_text, steps_text, or_slash, decimal_of, below_limit, index_of, name_of, name_or_index, step_of, in_front}
 use Rattle.ksv_paths.specs.PathTexts.{behind_step, steps_of, is_slash, path_of_steps, path_named}
-use Rattle.ksv_paths.specs.Laws.{is_letter, is_id_byte, is_id, HasIds, IsKnown, PathsAreRead}
+use Rattle.ksv_paths.specs.Laws.{is_id_byte, is_id, HasIds, IsKnown, PathsAreRead}
 use Rattle.ksv_paths.proofs.Digits.{digits}
 use Rattle.ksv_paths.proofs.PathTexts.{path_is}
+use Rattle.ksv_paths.proofs.PathSpelling.{name_is}
 
 -- ---- bytes
 
@@ -41,20 +41,12 @@ digit_byte c h = grind (arith, nat_tests)
 not_slash : (c : ℕ) → 47 < c → is_slash c ≡ false
 not_slash c h = grind (arith, nat_tests)
 
-letter_more : (c : ℕ) → is_letter c ≡ true → is_id_byte c ≡ true
-letter_more c h = rw h refl
-
 id_bytes : (text : List ℕ) → is_id text ≡ true → list_all is_id_byte text ≡ true
-id_bytes [] h = absurd (cc)
-id_bytes (c ∷ cs) h = rw (letter_more c (first_so (is_letter c) (list_all is_id_byte cs) h)) (second_so (is_letter c) (list_all is_id_byte cs) h)
+id_bytes text h = grind arith
 
 -- an id is no row of digits
 not_digits : (text : List ℕ) → is_id text ≡ true → list_all is_ascii_digit text ≡ true → ⊥
-not_digits [] h e = cc
-not_digits (c ∷ cs) h e = apart c (first_so (is_letter c) (list_all is_id_byte cs) h) (first_so (is_ascii_digit c) (list_all is_ascii_digit cs) e)
-  where
-    apart : (b : ℕ) → is_letter b ≡ true → is_ascii_digit b ≡ true → ⊥
-    apart b p q = grind (arith, nat_tests)
+not_digits text h e = grind (arith, nat_tests)
 
 -- ---- the piece of a step
 
@@ -64,8 +56,7 @@ piece d (Name n) = name d n
 piece d (Index i) = decimal i
 
 step_text_is : (d : Description) (step : Step) → step_text d step ≡ 47 ∷ piece d step
-step_text_is d (Name n) = refl
-step_text_is d (Index i) = refl
+step_text_is d step = grind arith
 
 -- it isn't empty, has no slash, and names the step
 record IsPiece (d : Description) (step : Step) : Type 0 where
@@ -76,8 +67,7 @@ record IsPiece (d : Description) (step : Step) : Type 0 where
 -- ---- a name
 
 id_some : (text : List ℕ) → is_id text ≡ true → 0 < length text
-id_some [] h = absurd (cc)
-id_some (c ∷ cs) h = omega arith
+id_some text h = grind arith
 
 id_whole : (text : List ℕ) → is_id text ≡ true → All (λ c. is_slash c ≡ false) text
 id_whole text h = λ k e lt. not_slash (get_or text k e) (id_byte (get_or text k e) (AllPass-from_list_all is_id_byte text (id_bytes text h) k e lt)).0
@@ -110,39 +100,19 @@ module _ (d : Description) (table : HasIds d) where
   -- ---- an index
 
   -- digits are no name
-  no_place : (text : List ℕ) (xs : List (List ℕ)) (m i : ℕ) → ((k : ℕ) → k < m → unwrap_or (slice_get xs k) [] ≡ text → ⊥)
-      → position_from (bytes_eq text) i (take m xs) ≡ None
-  no_place text xs zero i apart = refl
-  no_place text [] (suc m) i apart = refl
-  no_place text (x ∷ xs) (suc m) i apart = by_test (bytes_eq text x) refl (no_place text xs m (i + 1) (λ k lt. apart (suc k) (omega arith)))
-    where
-      by_test : (b : Bool) → bytes_eq text x ≡ b → position_from (bytes_eq text) (i + 1) (take m xs) ≡ None
-          → cond b (Some i) (position_from (bytes_eq text) (i + 1) (take m xs)) ≡ None
-      by_test true e later = absurd (apart 0 (omega arith) (sym ((bytes_eq-Decides text x).0 e)))
-      by_test false e later = later
-
   no_name : (text : List ℕ) → list_all is_ascii_digit text ≡ true → name_of d text ≡ None
-  unfolding as_text
-  no_name text h = by_test (is_utf8 text)
+  no_name text h = by (name_of d text) refl
     where
-      none : number_of_name d text ≡ None
-      none = no_place text d.names d.known 0 (λ k lt e. not_digits text (subst (λ (w : List ℕ). is_id w ≡ true) e (table.ids k lt)) h)
-
-      by_test : (b : Bool) → option_and_then (number_of_name d) (cond b (Some text) None) ≡ None
-      by_test true = none
-      by_test false = refl
+      by : (o : Option ℕ) → name_of d text ≡ o → o ≡ None
+      by None e = refl
+      by (Some n) e = let found = name_is d text n e in absurd (not_digits text (rw found.1 at (table.ids n found.0)) h)
 
 -- a number has no zero in front, unless it is 0
 plain : (i : ℕ) → i < 2 ^ 64 → (length (decimal i) == 1 || not (slice_index (decimal i) 0 == 48)) ≡ true
 plain i small = elim (cases_lt 0 i) [
-  | inl some ↦ (let first = first_decimal i some small in let other : (slice_index (decimal i) 0 == 48)
-      ≡ false = grind (arith, nat_tests) in rw other (or_true (length (decimal i) == 1)))
+  | inl some ↦ (let first = first_decimal i some small in grind (arith, nat_tests))
   | inr none ↦ (let is : i ≡ 0 = omega arith in let one : decimal i ≡ 48 ∷ [] = ap decimal is ∙ decimal_digit 0 (omega arith) in rw one refl)
 ]
-  where
-    or_true : (b : Bool) → (b || true) ≡ true
-    or_true true = refl
-    or_true false = refl
 
 decimal_is : (text : List ℕ) (i : ℕ) → list_all is_ascii_digit text ≡ true → 0 < length text → digits_value 10 text ≡ i → i < 2 ^ 64 → decimal_of text ≡ Some i
 decimal_is text i all some value small =

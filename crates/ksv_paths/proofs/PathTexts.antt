@@ -1,8 +1,7 @@
 -- Paths that are read step by step from their text.
 use Rattle.std.proofs.Common.{◌≡◌, ◌∙◌, ℕ, suc, ◌<◌, ◌≤◌, Bool, true, false, List, [], ◌∷◌, ◌++◌, length, reverse, Option, Some, None, ap, sym, refl, arith}
-use Rattle.std.proofs.Common.{inl, inr}
 use Rattle.std.specs.Prelude.{◌==◌, is_some, IsSome, MatchOption, option_copied, IsTrue}
-use Rattle.std.proofs.lemmas.Bool.{cases_lt}
+use Rattle.std.proofs.lemmas.Bool.{false_from_ne_true}
 use Rattle.std.specs.Borrow.{Bor}
 use Rattle.std.specs.List.{slice_split}
 use Rattle.std.proofs.lemmas.List.{append_assoc, length-append, length-reverse}
@@ -28,25 +27,17 @@ behind_steps front (Some steps) = Some (front ++ steps)
 behind_steps front None = None
 
 pub steps_begin : (o : Option (List Step)) → o ≡ behind_steps [] o
-steps_begin (Some steps) = refl
-steps_begin None = refl
+steps_begin o = grind arith
 
 -- one more step is read
 pub steps_more : (d : Description) (front : List Step) (piece : List ℕ) (rest : List (List ℕ)) (step : Step) → step_of d piece ≡ Some step
     → behind_steps front (steps_of d (piece ∷ rest)) ≡ behind_steps (front ++ step ∷ []) (steps_of d rest)
-steps_more d front piece rest step is = rw is (by_rest (steps_of d rest))
-  where
-    by_rest : (o : Option (List Step)) → behind_steps front (in_front step o) ≡ behind_steps (front ++ step ∷ []) o
-    by_rest (Some steps) = ap Some (sym (append_assoc front (step ∷ []) steps))
-    by_rest None = refl
+steps_more d front piece rest step is = grind (arith, append_assoc front (step ∷ []))
 
 -- more than 64 steps are those of no path
 pub no_path : (steps : List Step) → 64 < length steps → path_of_steps (Some steps) ≡ None
-no_path steps many = trail_of-false (reverse steps) (by_fit (fits (reverse steps)) refl)
-  where
-    by_fit : (b : Bool) → fits (reverse steps) ≡ b → fits (reverse steps) ≡ false
-    by_fit false e = e
-    by_fit true e = let few : length (reverse steps) ≤ 64 = length-fits (reverse steps) e in absurd (omega (arith, length-reverse steps))
+no_path steps many = trail_of-false (reverse steps)
+    (false_from_ne_true _ (λ e. let few = length-fits (reverse steps) e in absurd (omega (arith, length-reverse steps))))
 
 -- one step more than a path may have
 pub steps_full : (d : Description) (front : List Step) (piece : List ℕ) (rest : List (List ℕ)) (step : Step) → step_of d piece ≡ Some step
@@ -81,15 +72,13 @@ behind_some d text steps some named h = let p : Trail =
 pub pieces_seen : (text piece : List ℕ) (rest : Option (Bor (List ℕ)))
     → MatchOption rest (slice_split is_slash text ≡ piece ∷ []) (λ r. slice_split is_slash text ≡ piece ∷ slice_split is_slash r.now)
     → slice_split is_slash text ≡ piece ∷ pieces_left (option_copied rest)
-pieces_seen text piece (Some r) h = h
-pieces_seen text piece None h = h
+pieces_seen text piece rest h = grind arith
 
 -- what is left where a piece is left
 pub left_seen : (d : Description) (all : Option (List Step)) (front : List Step) (rest : Option (Bor (List ℕ))) (pieces : Bor (List ℕ)) (piece : List ℕ)
     (others : List (List ℕ)) → all ≡ behind_steps front (steps_of d (pieces_left (option_copied rest))) → rest ≡ Some pieces
     → slice_split is_slash pieces.now ≡ piece ∷ others → all ≡ behind_steps front (steps_of d (piece ∷ others))
-left_seen d all front rest pieces piece others h is split = h ∙ ap (λ o. behind_steps front (steps_of d (pieces_left (option_copied o)))) is
-    ∙ ap (λ ps. behind_steps front (steps_of d ps)) split
+left_seen d all front rest pieces piece others h is split = rw (is, split) at h
 
 -- the facts of the loop, one step later
 pub step_read : (d : Description) (all : Option (List Step)) (front now : List Step) (piece : List ℕ) (others : List (List ℕ)) (step : Step)
@@ -101,7 +90,4 @@ step_read d all front now piece others step h is in_range fit few e =
 
 -- steps that are not full are fewer than 64
 pub not_full : (n : ℕ) (b : Bool) → (n ≡ 64 → IsTrue b) → b ≡ false → n ≤ 64 → n < 64
-not_full n b full not few = elim (cases_lt n 64) [
-  | inl lt ↦ lt
-  | inr ge ↦ let at : n ≡ 64 = omega arith in let is : b ≡ true = full at in absurd (cc)
-]
+not_full n b full not few = grind arith
