@@ -10,8 +10,8 @@ Falls links = (c : ℕ) → 0 < c → c < length links → (link_at links c).nex
 
 -- any fuel above the number does
 pub any_fuel : (links : List Link) (x : ℕ) → Falls links → (f g c : ℕ) → c < f → c < g → c < length links → chain links f c x ≡ chain links g c x
-any_fuel links x h zero g c a b l = absurd (omega arith)
-any_fuel links x h (suc f) zero c a b l = absurd (omega arith)
+any_fuel links x h zero g c a b l = omega arith
+any_fuel links x h (suc f) zero c a b l = omega arith
 any_fuel links x h (suc f) (suc g) zero a b l = refl
 any_fuel links x h (suc f) (suc g) (suc c) a b l =
     let n = (link_at links (suc c)).next in
@@ -31,24 +31,13 @@ more_links links new x h (suc f) (suc c) l =
 -- a step along the chain
 pub step_on : (links : List Link) (x : ℕ) → Falls links → (c : ℕ) → 0 < c → c < length links → is_name (link_at links c).step x ≡ false
     → chain links (length links) c x ≡ chain links (length links) (link_at links c).next x
-step_on links x h c p l e = by (length links) refl c p l e
-  where
-    by : (n : ℕ) → n ≡ length links → (c : ℕ) → 0 < c → c < length links → is_name (link_at links c).step x ≡ false
-        → chain links n c x ≡ chain links n (link_at links c).next x
-    by zero e c p l f = absurd (omega arith)
-    by (suc n) e zero p l f = absurd (omega arith)
-    by (suc n) e (suc c) p l f =
-        let less : (link_at links (suc c)).next < suc c = h (suc c) (omega arith) l in
-        ap (λ b. cond b (suc c) (chain links n (link_at links (suc c)).next x)) f
-        ∙ any_fuel links x h n (suc n) (link_at links (suc c)).next (omega arith) (omega arith) (omega arith)
+step_on links x h zero p l e = omega arith
+step_on links x h (suc c) p l e = any_fuel links x h (length links) (suc (length links)) (suc c) l (omega arith) l ∙ rw e refl
 
-pub found_at : (links : List Link) (x c : ℕ) → 0 < c → c < length links → is_name (link_at links c).step x ≡ true → chain links (length links) c x ≡ c
-found_at links x c p l e = by (length links) refl c p l e
-  where
-    by : (n : ℕ) → n ≡ length links → (c : ℕ) → 0 < c → c < length links → is_name (link_at links c).step x ≡ true → chain links n c x ≡ c
-    by zero e c p l f = absurd (omega arith)
-    by (suc n) e zero p l f = absurd (omega arith)
-    by (suc n) e (suc c) p l f = ap (λ b. cond b (suc c) (chain links n (link_at links (suc c)).next x)) f
+pub found_at : (links : List Link) (x : ℕ) → Falls links → (c : ℕ) → 0 < c → c < length links → is_name (link_at links c).step x ≡ true
+    → chain links (length links) c x ≡ c
+found_at links x h zero p l e = omega arith
+found_at links x h (suc c) p l e = any_fuel links x h (length links) (suc (length links)) (suc c) l (omega arith) l ∙ rw e refl
 
 pub ended : (links : List Link) (x f : ℕ) → chain links f 0 x ≡ 0
 ended links x zero = refl
@@ -56,8 +45,8 @@ ended links x (suc f) = refl
 
 -- how many there are from a path on
 any_fuel_length : (links : List Link) → Falls links → (f g c : ℕ) → c < f → c < g → c < length links → chain_length links f c ≡ chain_length links g c
-any_fuel_length links h zero g c a b l = absurd (omega arith)
-any_fuel_length links h (suc f) zero c a b l = absurd (omega arith)
+any_fuel_length links h zero g c a b l = omega arith
+any_fuel_length links h (suc f) zero c a b l = omega arith
 any_fuel_length links h (suc f) (suc g) zero a b l = refl
 any_fuel_length links h (suc f) (suc g) (suc c) a b l =
     let n = (link_at links (suc c)).next in
@@ -66,11 +55,5 @@ any_fuel_length links h (suc f) (suc g) (suc c) a b l =
 
 pub length_on : (links : List Link) → Falls links → (c : ℕ) → 0 < c → c < length links
     → chain_length links (length links) c ≡ 1 + chain_length links (length links) (link_at links c).next
-length_on links h c p l = by (length links) refl c p l
-  where
-    by : (n : ℕ) → n ≡ length links → (c : ℕ) → 0 < c → c < length links → chain_length links n c ≡ 1 + chain_length links n (link_at links c).next
-    by zero e c p l = absurd (omega arith)
-    by (suc n) e zero p l = absurd (omega arith)
-    by (suc n) e (suc c) p l =
-        let less : (link_at links (suc c)).next < suc c = h (suc c) (omega arith) l in
-        ap (λ k. 1 + k) (any_fuel_length links h n (suc n) (link_at links (suc c)).next (omega arith) (omega arith) (omega arith))
+length_on links h zero p l = omega arith
+length_on links h (suc c) p l = any_fuel_length links h (length links) (suc (length links)) (suc c) l (omega arith) l

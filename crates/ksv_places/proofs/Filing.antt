@@ -1,6 +1,7 @@
 -- Nodes by their paths' rows.
 use Rattle.ksv_places.proofs.Common.{◌≡◌, ℕ, ◌+◌, ◌-◌, ◌<◌, ◌≤◌, ◌⊎◌, inl, inr, ◌≢◌, true, false, eqb, set, List, [], ◌∷◌, ◌++◌, length, get_or, Some, refl}
 use Rattle.ksv_places.proofs.Common.{sym, ◌∙◌, ap, subst, arith, slice_get, option_map, length-map, get_or_append_left, length_push, length-set}
+use Rattle.std.proofs.lemmas.Bool.{cases_eq}
 use Rattle.ksv_places.proofs.Common.{get_or-set_same, get_or-set_other, get_or_push, eqb_tells, cases_lt, slice_get-map, slice_get-get_or, slice_get_within}
 use Rattle.ksv_places.proofs.Common.{get_or_from_slice_get, Step, NodeKind, Head, Row, Spot, with_mark, row_at, spot_at, node_of, nodes_of, IsFiled}
 use Rattle.std.proofs.lemmas.List.{get_or_past, get_or-map, same_lists, map-append, map-set}
@@ -8,20 +9,16 @@ use Rattle.ksv_nodes.specs.declared.node.NodeKind.TheVariants.{Value, End, Rest}
 use Rattle.ksv_places.specs.Spots.{mark_in, no_row, IsSpotted, IsRoomed, IsOpen}
 
 mark_none : (k : NodeKind) → mark_in no_row k ≡ 0
-mark_none Head = refl
-mark_none Value = refl
-mark_none End = refl
-mark_none Rest = refl
+mark_none k = grind arith
 
 module _ (paths : List (List Step)) (rows : List Row) (spots : List Spot) (filed : IsFiled paths rows spots) where
   -- the path of a node is there
   pub path_in : (i : ℕ) → i < length spots → (spot_at spots i).path < length rows
-  path_in i lt = by (cases_lt (spot_at spots i).path (length rows))
-    where
-      by : ((spot_at spots i).path < length rows) ⊎ (length rows ≤ (spot_at spots i).path) → (spot_at spots i).path < length rows
-      by (inl h) = h
-      by (inr h) = let zero_is = sym (filed.rowed i lt) ∙ ap (λ (r : Row). mark_in r (spot_at spots i).kind) (get_or_past rows (spot_at spots i).path no_row h)
-          ∙ mark_none (spot_at spots i).kind in absurd (omega arith)
+  path_in i lt = elim (cases_lt (spot_at spots i).path (length rows)) [
+    | inl h ↦ h
+    | inr h ↦ let zero_is = sym (filed.rowed i lt) ∙ ap (λ (r : Row). mark_in r (spot_at spots i).kind) (get_or_past rows (spot_at spots i).path no_row h) in
+        absurd (omega (arith, zero_is, mark_none (spot_at spots i).kind))
+  ]
 
   record Has (i : ℕ) (k : NodeKind) (q : List Step) : Type 0 where
     pub inside : i < length spots
@@ -31,7 +28,7 @@ module _ (paths : List (List Step)) (rows : List Row) (spots : List Spot) (filed
 
   has : (i : ℕ) (k : NodeKind) (q : List Step) → slice_get (nodes_of paths spots) i ≡ Some (k, q) → Has i k q
   has i k q e =
-      let lt : i < length spots = (let n = length-map spots (node_of paths) in let w = slice_get_within (nodes_of paths spots) i (k, q) e in omega arith) in
+      let lt : i < length spots = omega (arith, length-map spots (node_of paths), slice_get_within (nodes_of paths spots) i (k, q) e) in
       let is : Some (node_of paths (spot_at spots i)) ≡ Some (k, q) =
       sym (slice_get-map (node_of paths) spots i ∙ ap (option_map (node_of paths)) (slice_get-get_or spots i _ lt)) ∙ e in
       let both : node_of paths (spot_at spots i) ≡ (k, q) = cc in
@@ -39,8 +36,7 @@ module _ (paths : List (List Step)) (rows : List Row) (spots : List Spot) (filed
         inside = lt;
         kind = ap (λ (p : NodeKind × List Step). p.0) both;
         path = ap (λ (p : NodeKind × List Step). p.1) both;
-        there =
-            (let p = path_in i lt in let f = filed.few in omega arith);
+        there = omega (arith, path_in i lt, filed.few);
       }
 
   -- without a path there is no node
@@ -64,7 +60,7 @@ module _ (paths : List (List Step)) (rows : List Row) (spots : List Spot) (filed
   marked k q r at some =
       let n = mark_in (row_at rows r) k in
       let s : IsSpotted spots r k n = filed.spotted r k some in
-      slice_get-map (node_of paths) spots (n - 1) ∙ ap (option_map (node_of paths)) (slice_get-get_or spots (n - 1) _ (let i = s.inside in omega arith))
+      slice_get-map (node_of paths) spots (n - 1) ∙ ap (option_map (node_of paths)) (slice_get-get_or spots (n - 1) _ (omega (arith, s.inside)))
       ∙ (λ j. Some (s.kind j, get_or paths (s.path j) [])) ∙ ap (λ (p : List Step). Some (k, p)) (get_or_from_slice_get paths r q [] at)
 
   -- no two places have one node
@@ -85,51 +81,31 @@ module _ (paths : List (List Step)) (rows : List Row) (spots : List Spot) (filed
 -- two kinds are the same, or a mark of the one leaves that of the other
 kinds : (a b : NodeKind) → (a ≡ b) ⊎ ((r : Row) (n : ℕ) → mark_in (with_mark r b n) a ≡ mark_in r a)
 kinds Head Head = inl refl
-kinds Head Value = inr (λ r n. refl)
-kinds Head End = inr (λ r n. refl)
-kinds Head Rest = inr (λ r n. refl)
-kinds Value Head = inr (λ r n. refl)
 kinds Value Value = inl refl
-kinds Value End = inr (λ r n. refl)
-kinds Value Rest = inr (λ r n. refl)
-kinds End Head = inr (λ r n. refl)
-kinds End Value = inr (λ r n. refl)
 kinds End End = inl refl
-kinds End Rest = inr (λ r n. refl)
-kinds Rest Head = inr (λ r n. refl)
-kinds Rest Value = inr (λ r n. refl)
-kinds Rest End = inr (λ r n. refl)
 kinds Rest Rest = inl refl
+kinds _ _ = inr (λ r n. refl)
 
 mark_now : (r : Row) (k : NodeKind) (n : ℕ) → mark_in (with_mark r k n) k ≡ n
-mark_now r Head n = refl
-mark_now r Value n = refl
-mark_now r End n = refl
-mark_now r Rest n = refl
+mark_now r k n = grind arith
 
 module _ (paths paths2 : List (List Step)) (rows rows2 : List Row) (spots : List Spot) (filed : IsFiled paths rows spots)
     (roomed : IsRoomed paths paths2 rows rows2) where
   pub filed_more : IsFiled paths2 rows2 spots
   filed_more = record {
     few = roomed.few;
-    rowed = λ i lt. ap (λ (r : Row). mark_in r (spot_at spots i).kind) (roomed.same (spot_at spots i).path) ∙ filed.rowed i lt;
-    spotted = λ r k some. subst (λ (x : Row). IsSpotted spots r k (mark_in x k)) (sym (roomed.same r))
-        (filed.spotted r k (subst (λ (x : Row). 0 < mark_in x k) (roomed.same r) some));
+    rowed = λ i lt. rw (roomed.same (spot_at spots i).path) (filed.rowed i lt);
+    spotted = λ r k some. rw (roomed.same r) (filed.spotted r k (rw (roomed.same r) at some));
   }
 
   pub nodes_same : nodes_of paths2 spots ≡ nodes_of paths spots
-  nodes_same = same_lists _ _ (length-map spots (node_of paths2) ∙ sym (length-map spots (node_of paths))) by
-    where
-      by : (k : ℕ) (d : NodeKind × List Step) → k < length (nodes_of paths2 spots) → get_or (nodes_of paths2 spots) k d ≡ get_or (nodes_of paths spots) k d
-      by k d l =
-          let n = length-map spots (node_of paths2) in
-          let lt : k < length spots = omega arith in
-          let there : (spot_at spots k).path < length paths = (let a = path_in paths rows spots filed k lt in let b = filed.few in omega arith) in
-          let same : get_or paths2 (spot_at spots k).path [] ≡ get_or paths (spot_at spots k).path [] =
-          ap (λ (ps : List (List Step)). get_or ps (spot_at spots k).path []) roomed.more.grown
-          ∙ get_or_append_left paths roomed.more.more [] (spot_at spots k).path there in
-          get_or-map (node_of paths2) spots k _ d lt ∙ ap (λ (q : List Step). ((spot_at spots k).kind, q)) same
-          ∙ sym (get_or-map (node_of paths) spots k _ d lt)
+  nodes_same = same_lists _ _ (length-map spots (node_of paths2) ∙ sym (length-map spots (node_of paths))) (λ k d l.
+      let lt : k < length spots = omega (arith, length-map spots (node_of paths2)) in
+      let there : (spot_at spots k).path < length paths = omega (arith, path_in paths rows spots filed k lt, filed.few) in
+      let same : get_or paths2 (spot_at spots k).path [] ≡ get_or paths (spot_at spots k).path [] =
+      rw roomed.more.grown (get_or_append_left paths roomed.more.more [] (spot_at spots k).path there) in
+      get_or-map (node_of paths2) spots k _ d lt ∙ ap (λ (q : List Step). ((spot_at spots k).kind, q)) same
+      ∙ sym (get_or-map (node_of paths) spots k _ d lt))
 
 -- a mark written into a row
 module _ (rows : List Row) (path : ℕ) (kind : NodeKind) (n : ℕ) (inside : path < length rows) where
@@ -140,27 +116,24 @@ module _ (rows : List Row) (path : ℕ) (kind : NodeKind) (n : ℕ) (inside : pa
   now_row = get_or-set_same rows path _ no_row inside
 
   pub now_mark : mark_in (row_at written path) kind ≡ n
-  now_mark = ap (λ (x : Row). mark_in x kind) now_row ∙ mark_now (row_at rows path) kind n
+  now_mark = rw now_row (mark_now (row_at rows path) kind n)
 
   -- all other marks are the same
   pub other_marks : (r : ℕ) (k : NodeKind) → (mark_in (row_at written r) k ≡ mark_in (row_at rows r) k) ⊎ ((r ≡ path) × (k ≡ kind))
-  other_marks r k = by (eqb_tells r path) (kinds k kind)
-    where
-      by : ((eqb r path ≡ true) × (r ≡ path)) ⊎ ((eqb r path ≡ false) × (r ≢ path))
-          → (k ≡ kind) ⊎ ((x : Row) (m : ℕ) → mark_in (with_mark x kind m) k ≡ mark_in x k)
-          → (mark_in (row_at written r) k ≡ mark_in (row_at rows r) k) ⊎ ((r ≡ path) × (k ≡ kind))
-      by (inr e) f = inl (ap (λ (x : Row). mark_in x k) (get_or-set_other rows path r _ no_row e.1))
-      by (inl e) (inl f) = inr (e.1, f)
-      by (inl e) (inr f) =
-          inl (ap (λ m. mark_in (row_at written m) k) e.1 ∙ ap (λ (x : Row). mark_in x k) now_row ∙ f (row_at rows path) n
-          ∙ ap (λ m. mark_in (row_at rows m) k) (sym e.1))
+  other_marks r k = elim (cases_eq r path) [
+    | inr e ↦ inl (rw (get_or-set_other rows path r _ no_row e) refl)
+    | inl e ↦ elim (kinds k kind) [
+      | inl f ↦ inr (e, f)
+      | inr f ↦ inl (rw (e, now_row) (f (row_at rows path) n))
+    ]
+  ]
 
 -- after the last place there is none
 pub open_behind : (paths : List (List Step)) (rows : List Row) (spots : List Spot) → IsFiled paths rows spots → IsOpen rows spots (length spots)
 open_behind paths rows spots filed = record {
   rowed = λ i lt ne. filed.rowed i lt;
   spotted = filed.spotted;
-  unused = λ r k e. let s = filed.spotted r k (omega arith) in let i = s.inside in absurd (omega arith);
+  unused = λ r k e. omega (arith, (filed.spotted r k (omega arith)).inside);
 }
 
 -- a place is open once its mark is no longer in the row of its node's path
@@ -180,48 +153,35 @@ module _ (paths : List (List Step)) (rows : List Row) (spots : List Spot) (filed
   gone : (r : ℕ) (k : NodeKind) → (r ≡ spot.path) × (k ≡ spot.kind) → mark_in (row_at cleared r) k ≡ 0
   gone r k e = (λ i. mark_in (row_at cleared (e.0 i)) (e.1 i)) ∙ now_mark rows spot.path spot.kind 0 inside
 
-  rowed1 : (i : ℕ) → i < length spots → i ≢ place → mark_in (row_at cleared (spot_at spots i).path) (spot_at spots i).kind ≡ i + 1
-  rowed1 i lt ne = by (others (spot_at spots i).path (spot_at spots i).kind)
-    where
-      by : (mark_in (row_at cleared (spot_at spots i).path) (spot_at spots i).kind ≡ mark_in (row_at rows (spot_at spots i).path) (spot_at spots i).kind) ⊎
-          (((spot_at spots i).path ≡ spot.path) × ((spot_at spots i).kind ≡ spot.kind))
-          → mark_in (row_at cleared (spot_at spots i).path) (spot_at spots i).kind ≡ i + 1
-      by (inl e) = e ∙ filed.rowed i lt
-      by (inr e) = let same : i + 1 ≡ place + 1 = sym (filed.rowed i lt) ∙ (λ j. mark_in (row_at rows (e.0 j)) (e.1 j))
-          ∙ filed.rowed place there in absurd (ne (omega arith))
-
-  spotted1 : (r : ℕ) (k : NodeKind) → 0 < mark_in (row_at cleared r) k → IsSpotted spots r k (mark_in (row_at cleared r) k)
-  spotted1 r k some = by (others r k)
-    where
-      by : (mark_in (row_at cleared r) k ≡ mark_in (row_at rows r) k) ⊎ ((r ≡ spot.path) × (k ≡ spot.kind)) → IsSpotted spots r k (mark_in (row_at cleared r) k)
-      by (inl e) = subst (IsSpotted spots r k) (sym e) (filed.spotted r k (subst (λ n. 0 < n) e some))
-      by (inr e) = let none = gone r k e in absurd (omega arith)
-
-  unused1 : (r : ℕ) (k : NodeKind) → mark_in (row_at cleared r) k ≢ place + 1
-  unused1 r k h = by (others r k)
-    where
-      by : (mark_in (row_at cleared r) k ≡ mark_in (row_at rows r) k) ⊎ ((r ≡ spot.path) × (k ≡ spot.kind)) → ⊥
-      by (inl e) =
+  pub open_at : IsOpen cleared spots place
+  open_at = record {
+    rowed = λ i lt ne. elim (others (spot_at spots i).path (spot_at spots i).kind) [
+      | inl e ↦ e ∙ filed.rowed i lt
+      | inr e ↦ let same : i + 1 ≡ place + 1 = sym (filed.rowed i lt) ∙ (λ j. mark_in (row_at rows (e.0 j)) (e.1 j)) ∙ filed.rowed place there in
+          absurd (ne (omega arith))
+    ];
+    spotted = λ r k some. elim (others r k) [
+      | inl e ↦ rw e (filed.spotted r k (rw e at some))
+      | inr e ↦ let none = gone r k e in absurd (omega arith)
+    ];
+    unused = λ r k h. elim (others r k) [
+      | inl e ↦
           let m = mark_in (row_at rows r) k in
           let mark : m ≡ place + 1 = sym e ∙ h in
           let s : IsSpotted spots r k m = filed.spotted r k (omega arith) in
           let at : m - 1 ≡ place = omega arith in
-          let path : r ≡ spot.path = sym s.path ∙ ap (λ n. (spot_at spots n).path) at in
-          let kind : k ≡ spot.kind = sym s.kind ∙ ap (λ n. (spot_at spots n).kind) at in
-          let none = gone r k (path, kind) in
-          absurd (omega arith)
-      by (inr e) = let none = gone r k e in absurd (omega arith)
-
-  pub open_at : IsOpen cleared spots place
-  open_at = record { rowed = rowed1; spotted = spotted1; unused = unused1 }
+          let none = gone r k (sym s.path ∙ ap (λ n. (spot_at spots n).path) at, sym s.kind ∙ ap (λ n. (spot_at spots n).kind) at) in
+          omega arith
+      | inr e ↦ let none = gone r k e in omega arith
+    ];
+  }
 
   -- where a row had no mark it has none now
   pub still_none : (r : ℕ) (k : NodeKind) → mark_in (row_at rows r) k ≡ 0 → mark_in (row_at cleared r) k ≡ 0
-  still_none r k h = by (others r k)
-    where
-      by : (mark_in (row_at cleared r) k ≡ mark_in (row_at rows r) k) ⊎ ((r ≡ spot.path) × (k ≡ spot.kind)) → mark_in (row_at cleared r) k ≡ 0
-      by (inl e) = e ∙ h
-      by (inr e) = gone r k e
+  still_none r k h = elim (others r k) [
+    | inl e ↦ e ∙ h
+    | inr e ↦ gone r k e
+  ]
 
 -- an open place is given to a node whose path's row has no mark of its kind
 module _ (paths : List (List Step)) (rows : List Row) (spots : List Spot) (place : ℕ) (open_place : IsOpen rows spots place) (path : ℕ) (kind : NodeKind)
@@ -238,49 +198,28 @@ module _ (paths : List (List Step)) (rows : List Row) (spots : List Spot) (place
   module _ (spots2 : List Spot) (now_spot : spot_at spots2 place ≡ record { path = path; kind = kind }) (there : place < length spots2)
       (more : length spots ≤ length spots2) (old_in : (i : ℕ) → i < length spots2 → i ≢ place → i < length spots)
       (old_spot : (i : ℕ) → i < length spots → i ≢ place → spot_at spots2 i ≡ spot_at spots i) where
-    rowed2 : (i : ℕ) → i < length spots2 → mark_in (row_at filled (spot_at spots2 i).path) (spot_at spots2 i).kind ≡ i + 1
-    rowed2 i lt = by (eqb_tells i place)
-      where
-        old : (l : i < length spots) → i ≢ place
-            → (mark_in (row_at filled (spot_at spots i).path) (spot_at spots i).kind ≡ mark_in (row_at rows (spot_at spots i).path) (spot_at spots i).kind) ⊎
-            (((spot_at spots i).path ≡ path) × ((spot_at spots i).kind ≡ kind))
-            → mark_in (row_at filled (spot_at spots i).path) (spot_at spots i).kind ≡ i + 1
-        old l ne (inl e) = e ∙ open_place.rowed i l ne
-        old l ne (inr e) = let zero_is : i + 1 ≡ 0 = sym (open_place.rowed i l ne) ∙ (λ j. mark_in (row_at rows (e.0 j)) (e.1 j))
-            ∙ no_mark in absurd (omega arith)
-
-        by : ((eqb i place ≡ true) × (i ≡ place)) ⊎ ((eqb i place ≡ false) × (i ≢ place))
-            → mark_in (row_at filled (spot_at spots2 i).path) (spot_at spots2 i).kind ≡ i + 1
-        by (inl e) = let at : spot_at spots2 i ≡ record { path = path; kind = kind } =
-            ap (λ k. spot_at spots2 k) e.1 ∙ now_spot in here _ _ (ap (λ (x : Spot). x.path) at, ap (λ (x : Spot). x.kind) at) ∙ ap (λ k. k + 1) (sym e.1)
-        by (inr e) = let l = old_in i lt e.1 in ap (λ (x : Spot). mark_in (row_at filled x.path) x.kind) (old_spot i l e.1)
-            ∙ old l e.1 (changed (spot_at spots i).path (spot_at spots i).kind)
-
-    spotted2 : (r : ℕ) (k : NodeKind) → 0 < mark_in (row_at filled r) k → IsSpotted spots2 r k (mark_in (row_at filled r) k)
-    spotted2 r k some = by (changed r k)
-      where
-        by : (mark_in (row_at filled r) k ≡ mark_in (row_at rows r) k) ⊎ ((r ≡ path) × (k ≡ kind)) → IsSpotted spots2 r k (mark_in (row_at filled r) k)
-        by (inl e) =
-            let m = mark_in (row_at rows r) k in
-            let p : 0 < m = subst (λ n. 0 < n) e some in
-            let s : IsSpotted spots r k m = open_place.spotted r k p in
-            let not_here : m ≢ place + 1 = open_place.unused r k in
-            let i = s.inside in
-            let o : spot_at spots2 (m - 1) ≡ spot_at spots (m - 1) = old_spot (m - 1) (omega arith) (λ f. not_here (omega arith)) in
-            subst (IsSpotted spots2 r k) (sym e)
-            (record { inside = omega arith; path = ap (λ (x : Spot). x.path) o ∙ s.path; kind = ap (λ (x : Spot). x.kind) o ∙ s.kind })
-        by (inr e) =
-            let o : spot_at spots2 (place + 1 - 1) ≡ record { path = path; kind = kind } =
-            ap (λ n. spot_at spots2 n) (let m : place + 1 - 1 ≡ place = omega arith in m) ∙ now_spot in
-            subst (IsSpotted spots2 r k) (sym (here r k e))
-            (record { inside = omega arith; path = ap (λ (x : Spot). x.path) o ∙ sym e.0; kind = ap (λ (x : Spot). x.kind) o ∙ sym e.1 })
-
     filed_then : IsFiled paths filled spots2
     filed_then = record {
-      few = (let n = length-set rows path (with_mark (row_at rows path) kind (place + 1)) in omega arith);
-      rowed = rowed2;
-      spotted =
-          spotted2;
+      few = omega (arith, length-set rows path (with_mark (row_at rows path) kind (place + 1)));
+      rowed = λ i lt. elim (cases_eq i place) [
+        | inl e ↦ rw (e, now_spot) (here path kind (refl, refl))
+        | inr ne ↦ let l = old_in i lt ne in rw (old_spot i l ne) (elim (changed (spot_at spots i).path (spot_at spots i).kind) [
+          | inl e ↦ e ∙ open_place.rowed i l ne
+          | inr e ↦ let zero_is = sym (open_place.rowed i l ne) ∙ (λ j. mark_in (row_at rows (e.0 j)) (e.1 j)) ∙ no_mark in omega arith
+        ])
+      ];
+      spotted = λ r k some. elim (changed r k) [
+        | inl e ↦
+            let m = mark_in (row_at rows r) k in
+            let p : 0 < m = rw e at some in
+            let s : IsSpotted spots r k m = open_place.spotted r k p in
+            let o : spot_at spots2 (m - 1) ≡ spot_at spots (m - 1) =
+            old_spot (m - 1) (omega (arith, s.inside)) (λ f. open_place.unused r k (omega arith)) in
+            rw e (record { inside = omega (arith, s.inside); path = rw o s.path; kind = rw o s.kind })
+        | inr e ↦
+            let m : place + 1 - 1 ≡ place = omega arith in
+            rw (here r k e) (record { inside = omega arith; path = rw (m, now_spot) (sym e.0); kind = rw (m, now_spot) (sym e.1) })
+      ];
     }
 
   pub filed_push : place ≡ length spots → IsFiled paths filled (spots ++ record { path = path; kind = kind } ∷ [])
@@ -311,8 +250,7 @@ nodes_set paths spots place kind q path at = map-set (node_of paths) spots place
 -- a node that has no place has no mark in its path's row
 pub no_mark : (paths : List (List Step)) (rows : List Row) (spots : List Spot) → IsFiled paths rows spots → (kind : NodeKind) (q : List Step) (path : ℕ)
     → slice_get paths path ≡ Some q → ((i : ℕ) → slice_get (nodes_of paths spots) i ≡ Some (kind, q) → ⊥) → mark_in (row_at rows path) kind ≡ 0
-no_mark paths rows spots filed kind q path at free = by (cases_lt 0 (mark_in (row_at rows path) kind))
-  where
-    by : (0 < mark_in (row_at rows path) kind) ⊎ (mark_in (row_at rows path) kind ≤ 0) → mark_in (row_at rows path) kind ≡ 0
-    by (inl h) = absurd (free _ (marked paths rows spots filed kind q path at h))
-    by (inr h) = omega arith
+no_mark paths rows spots filed kind q path at free = elim (cases_lt 0 (mark_in (row_at rows path) kind)) [
+  | inl h ↦ absurd (free _ (marked paths rows spots filed kind q path at h))
+  | inr h ↦ omega arith
+]

@@ -1,21 +1,19 @@
 -- What leads where once a path was hooked to the one a step shorter.
 use Rattle.ksv_places.proofs.Common.{◌≡◌, ◌≢◌, ◌⊎◌, inl, inr, ℕ, zero, suc, ◌+◌, ◌<◌, true, false, List, [], ◌∷◌, ◌++◌, length, refl, sym, ◌∙◌, ap, subst}
 use Rattle.ksv_places.proofs.Common.{arith, eqb, length_push, eqb_tells, Step, Name, Index, Link, IsPut, IsPutAt, first_of_both, chain, look, is_name, IsTree}
+use Rattle.std.proofs.lemmas.Bool.{cases_eq, cases_lt}
 use Rattle.ksv_places.specs.Tree.{Hooks}
 use Rattle.ksv_places.proofs.Growing.{nat_other, nat_self, Leads, grown_tree, same_chain, new_chain, past_new}
 
 -- a sum of two numbers whose first is some, or none
 some_first : (a b n : ℕ) → a ≡ n → 0 < n → first_of_both a b ≡ n
-some_first zero b n e p = absurd (omega arith)
-some_first (suc a) b n e p = e
+some_first a b n e p = grind arith
 
 none_first : (a b : ℕ) → first_of_both a b ≡ 0 → a ≡ 0
-none_first zero b e = refl
-none_first (suc a) b e = e
+none_first a b e = grind arith
 
 none_second : (a b : ℕ) → a ≡ 0 → first_of_both a b ≡ b
-none_second zero b e = refl
-none_second (suc a) b e = absurd (omega arith)
+none_second a b e = grind arith
 
 module _ (links : List Link) (firsts : ℕ → ℕ) (members elements : ℕ → ℕ → ℕ) (tree : IsTree links firsts members elements) (r : ℕ) (there : r < length links)
     (link : Link) (parent : link.parent ≡ r) where
@@ -29,20 +27,19 @@ module _ (links : List Link) (firsts : ℕ → ℕ) (members elements : ℕ → 
   count2 = length_push links link
 
   first_in : (q : ℕ) → firsts q < length links
-  first_in q = by (firsts q) refl
-    where
-      by : (n : ℕ) → firsts q ≡ n → firsts q < length links
-      by zero e = omega arith
-      by (suc n) e = tree.heads q (omega arith)
+  first_in q = elim (cases_lt 0 (firsts q)) [
+    | inl p ↦ tree.heads q p
+    | inr z ↦ omega arith
+  ]
 
   same_firsts : (q : ℕ) → 0 < firsts q → firsts q < length links2
-  same_firsts q p = let h = tree.heads q p in let n = count2 in omega arith
+  same_firsts q p = omega (arith, tree.heads q p, count2)
 
   -- a member at the front of the chain
   module _ (x : ℕ) (step : link.step ≡ Name x) (firsts2 : ℕ → ℕ) (next : link.next ≡ firsts r) (put : IsPut firsts firsts2 r (length links))
       (free : look links firsts members elements r (Name x) ≡ 0) where
     less_f : link.next < length links
-    less_f = let h = first_in r in omega arith
+    less_f = omega (arith, first_in r)
 
     leads_f : Leads links firsts members elements links2 firsts2 members elements r (Name x)
     leads_f = record { here = here; others = others }
@@ -52,25 +49,23 @@ module _ (links : List Link) (firsts : ℕ → ℕ) (members elements : ℕ → 
             (ap (λ h. chain links2 (length links2) h x) put.here ∙ new_chain links link tree.next some less_f x (ap (λ s. is_name s x) step ∙ nat_self x))
             some
 
-        by_name : (q y : ℕ) → (q ≡ r → y ≢ x) → ((eqb q r ≡ true) × (q ≡ r)) ⊎ ((eqb q r ≡ false) × (q ≢ r))
-            → chain links2 (length links2) (firsts2 q) y ≡ chain links (length links) (firsts q) y
-        by_name q y ne (inl e) =
-            let named : is_name link.step y ≡ false = ap (λ s. is_name s y) step ∙ nat_other x y (λ f. ne e.1 (sym f)) in
-            ap (λ k. chain links2 (length links2) (firsts2 k) y) e.1 ∙ ap (λ h. chain links2 (length links2) h y) put.here
-            ∙ past_new links link tree.next some less_f y named ∙ ap (λ h. chain links (length links) h y) (next ∙ ap firsts (sym e.1))
-        by_name q y ne (inr e) = ap (λ h. chain links2 (length links2) h y) (put.other q e.1)
-            ∙ same_chain links link tree.next some less_f (firsts q) y (first_in q)
+        by_name : (q y : ℕ) → (q ≡ r → y ≢ x) → chain links2 (length links2) (firsts2 q) y ≡ chain links (length links) (firsts q) y
+        by_name q y ne = elim (cases_eq q r) [
+          | inl e ↦
+              let named : is_name link.step y ≡ false = ap (λ s. is_name s y) step ∙ nat_other x y (λ f. ne e (sym f)) in
+              rw (e, put.here) (past_new links link tree.next some less_f y named ∙ ap (λ h. chain links (length links) h y) next)
+          | inr e ↦ rw (put.other q e) (same_chain links link tree.next some less_f (firsts q) y (first_in q))
+        ]
 
         others : (q : ℕ) (t : Step) → ((q ≡ r) × (t ≡ Name x) → ⊥) → look links2 firsts2 members elements q t ≡ look links firsts members elements q t
-        others q (Name y) ne = ap (λ n. first_of_both n (members q y)) (by_name q y (λ e f. ne (e, ap Name f)) (eqb_tells q r))
+        others q (Name y) ne = ap (λ n. first_of_both n (members q y)) (by_name q y (λ e f. ne (e, ap Name f)))
         others q (Index i) ne = refl
 
     heads_f : (q : ℕ) → 0 < firsts2 q → firsts2 q < length links2
-    heads_f q p = by (eqb_tells q r)
-      where
-        by : ((eqb q r ≡ true) × (q ≡ r)) ⊎ ((eqb q r ≡ false) × (q ≢ r)) → firsts2 q < length links2
-        by (inl e) = let h = ap firsts2 e.1 ∙ put.here in let m = count2 in omega arith
-        by (inr e) = let h = put.other q e.1 in let o = first_in q in let m = count2 in omega arith
+    heads_f q p = elim (cases_eq q r) [
+      | inl e ↦ omega (arith, ap firsts2 e ∙ put.here, count2)
+      | inr e ↦ omega (arith, put.other q e, first_in q, count2)
+    ]
 
     pub first_grown : IsTree links2 firsts2 members elements
     first_grown = grown_tree links link tree.next some less_f firsts members elements tree r (Name x) there free parent step firsts2 members elements leads_f
@@ -120,12 +115,6 @@ module _ (links : List Link) (firsts : ℕ → ℕ) (members elements : ℕ → 
   pub hooked : (s : Step) (firsts2 : ℕ → ℕ) (members2 elements2 : ℕ → ℕ → ℕ)
       → Hooks firsts firsts2 members members2 elements elements2 r s (length links) link.next → link.step ≡ s → look links firsts members elements r s ≡ 0
       → IsTree links2 firsts2 members2 elements2
-  hooked (Name x) firsts2 members2 elements2 (inl h) step free =
-      subst (λ (e : ℕ → ℕ → ℕ). IsTree links2 firsts2 members2 e) (sym h.1)
-      (subst (λ (m : ℕ → ℕ → ℕ). IsTree links2 firsts2 m elements) (sym h.0.same) (first_grown x step firsts2 h.0.next_is h.0.put free))
-  hooked (Name x) firsts2 members2 elements2 (inr h) step free =
-      subst (λ (e : ℕ → ℕ → ℕ). IsTree links2 firsts2 members2 e) (sym h.other_same)
-      (subst (λ (f : ℕ → ℕ). IsTree links2 f members2 elements) (sym h.firsts_same) (member_grown x step h.next_is members2 h.put free))
-  hooked (Index i) firsts2 members2 elements2 h step free =
-      subst (λ (m : ℕ → ℕ → ℕ). IsTree links2 firsts2 m elements2) (sym h.other_same)
-      (subst (λ (f : ℕ → ℕ). IsTree links2 f members elements2) (sym h.firsts_same) (element_grown i step h.next_is elements2 h.put free))
+  hooked (Name x) firsts2 members2 elements2 (inl h) step free = rw (h.1, h.0.same) (first_grown x step firsts2 h.0.next_is h.0.put free)
+  hooked (Name x) firsts2 members2 elements2 (inr h) step free = rw (h.other_same, h.firsts_same) (member_grown x step h.next_is members2 h.put free)
+  hooked (Index i) firsts2 members2 elements2 h step free = rw (h.other_same, h.firsts_same) (element_grown i step h.next_is elements2 h.put free)

@@ -5,6 +5,7 @@ use Rattle.ksv_places.proofs.Common.{length-set, get_or_append_left, get_or-set_
 use Rattle.ksv_places.proofs.Common.{slice_get_within, get_or_from_slice_get, Step, NodeKind, all_named, AllFit}
 use Rattle.std.proofs.Common.{Bool, OnOk}
 use Rattle.std.specs.List.{IsDistinct}
+use Rattle.std.proofs.lemmas.Bool.{cases_eq, false_from_ne_true}
 use Rattle.std.proofs.lemmas.List.{map-append, map-set, reverse-reverse}
 use Rattle.std.proofs.lemmas.List.Elements.{recursion_from_All}
 use Rattle.std.proofs.lemmas.List.Folds.{list_any_none, list_any_at}
@@ -42,9 +43,7 @@ at_named ps i n e = slice_get-map named ps i ∙ ap (option_map named) e ∙ ap 
 
 pub from_named : (ps : List (NodeKind × List Step)) → AllFit ps → (i : ℕ) (n : Node) → slice_get (all_named ps) i ≡ Some n → slice_get ps i ≡ Some (pair_of n)
 from_named ps fit i n e =
-    let w = slice_get_within (all_named ps) i n e in
-    let c = length-map ps named in
-    let lt : i < length ps = omega arith in
+    let lt : i < length ps = omega (arith, slice_get_within (all_named ps) i n e, length-map ps named) in
     let d : NodeKind × List Step = pair_of n in
     let p = get_or ps i d in
     let at : slice_get ps i ≡ Some p = slice_get-get_or ps i d lt in
@@ -54,16 +53,9 @@ from_named ps fit i n e =
 
 -- a node that is not in the list
 module _ (ps : List (NodeKind × List Step)) (fit : AllFit ps) where
-  differs : (n m : Node) (i : ℕ) → ((j : ℕ) → slice_get ps j ≡ Some (pair_of n) → ⊥) → slice_get (all_named ps) i ≡ Some m → node_tests.eq n m ≡ false
-  differs n m i none at = by (node_tests.eq n m) refl
-    where
-      by : (b : Bool) → node_tests.eq n m ≡ b → node_tests.eq n m ≡ false
-      by true e = absurd (none i (from_named ps fit i n (at ∙ ap Some (sym (node_exact n m e)))))
-      by false e = e
-
   pub none_is : (n : Node) → ((j : ℕ) → slice_get ps j ≡ Some (pair_of n) → ⊥) → list_any (node_tests.eq n) (all_named ps) ≡ false
-  none_is n none = list_any_none (node_tests.eq n) (all_named ps)
-      (λ k d lt. differs n (get_or (all_named ps) k d) k none (slice_get-get_or (all_named ps) k d lt))
+  none_is n none = list_any_none (node_tests.eq n) (all_named ps) (λ k d lt. let m = get_or (all_named ps) k d in false_from_ne_true _ (λ e.
+      none k (from_named ps fit k n (slice_get-get_or (all_named ps) k d lt ∙ ap Some (sym (node_exact n m e))))))
 
   pub apart_named : ((i j : ℕ) → i < length ps → j < length ps → slice_get ps i ≡ slice_get ps j → i ≡ j) → (i j : ℕ) (n : Node)
       → slice_get (all_named ps) i ≡ Some n → slice_get (all_named ps) j ≡ Some n → i ≡ j
@@ -76,10 +68,9 @@ pub is_none : (ps : List (NodeKind × List Step)) (n : Node) → list_any (node_
     → ⊥
 is_none ps n none i e =
     let at = at_named ps i n e in
-    let found : list_any (node_tests.eq n) (all_named ps) ≡ true =
-    list_any_at (node_tests.eq n) (all_named ps) i n (slice_get_within (all_named ps) i n at)
+    let found = list_any_at (node_tests.eq n) (all_named ps) i n (slice_get_within (all_named ps) i n at)
     (ap (node_tests.eq n) (get_or_from_slice_get (all_named ps) i n n at) ∙ node_laws.refl n) in
-    absurd (let bad : true ≡ false = sym found ∙ none in cc)
+    cc
 
 no_nodes : IsDistinct node_tests.eq []
 unfolding IsDistinct
@@ -88,36 +79,22 @@ no_nodes = tt
 -- nodes at different places differ
 pub distinct : (ns : List Node) → ((i j : ℕ) (n : Node) → slice_get ns i ≡ Some n → slice_get ns j ≡ Some n → i ≡ j) → IsDistinct node_tests.eq ns
 distinct [] h = no_nodes
-distinct (n ∷ ns) h = IsDistinct-cons node_tests.eq n ns (recursion_from_All (λ y. node_tests.eq n y ≡ false) ns first)
-    (distinct ns (λ i j m a b. let e : suc i ≡ suc j = h (suc i) (suc j) m a b in omega arith))
-  where
-    first : (k : ℕ) (d : Node) → k < length ns → node_tests.eq n (get_or ns k d) ≡ false
-    first k d lt = by (node_tests.eq n (get_or ns k d)) refl
-      where
-        by : (b : Bool) → node_tests.eq n (get_or ns k d) ≡ b → node_tests.eq n (get_or ns k d) ≡ false
-        by true e = let same : zero ≡ suc k = h zero (suc k) n refl (slice_get-get_or ns k d lt ∙ ap Some (sym (node_exact n (get_or ns k d) e))) in absurd
-            (omega arith)
-        by false e = e
+distinct (n ∷ ns) h = IsDistinct-cons node_tests.eq n ns (recursion_from_All (λ y. node_tests.eq n y ≡ false) ns (λ k d lt. false_from_ne_true _ (λ e.
+    let same = h zero (suc k) n refl (slice_get-get_or ns k d lt ∙ ap Some (sym (node_exact n (get_or ns k d) e))) in omega arith)))
+    (distinct ns (λ i j m a b. omega (arith, h (suc i) (suc j) m a b)))
 
 -- all fit still with one more, and with another one
 pub fit_push : (ps : List (NodeKind × List Step)) (n : Node) → AllFit ps → AllFit (ps ++ pair_of n ∷ [])
-fit_push ps n fit k d l = by (cases_lt k (length ps))
-  where
-    by : (k < length ps) ⊎ (length ps ≤ k) → fits (get_or (ps ++ pair_of n ∷ []) k d).1 ≡ true
-    by (inl lt) = ap (λ (p : NodeKind × List Step). fits p.1) (get_or_append_left ps (pair_of n ∷ []) d k lt) ∙ fit k d lt
-    by (inr le) = let c = length_push ps (pair_of n) in let same : length ps ≡ k =
-        omega arith in ap (λ (p : NodeKind × List Step). fits p.1) (get_or_push ps (pair_of n) d k same) ∙ n.path.valid
+fit_push ps n fit k d l = elim (cases_lt k (length ps)) [
+  | inl lt ↦ rw (get_or_append_left ps (pair_of n ∷ []) d k lt) (fit k d lt)
+  | inr le ↦ rw (get_or_push ps (pair_of n) d k (omega (arith, length_push ps (pair_of n)))) n.path.valid
+]
 
 pub fit_set : (ps : List (NodeKind × List Step)) (place : ℕ) (n : Node) → AllFit ps → AllFit (set ps place (pair_of n))
-fit_set ps place n fit k d l = by (eqb_tells k place)
-  where
-    c : length (set ps place (pair_of n)) ≡ length ps
-    c = length-set ps place (pair_of n)
-
-    by : ((eqb k place ≡ true) × (k ≡ place)) ⊎ ((eqb k place ≡ false) × (k ≢ place)) → fits (get_or (set ps place (pair_of n)) k d).1 ≡ true
-    by (inl e) = let m = c in let f = e.1 in ap (λ j. fits (get_or (set ps place (pair_of n)) j d).1) e.1
-        ∙ ap (λ (p : NodeKind × List Step). fits p.1) (get_or-set_same ps place (pair_of n) d (omega arith)) ∙ n.path.valid
-    by (inr e) = let m = c in ap (λ (p : NodeKind × List Step). fits p.1) (get_or-set_other ps place k (pair_of n) d e.1) ∙ fit k d (omega arith)
+fit_set ps place n fit k d l = let c = length-set ps place (pair_of n) in elim (cases_eq k place) [
+  | inl e ↦ rw (e, get_or-set_same ps place (pair_of n) d (omega arith)) n.path.valid
+  | inr ne ↦ rw (get_or-set_other ps place k (pair_of n) d ne) (fit k d (omega arith))
+]
 
 pub named_push : (ps : List (NodeKind × List Step)) (n : Node) → all_named (ps ++ pair_of n ∷ []) ≡ all_named ps ++ n ∷ []
 named_push ps n = map-append named ps (pair_of n ∷ []) ∙ ap (λ (m : Node). all_named ps ++ m ∷ []) (named_back n)
@@ -127,4 +104,4 @@ named_set ps place n = map-set named ps place (pair_of n) ∙ ap (λ (m : Node).
 
 -- the steps of a node, in the order of the definitions
 pub steps_up : (n : Node) (steps : List Step) → steps ≡ reverse n.path.upward → (n.kind, reverse steps) ≡ pair_of n
-steps_up n steps e = ap (λ (q : List Step). (n.kind, q)) (ap (λ (q : List Step). reverse q) e ∙ reverse-reverse n.path.upward)
+steps_up n steps e = rw (e, reverse-reverse n.path.upward)

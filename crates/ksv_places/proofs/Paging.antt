@@ -1,8 +1,9 @@
 -- A number put into a page of a table, whose descent doesn't take its index.
 use Rattle.ksv_places.proofs.Common.{◌≡◌, ◌≢◌, ◌⊎◌, inl, inr, ℕ, ◌-◌, ◌≤◌, true, false, eqb, List, [], length, get_or, set, sym, ◌∙◌, ap, arith, eqb_tells}
 use Rattle.ksv_places.proofs.Common.{nat_tests, number_at, part_at, first_of_both, table_at, Pages, IsPut, IsApart, IsPartOf}
-use Rattle.std.proofs.Common.{◌/◌, ◌%◌, cond}
+use Rattle.std.proofs.Common.{◌/◌, ◌%◌, cond, refl}
 use Rattle.std.specs.Prelude.{nat_lt}
+use Rattle.std.proofs.lemmas.Bool.{cases_eq}
 use Rattle.std.proofs.lemmas.Grind.{common_steps}
 use Rattle.std.proofs.lemmas.List.{get_or_past}
 use Rattle.ksv_places.specs.Table.{descent_at, takes, page_at, Downwards}
@@ -29,22 +30,19 @@ module _ (t : Pages) (starts : List ℕ) (pages : List (List ℕ)) (i n : ℕ) (
 
   -- what another index finds: in another page, or in this one
   found : (k : ℕ) → (k / 1024 ≡ i / 1024 → number_at page (k % 1024) ≡ number_at (get_or pages (n - 1) []) (k % 1024)) → page_at after k ≡ page_at t k
-  found k e = by (eqb_tells (k / 1024) (i / 1024))
-    where
-      by : ((eqb (k / 1024) (i / 1024) ≡ true) × (k / 1024 ≡ i / 1024)) ⊎ ((eqb (k / 1024) (i / 1024) ≡ false) × (k / 1024 ≢ i / 1024))
-          → page_at after k ≡ page_at t k
-      by (inr f) = ap (λ x. number_at x (k % 1024)) (parts.others [] t.starts starts t.pages pages (i / 1024) n apart part same page (k / 1024) f.1)
-      by (inl f) = ap (λ q. number_at (part_at [] after.pages (number_at starts q)) (k % 1024)) f.1 ∙ ap (λ x. number_at x (k % 1024)) mine ∙ e f.1
-          ∙ ap (λ x. number_at x (k % 1024)) (sym old) ∙ ap (λ q. number_at (part_at [] t.pages (number_at t.starts q)) (k % 1024)) (sym f.1)
+  found k e = elim (cases_eq (k / 1024) (i / 1024)) [
+    | inl f ↦ rw (f, mine, old) (e f)
+    | inr f ↦ rw (parts.others [] t.starts starts t.pages pages (i / 1024) n apart part same page (k / 1024) f) refl
+  ]
 
   in_table : (k : ℕ) → page_at after k ≡ page_at t k → table_at after k ≡ table_at t k
-  in_table k e = ap (λ c. cond (nat_lt k 1024) (number_at t.near k) (first_of_both (descent_at t.descent k) c)) e
+  in_table k e = rw e refl
 
   -- a number was put
   pub page_put : (c : ℕ) → 1024 ≤ i → takes t.descent i ≡ false → IsPut (number_at (get_or pages (n - 1) [])) (number_at page) (i % 1024) c
       → IsPut (table_at t) (table_at after) i c
   page_put c far alone put = record {
-    here = far_at after i far ∙ ap (λ d. first_of_both d (page_at after i)) (apart_from t.descent i alone) ∙ ap (λ x. number_at x (i % 1024)) mine ∙ put.here;
+    here = far_at after i far ∙ rw (apart_from t.descent i alone, mine) put.here;
     other = λ k ne. in_table k (found k (λ e. put.other (k % 1024) (λ f. ne (omega arith))));
   }
 

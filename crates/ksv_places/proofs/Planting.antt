@@ -1,16 +1,17 @@
 -- The first path, the root.
 use Rattle.ksv_places.proofs.Common.{◌≡◌, ℕ, zero, suc, ◌<◌, [], ◌∷◌, length, refl, ◌∙◌, ap, subst, arith, Step, Name, Index, Link, first_of_both, chain, look}
 use Rattle.ksv_places.proofs.Common.{IsTree}
+use Rattle.std.proofs.lemmas.Bool.{cases_lt}
+use Rattle.std.proofs.Common.{inl, inr}
 use Rattle.ksv_places.proofs.Chains.{ended}
 
 -- where there are no links nothing leads anywhere, and so it is with the root alone
 module _ (firsts : ℕ → ℕ) (members elements : ℕ → ℕ → ℕ) (tree : IsTree [] firsts members elements) (link : Link) where
   none_first : (r : ℕ) → firsts r ≡ 0
-  none_first r = by (firsts r) refl
-    where
-      by : (n : ℕ) → firsts r ≡ n → firsts r ≡ 0
-      by zero e = e
-      by (suc n) e = let h = tree.heads r (omega arith) in absurd (omega arith)
+  none_first r = elim (cases_lt 0 (firsts r)) [
+    | inl p ↦ omega (arith, tree.heads r p)
+    | inr z ↦ omega arith
+  ]
 
   same : (r : ℕ) (s : Step) → look (link ∷ []) firsts members elements r s ≡ look [] firsts members elements r s
   same r (Name x) = ap (λ n. first_of_both n (members r x))
@@ -18,13 +19,13 @@ module _ (firsts : ℕ → ℕ) (members elements : ℕ → ℕ → ℕ) (tree :
   same r (Index i) = refl
 
   none : (r : ℕ) (s : Step) → 0 < look (link ∷ []) firsts members elements r s → ⊥
-  none r s p = let c = tree.sound r s (subst (λ n. 0 < n) (same r s) p) in let h = c.inside in absurd (omega arith)
+  none r s p = omega (arith, (tree.sound r s (rw (same r s) at p)).inside)
 
   pub planted : IsTree (link ∷ []) firsts members elements
   planted = record {
-    up = λ c p l. absurd (omega arith);
-    next = λ c p l. absurd (omega arith);
-    heads = λ r p. let h = none_first r in absurd (omega arith);
+    up = λ c p l. omega arith;
+    next = λ c p l. omega arith;
+    heads = λ r p. omega (arith, none_first r);
     sound = λ r s p. absurd (none r s p);
-    complete = λ c p l. absurd (omega arith);
+    complete = λ c p l. omega arith;
   }

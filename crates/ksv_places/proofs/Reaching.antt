@@ -2,18 +2,14 @@
 use Rattle.ksv_places.proofs.Common.{◌≡◌, ℕ, ◌+◌, ◌<◌, ◌≤◌, ◌⊎◌, inl, inr, List, [], ◌∷◌, ◌++◌, Some, length, get_or, take, reverse, refl, sym, ◌∙◌, ap, arith}
 use Rattle.ksv_places.proofs.Common.{slice_get, length_push, get_or_append_left, take_all, get_or_push, slice_get-get_or, slice_get_within}
 use Rattle.ksv_places.proofs.Common.{get_or_from_slice_get, Step, Link, paths_of, IsMore, EndsAt}
-use Rattle.std.proofs.Common.{append_assoc}
+use Rattle.std.proofs.Common.{append_assoc, append-nil}
 use Rattle.std.proofs.lemmas.List.{length-append}
 use Rattle.ksv_places.specs.declared.trace.Trace.{Trace}
 use Rattle.ksv_places.specs.Tree.{paths_from, IsGrown, IsFurther}
 use Rattle.ksv_places.proofs.Walking.{length-paths, root_at}
 
 pub same_more : (ps : List (List Step)) → IsMore ps ps
-same_more ps = record { more = []; grown = none ps }
-  where
-    none : (ps : List (List Step)) → ps ≡ ps ++ []
-    none [] = refl
-    none (p ∷ ps) = ap (λ (qs : List (List Step)). p ∷ qs) (none ps)
+same_more ps = record { more = []; grown = sym (append-nil ps) }
 
 pub more_more : (ps qs rs : List (List Step)) → IsMore ps qs → IsMore qs rs → IsMore ps rs
 more_more ps qs rs a b =
@@ -41,7 +37,7 @@ module _ (old new : List Link) (r : ℕ) (s : Step) (c : ℕ) (there : r < lengt
 
   pub grown_further : IsFurther old new r s c
   grown_further = record {
-    inside = (let n = ap (λ (ls : List Link). length ls) g.links in let m = length_push old g.link in let k = g.number in omega arith);
+    inside = omega (arith, ap (λ (ls : List Link). length ls) g.links, length_push old g.link, g.number);
     is = ap (λ (ps : List (List Step)). get_or ps c []) grown_paths ∙ get_or_push (paths_of old) _ [] c (length-paths old ∙ sym g.number)
         ∙ (λ i. g.step i ∷ get_or (paths_of old) (g.parent i) []);
   }
@@ -69,17 +65,11 @@ whole paths steps path count n e =
 -- it goes on from there, also among more paths
 pub goes_on : (old new : List (List Step)) (steps : List Step) (t : Trace) → IsMore old new → 0 < length new → get_or new 0 [] ≡ [] → EndsAt old steps t
     → (t.path < length new) × (get_or new t.path [] ≡ reverse (take t.steps steps))
-goes_on old new steps t m some root e = by e.path
-  where
-    by : (slice_get old t.path ≡ Some (reverse (take t.steps steps))) ⊎ ((old ≡ []) × (t.path ≡ 0) × (t.steps ≡ 0))
-        → (t.path < length new) × (get_or new t.path [] ≡ reverse (take t.steps steps))
-    by (inl at) =
-        let lt : t.path < length old = slice_get_within old t.path (reverse (take t.steps steps)) at in
-        let n : length new ≡ length old + length m.more = ap (λ (ps : List (List Step)). length ps) m.grown ∙ length-append old m.more in (
-          omega arith,
-          ap (λ (ps : List (List Step)). get_or ps t.path []) m.grown ∙ get_or_append_left old m.more [] t.path lt
-              ∙ get_or_from_slice_get old t.path (reverse (take t.steps steps)) [] at,
-        )
-    by (inr z) =
-        let p = z.1 in
-        (omega arith, ap (λ k. get_or new k []) z.1 ∙ root ∙ ap (λ k. reverse (take k steps)) (sym z.2))
+goes_on old new steps t m some root e = elim e.path [
+  | inl at ↦
+      let lt : t.path < length old = slice_get_within old t.path (reverse (take t.steps steps)) at in
+      let n : length new ≡ length old + length m.more = rw m.grown (length-append old m.more) in
+      let there = get_or_from_slice_get old t.path (reverse (take t.steps steps)) [] at in
+      (omega arith, rw m.grown (get_or_append_left old m.more [] t.path lt ∙ there))
+  | inr z ↦ (omega (arith, z.1), rw (z.1, z.2) root)
+]

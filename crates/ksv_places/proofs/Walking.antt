@@ -9,14 +9,13 @@ use Rattle.ksv_places.specs.Tree.{paths_from, IsChild}
 pub length-from : (ps : List (List Step)) (ls : List Link) → length (paths_from ps ls) ≡ length ps + length ls
 length-from ps [] = omega arith
 length-from ps (l ∷ ls) =
-    let a = length-from (ps ++ (l.step ∷ get_or ps l.parent []) ∷ []) ls in
-    let b = length_push ps (l.step ∷ get_or ps l.parent []) in omega arith
+    let x = l.step ∷ get_or ps l.parent [] in omega (arith, length-from (ps ++ x ∷ []) ls, length_push ps x)
 
 pub kept : (ps : List (List Step)) (ls : List Link) (i : ℕ) → i < length ps → get_or (paths_from ps ls) i [] ≡ get_or ps i []
 kept ps [] i lt = refl
 kept ps (l ∷ ls) i lt =
     let x : List Step = l.step ∷ get_or ps l.parent [] in
-    kept (ps ++ x ∷ []) ls i (let b = length_push ps x in omega arith) ∙ get_or_append_left ps (x ∷ []) [] i lt
+    kept (ps ++ x ∷ []) ls i (omega (arith, length_push ps x)) ∙ get_or_append_left ps (x ∷ []) [] i lt
 
 pub placed : (ps : List (List Step)) (ls : List Link) (k j : ℕ) → j ≡ length ps + k → k < length ls → (link_at ls k).parent < j
     → get_or (paths_from ps ls) j [] ≡ (link_at ls k).step ∷ get_or (paths_from ps ls) (link_at ls k).parent []
@@ -28,8 +27,7 @@ placed ps (l ∷ ls) zero j e lt up =
     let below : l.parent < length ps = omega arith in
     let there : get_or (paths_from (ps ++ x ∷ []) ls) l.parent [] ≡ get_or ps l.parent [] =
     kept (ps ++ x ∷ []) ls l.parent (omega arith) ∙ get_or_append_left ps (x ∷ []) [] l.parent below in
-    kept (ps ++ x ∷ []) ls j (omega arith) ∙ ap (λ n. get_or (ps ++ x ∷ []) n []) same ∙ get_or-append_seam ps x [] []
-    ∙ ap (λ (q : List Step). l.step ∷ q) (sym there)
+    rw (kept (ps ++ x ∷ []) ls j (omega arith), same, get_or-append_seam ps x [] [], there) refl
 placed ps (l ∷ ls) (suc k) j e lt up =
     let x : List Step = l.step ∷ get_or ps l.parent [] in
     let n = length_push ps x in
@@ -37,7 +35,7 @@ placed ps (l ∷ ls) (suc k) j e lt up =
 
 pub length-paths : (links : List Link) → length (paths_of links) ≡ length links
 length-paths [] = refl
-length-paths (l ∷ ls) = let a = length-from ([] ∷ []) ls in omega arith
+length-paths (l ∷ ls) = omega (arith, length-from ([] ∷ []) ls)
 
 pub root_at : (links : List Link) → 0 < length links → get_or (paths_of links) 0 [] ≡ []
 root_at [] lt = refl
@@ -49,15 +47,6 @@ path_at [] c p lt up = absurd (omega arith)
 path_at (l ∷ ls) zero p lt up = absurd (omega arith)
 path_at (l ∷ ls) (suc k) p lt up = placed ([] ∷ []) ls k (suc k) (omega arith) (omega arith) up
 
-head_same : (s t : Step) (p q : List Step) → s ∷ p ≡ t ∷ q → s ≡ t
-head_same s t p q e = cc
-
-tail_same : (s t : Step) (p q : List Step) → s ∷ p ≡ t ∷ q → p ≡ q
-tail_same s t p q e = cc
-
-no_root : (s : Step) (q p : List Step) → p ≡ [] → p ≡ s ∷ q → ⊥
-no_root s q p e f = absurd (cc)
-
 module _ (links : List Link) (firsts : ℕ → ℕ) (members elements : ℕ → ℕ → ℕ) (t : IsTree links firsts members elements) where
   -- a step further
   pub further : (r : ℕ) (s : Step) (q : List Step) → r < length links → get_or (paths_of links) r [] ≡ q → 0 < look links firsts members elements r s
@@ -68,16 +57,14 @@ module _ (links : List Link) (firsts : ℕ → ℕ) (members elements : ℕ → 
       path_at links c some k.inside (t.up c some k.inside) ∙ (λ i. k.step i ∷ get_or (paths_of links) (k.parent i) []) ∙ ap (λ (p : List Step). s ∷ p) is
 
   pub inside : (r : ℕ) (s : Step) → r < length links → 0 < look links firsts members elements r s → look links firsts members elements r s < length links
-  inside r s lt some = let k : IsChild links r s (look links firsts members elements r s) = t.sound r s some in k.inside
+  inside r s lt some = (t.sound r s some).inside
 
   -- it has a larger number
   pub beyond : (r : ℕ) (s : Step) → 0 < look links firsts members elements r s → r < look links firsts members elements r s
   beyond r s some =
       let c = look links firsts members elements r s in
       let k : IsChild links r s c = t.sound r s some in
-      let up : (link_at links c).parent < c = t.up c some k.inside in
-      let p = k.parent in
-      omega arith
+      omega (arith, t.up c some k.inside, k.parent)
 
   record Parts (i : ℕ) (s : Step) (q : List Step) : Type 0 where
     pub step : (link_at links i).step ≡ s
@@ -88,15 +75,15 @@ module _ (links : List Link) (firsts : ℕ → ℕ) (members elements : ℕ → 
   parts i s q p lt e =
       let up : (link_at links i).parent < i = t.up i p lt in
       let f = sym (path_at links i p lt up) ∙ e in
-      record { step = head_same _ _ _ _ f; path = tail_same _ _ _ _ f; there = omega arith }
+      record { step = cc; path = cc; there = omega arith }
 
   -- no two numbers have one path
   pub one_path : (q : List Step) (i j : ℕ) → i < length links → j < length links → get_or (paths_of links) i [] ≡ q → get_or (paths_of links) j [] ≡ q → i ≡ j
   one_path [] zero zero li lj e f = refl
-  one_path [] (suc i) j li lj e f = absurd (no_root _ _ _ e (path_at links (suc i) (omega arith) li (t.up (suc i) (omega arith) li)))
-  one_path [] zero (suc j) li lj e f = absurd (no_root _ _ _ f (path_at links (suc j) (omega arith) lj (t.up (suc j) (omega arith) lj)))
-  one_path (s ∷ q) zero j li lj e f = absurd (no_root s q _ (root_at links (omega arith)) e)
-  one_path (s ∷ q) (suc i) zero li lj e f = absurd (no_root s q _ (root_at links (omega arith)) f)
+  one_path [] (suc i) j li lj e f = cc (path_at links (suc i) (omega arith) li (t.up (suc i) (omega arith) li))
+  one_path [] zero (suc j) li lj e f = cc (path_at links (suc j) (omega arith) lj (t.up (suc j) (omega arith) lj))
+  one_path (s ∷ q) zero j li lj e f = cc (root_at links (omega arith))
+  one_path (s ∷ q) (suc i) zero li lj e f = cc (root_at links (omega arith))
   one_path (s ∷ q) (suc i) (suc j) li lj e f =
       let a = parts (suc i) s q (omega arith) li e in
       let b = parts (suc j) s q (omega arith) lj f in
@@ -107,13 +94,13 @@ module _ (links : List Link) (firsts : ℕ → ℕ) (members elements : ℕ → 
   -- where there is no path a step further, there is none beyond it
   pub none_beyond : (ws : List Step) (s : Step) (q : List Step) (r : ℕ) → r < length links → get_or (paths_of links) r [] ≡ q
       → look links firsts members elements r s ≡ 0 → (i : ℕ) → i < length links → get_or (paths_of links) i [] ≡ ws ++ s ∷ q → ⊥
-  none_beyond [] s q r lr er f zero li e = no_root s q _ (root_at links (omega arith)) e
+  none_beyond [] s q r lr er f zero li e = cc (root_at links (omega arith))
   none_beyond [] s q r lr er f (suc i) li e =
       let a = parts (suc i) s q (omega arith) li e in
       let p = one_path q (link_at links (suc i)).parent r a.there lr a.path er in
       let zero_is : suc i ≡ 0 = sym (t.complete (suc i) (omega arith) li) ∙ (λ k. look links firsts members elements (p k) (a.step k)) ∙ f in
       absurd (omega arith)
-  none_beyond (w ∷ ws) s q r lr er f zero li e = no_root w (ws ++ s ∷ q) _ (root_at links (omega arith)) e
+  none_beyond (w ∷ ws) s q r lr er f zero li e = cc (root_at links (omega arith))
   none_beyond (w ∷ ws) s q r lr er f (suc i) li e =
       let a = parts (suc i) w (ws ++ s ∷ q) (omega arith) li e in
       none_beyond ws s q r lr er f (link_at links (suc i)).parent a.there a.path
@@ -125,8 +112,7 @@ module _ (links : List Link) (firsts : ℕ → ℕ) (members elements : ℕ → 
       let rest = drop (suc k) steps in
       let whole : steps ≡ (take k steps ++ s ∷ []) ++ rest =
       sym (take-append-drop (suc k) steps) ∙ ap (λ (xs : List Step). xs ++ rest) (take-suc steps k (Name 0) lt) in
-      let turned : reverse steps ≡ reverse rest ++ s ∷ reverse (take k steps) =
-      ap (λ (xs : List Step). reverse xs) whole ∙ reverse-append (take k steps ++ s ∷ []) rest
+      let turned = ap (λ (xs : List Step). reverse xs) whole ∙ reverse-append (take k steps ++ s ∷ []) rest
       ∙ ap (λ (xs : List Step). reverse rest ++ xs) (reverse-append (take k steps) (s ∷ [])) in
       none_beyond (reverse rest) s (reverse (take k steps)) r lr er f i li (e ∙ turned)
 
