@@ -1,6 +1,6 @@
 -- A further path.
-use Rattle.ksv_places.proofs.Common.{◌≡◌, ◌≢◌, ◌⊎◌, inl, inr, ℕ, ◌+◌, ◌<◌, ◌≤◌, true, false, List, [], ◌∷◌, ◌++◌, length, sym, ◌∙◌, ap, subst, arith, eqb}
-use Rattle.ksv_places.proofs.Common.{length_push, get_or_append_left, cases_lt, eqb_tells, nat_tests, Step, Name, Index, Link, link_at, chain, look, is_name}
+use Rattle.ksv_places.proofs.Common.{◌≡◌, ◌≢◌, ◌⊎◌, inl, inr, ℕ, ◌+◌, ◌<◌, true, false, List, [], ◌∷◌, ◌++◌, length, sym, ◌∙◌, arith}
+use Rattle.ksv_places.proofs.Common.{length_push, get_or_append_left, cases_lt, nat_tests, Step, Link, link_at, chain, look, is_name}
 use Rattle.ksv_places.proofs.Common.{IsTree}
 use Rattle.std.proofs.Common.{nat_eq}
 use Rattle.std.proofs.lemmas.Bool.{cases_eq}

@@ -1,9 +1,9 @@
 -- Nodes and their kinds and steps.
-use Rattle.ksv_places.proofs.Common.{◌≡◌, ◌≢◌, eqb, ℕ, zero, suc, ◌<◌, ◌≤◌, ◌⊎◌, inl, inr, true, false, List, [], ◌∷◌, ◌++◌, length, get_or, set, reverse, Some}
+use Rattle.ksv_places.proofs.Common.{◌≡◌, ℕ, zero, suc, ◌<◌, inl, inr, true, false, List, [], ◌∷◌, ◌++◌, length, get_or, set, reverse, Some}
 use Rattle.ksv_places.proofs.Common.{refl, sym, ◌∙◌, ap, arith, slice_get, Result, Ok, Err, OnErr, list_any, option_map, cases_lt, length-map, length_push}
-use Rattle.ksv_places.proofs.Common.{length-set, get_or_append_left, get_or-set_same, get_or-set_other, get_or_push, eqb_tells, slice_get-map, slice_get-get_or}
+use Rattle.ksv_places.proofs.Common.{length-set, get_or_append_left, get_or-set_same, get_or-set_other, get_or_push, slice_get-map, slice_get-get_or}
 use Rattle.ksv_places.proofs.Common.{slice_get_within, get_or_from_slice_get, Step, NodeKind, all_named, AllFit}
-use Rattle.std.proofs.Common.{Bool, OnOk}
+use Rattle.std.proofs.Common.{OnOk}
 use Rattle.std.specs.List.{IsDistinct}
 use Rattle.std.proofs.lemmas.Bool.{cases_eq, false_from_ne_true}
 use Rattle.std.proofs.lemmas.List.{map-append, map-set, reverse-reverse}

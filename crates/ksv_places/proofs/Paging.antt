@@ -1,8 +1,7 @@
 -- A number put into a page of a table, whose descent doesn't take its index.
-use Rattle.ksv_places.proofs.Common.{◌≡◌, ◌≢◌, ◌⊎◌, inl, inr, ℕ, ◌-◌, ◌≤◌, true, false, eqb, List, [], length, get_or, set, sym, ◌∙◌, ap, arith, eqb_tells}
+use Rattle.ksv_places.proofs.Common.{◌≡◌, inl, inr, ℕ, ◌-◌, ◌≤◌, false, List, [], length, get_or, set, ◌∙◌, ap, arith}
 use Rattle.ksv_places.proofs.Common.{nat_tests, number_at, part_at, first_of_both, table_at, Pages, IsPut, IsApart, IsPartOf}
-use Rattle.std.proofs.Common.{◌/◌, ◌%◌, cond, refl}
-use Rattle.std.specs.Prelude.{nat_lt}
+use Rattle.std.proofs.Common.{◌/◌, ◌%◌, refl}
 use Rattle.std.proofs.lemmas.Bool.{cases_eq}
 use Rattle.std.proofs.lemmas.Grind.{common_steps}
 use Rattle.std.proofs.lemmas.List.{get_or_past}

@@ -1,5 +1,5 @@
 -- The first path, the root.
-use Rattle.ksv_places.proofs.Common.{◌≡◌, ℕ, zero, suc, ◌<◌, [], ◌∷◌, length, refl, ◌∙◌, ap, subst, arith, Step, Name, Index, Link, first_of_both, chain, look}
+use Rattle.ksv_places.proofs.Common.{◌≡◌, ℕ, ◌<◌, [], ◌∷◌, length, refl, ◌∙◌, ap, arith, Step, Name, Index, Link, first_of_both, chain, look}
 use Rattle.ksv_places.proofs.Common.{IsTree}
 use Rattle.std.proofs.lemmas.Bool.{cases_lt}
 use Rattle.std.proofs.Common.{inl, inr}

@@ -1,5 +1,5 @@
 -- More paths with numbers, and where a search goes on among them.
-use Rattle.ksv_places.proofs.Common.{◌≡◌, ℕ, ◌+◌, ◌<◌, ◌≤◌, ◌⊎◌, inl, inr, List, [], ◌∷◌, ◌++◌, Some, length, get_or, take, reverse, refl, sym, ◌∙◌, ap, arith}
+use Rattle.ksv_places.proofs.Common.{◌≡◌, ℕ, ◌+◌, ◌<◌, ◌≤◌, inl, inr, List, [], ◌∷◌, ◌++◌, Some, length, get_or, take, reverse, refl, sym, ◌∙◌, ap, arith}
 use Rattle.ksv_places.proofs.Common.{slice_get, length_push, get_or_append_left, take_all, get_or_push, slice_get-get_or, slice_get_within}
 use Rattle.ksv_places.proofs.Common.{get_or_from_slice_get, Step, Link, paths_of, IsMore, EndsAt}
 use Rattle.std.proofs.Common.{append_assoc, append-nil}

@@ -1,5 +1,5 @@
 -- One part put in another's place: a page of a table, or a path's table.
-use Rattle.ksv_places.proofs.Common.{◌≡◌, ◌≢◌, ℕ, zero, suc, ◌-◌, ◌<◌, ◌≤◌, List, length, get_or, set, refl, sym, ◌∙◌, ap, arith, get_or-set_same}
+use Rattle.ksv_places.proofs.Common.{◌≡◌, ◌≢◌, ℕ, zero, suc, ◌-◌, ◌<◌, ◌≤◌, List, length, get_or, set, refl, sym, ◌∙◌, arith, get_or-set_same}
 use Rattle.ksv_places.proofs.Common.{get_or-set_other, number_at, part_at, IsApart, IsPartOf}
 
 module _ {T : Type 0} (none : T) where

@@ -1,5 +1,5 @@
 -- A number put into a path's table.
-use Rattle.ksv_places.proofs.Common.{◌≡◌, ◌≢◌, ◌⊎◌, inl, inr, ℕ, ◌-◌, true, false, eqb, List, length, get_or, set, sym, ◌∙◌, ap, eqb_tells, number_at, part_at}
+use Rattle.ksv_places.proofs.Common.{◌≡◌, ◌≢◌, inl, inr, ℕ, ◌-◌, List, length, get_or, set, ap, number_at, part_at}
 use Rattle.ksv_places.proofs.Common.{table_at, shelf_at, Pages, IsPut, IsPutAt, IsApart, IsPartOf}
 use Rattle.std.proofs.Common.{refl}
 use Rattle.std.proofs.lemmas.Bool.{cases_eq}

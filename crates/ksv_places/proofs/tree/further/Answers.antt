@@ -1,4 +1,4 @@
-use Rattle.ksv_places.proofs.Common.{◌≡◌, ◌<◌, ℕ, List, [], Ok, Err, Result, OnErr, length, get_or, sym, ◌∙◌, ap, subst, refl, arith, Step, Link, number_at}
+use Rattle.ksv_places.proofs.Common.{◌≡◌, ◌<◌, ℕ, List, [], Ok, Err, Result, OnErr, length, get_or, ◌∙◌, refl, arith, Step, Link, number_at}
 use Rattle.ksv_places.proofs.Common.{shelf_at, look, paths_of, IsMore}
 use Rattle.std.proofs.Common.{IfOk}
 use Rattle.ksv_places.specs.Tree.{IsFurther, IsGrown}
@@ -9,7 +9,7 @@ use Rattle.ksv_places.proofs.tree.further.Goals as goal
 more_by : {E : Type 0} (old new : List Link) (r : ℕ) (s : Step) → r < length old → (x : Result ℕ E) → IfOk x (λ c. IsGrown old new r s c) → OnErr x (new ≡ old)
     → IsMore (paths_of old) (paths_of new)
 more_by old new r s lt (Ok c) h k = grown_more old new r s c lt h
-more_by old new r s lt (Err e) h k = subst (λ (ls : List Link). IsMore (paths_of old) (paths_of ls)) (sym k) (same_more (paths_of old))
+more_by old new r s lt (Err e) h k = rw k (same_more (paths_of old))
 
 further_by : {E : Type 0} (old new : List Link) (r : ℕ) (s : Step) → r < length old → (x : Result ℕ E) → IfOk x (λ c. IsGrown old new r s c)
     → IfOk x (λ c. IsFurther old new r s c)
@@ -32,9 +32,8 @@ returns-clause-ok c =
     let elements = shelf_at c.args.elements.now in
     let k = look links firsts members elements c.args.path c.args.step in
     let is : c.look-number.result ≡ k = c.look-number.ensures ∙ (λ i. look (c.as_slice.ensures.value i) firsts members elements c.args.path c.args.step) in
-    let some : 0 < k = (let h = c.if-number-eq0.false in omega arith) in
+    let some : 0 < k = omega (arith, c.if-number-eq0.false) in
     record {
-      inside = subst (λ n. n < length links) (sym is) (inside links firsts members elements c.requires.tree c.args.path c.args.step c.requires.there some);
-      is = ap (λ n. get_or (paths_of links) n []) is ∙ further links firsts members elements c.requires.tree c.args.path c.args.step
-          (get_or (paths_of links) c.args.path []) c.requires.there refl some;
+      inside = rw is (inside links firsts members elements c.requires.tree c.args.path c.args.step c.requires.there some);
+      is = rw is (further links firsts members elements c.requires.tree c.args.path c.args.step (get_or (paths_of links) c.args.path []) c.requires.there refl some);
     }

@@ -1,5 +1,4 @@
-use Rattle.ksv_places.proofs.Common.{◌≡◌, ◌++◌, ◌∷◌, [], length, sym, ◌∙◌, ap, subst, Link, number_at, shelf_at, IsTree}
-use Rattle.ksv_places.specs.Tree.{Hooks}
+use Rattle.ksv_places.proofs.Common.{◌≡◌, length, ◌∙◌, ap, Link, number_at, shelf_at}
 use Rattle.ksv_places.proofs.Hooking.{hooked}
 use Rattle.ksv_places.proofs.tree.grow.Goals as goal
 
@@ -14,7 +13,7 @@ returns-clause-tree c =
     let elements2 = shelf_at c.hook.new.elements in
     let link : Link = record { parent = c.args.path; step = c.args.step; next = c.in_ok-next.next } in
     let n : c.in_ok-number.number ≡ length links = c.in_ok-number.ensures ∙ ap (λ ls. length ls) c.as_slice.ensures.value in
-    let h = subst (λ k. Hooks firsts firsts2 members members2 elements elements2 c.args.path c.args.step k c.in_ok-next.next) n c.in_ok-next.ensures.ok in
+    let h = rw n at c.in_ok-next.ensures.ok in
     let t = hooked links firsts members elements c.requires.tree c.args.path c.requires.there link (λ _. c.args.path) c.args.step firsts2 members2 elements2 h
     (λ _. c.args.step) c.requires.free in
-    subst (λ ls. IsTree ls firsts2 members2 elements2) (sym (c.push_reserved.ensures.items ∙ ap (λ ls. ls ++ link ∷ []) c.reserve.ensures.items)) t
+    rw (c.push_reserved.ensures.items, c.reserve.ensures.items) t

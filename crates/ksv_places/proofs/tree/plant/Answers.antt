@@ -1,5 +1,4 @@
-use Rattle.ksv_places.proofs.Common.{◌≡◌, ℕ, suc, true, List, [], ◌∷◌, ◌++◌, length, sym, ◌∙◌, ap, subst, refl, arith, nat_tests, Name, Link, paths_of, IsTree}
-use Rattle.ksv_places.proofs.Common.{IsMore}
+use Rattle.ksv_places.proofs.Common.{◌≡◌, ℕ, suc, true, List, [], ◌∷◌, length, sym, ◌∙◌, ap, refl, arith, nat_tests, Name, Link, paths_of}
 use Rattle.std.specs.Bool.{◌==◌}
 use Rattle.ksv_places.proofs.Planting.{planted}
 use Rattle.ksv_places.proofs.Reaching.{from_none}
@@ -16,13 +15,11 @@ pub returns-in_ok-push-clause-more : goal.returns-in_ok-push-clause-more
 returns-in_ok-push-clause-more c =
     let none : c.args.links.now.items ≡ [] = none_there _
     (ap (λ ls. length ls == 0) (sym c.as_slice.ensures.value) ∙ sym c.is_empty.ensures ∙ c.if-is_empty.true) in
-    subst (λ (ls : List Link). IsMore (paths_of ls) (paths_of c.push.new.self.items)) (sym none) (from_none (paths_of c.push.new.self.items))
+    rw none (from_none (paths_of c.push.new.self.items))
 
 pub returns-in_ok-push-clause-tree : goal.returns-in_ok-push-clause-tree
 returns-in_ok-push-clause-tree c firsts members elements tree =
     let none : c.args.links.now.items ≡ [] = none_there _
     (ap (λ ls. length ls == 0) (sym c.as_slice.ensures.value) ∙ sym c.is_empty.ensures ∙ c.if-is_empty.true) in
     let link : Link = record { parent = 0; step = Name 0; next = 0 } in
-    let pushed : c.push.new.self.items ≡ link ∷ [] = c.in_ok-push.ensures.items ∙ ap (λ ls. ls ++ link ∷ []) none in
-    subst (λ ls. IsTree ls firsts members elements) (sym pushed)
-    (planted firsts members elements (subst (λ ls. IsTree ls firsts members elements) none tree) link)
+    rw (c.in_ok-push.ensures.items, none) (planted firsts members elements (rw none at tree) link)

@@ -1,6 +1,5 @@
-use Rattle.ksv_places.proofs.Common.{◌≡◌, false, List, Some, sym, ◌∙◌, ap, subst, slice_get, list_any, Step, NodeKind, Placed, all_named, AllFit, EndsAt}
+use Rattle.ksv_places.proofs.Common.{◌≡◌, false, List, Some, sym, ◌∙◌, ap, subst, slice_get, list_any, Step, NodeKind, Placed, all_named, AllFit}
 use Rattle.std.proofs.Common.{Option, None}
-use Rattle.std.specs.List.{IsDistinct}
 use Rattle.std.specs.Option.{IfSome, IfNone}
 use Rattle.ksv_nodes.specs.contracts.node.NodePartialEq.TheImpl.{ghosts as node_tests}
 use Rattle.ksv_places.proofs.Naming.{at_named, none_is, apart_named, distinct, steps_up}
@@ -15,7 +14,7 @@ if_none None P Q f h = f h
 if_none (Some x) P Q f h = tt
 
 pub invariant_of-self : goal.invariant_of-self
-invariant_of-self c = subst AllFit (sym c.find.ensures.nodes) c.self.invariant
+invariant_of-self c = rw c.find.ensures.nodes c.self.invariant
 
 pub returns-clause-some : goal.returns-clause-some
 returns-clause-some c =
@@ -33,7 +32,7 @@ returns-clause-none c =
     none_is ps fit n (λ i e. none i (e ∙ ap Some (sym (steps_up n c.steps.result.now c.steps.ensures))))) c.find.ensures.none
 
 pub returns-clause-ends : goal.returns-clause-ends
-returns-clause-ends c = subst (λ (s : List Step). EndsAt c.find.new.self.paths s c.find.new.self.end) c.steps.ensures c.find.ensures.ends
+returns-clause-ends c = rw c.steps.ensures at c.find.ensures.ends
 
 pub returns-clause-nodes : goal.returns-clause-nodes
 returns-clause-nodes c = ap all_named c.find.ensures.nodes ∙ ap (λ (p : Placed). p.nodes) c.self.view_is
@@ -41,5 +40,4 @@ returns-clause-nodes c = ap all_named c.find.ensures.nodes ∙ ap (λ (p : Place
 pub returns-clause-unique : goal.returns-clause-unique
 returns-clause-unique c =
     let ps : List (NodeKind × List Step) = c.self.inside.spots.nodes in
-    subst (λ (ns : List (NodeKind × List Step)). IsDistinct node_tests.eq (all_named ns)) (sym c.find.ensures.nodes)
-    (distinct _ (apart_named ps c.self.invariant c.apart.ensures))
+    rw c.find.ensures.nodes (distinct _ (apart_named ps c.self.invariant c.apart.ensures))

@@ -1,5 +1,5 @@
-use Rattle.ksv_places.proofs.Common.{◌≡◌, ℕ, ◌+◌, ◌++◌, ◌∷◌, List, [], Some, length, set, reverse, ◌∙◌, sym, ap, subst, arith, slice_get, length_push, Step}
-use Rattle.ksv_places.proofs.Common.{NodeKind, Row, spots_of, with_mark, row_at, nodes_of, IsFiled, Spotted, EndsAt}
+use Rattle.ksv_places.proofs.Common.{◌≡◌, ℕ, ◌+◌, ◌++◌, ◌∷◌, [], Some, length, set, reverse, ◌∙◌, sym, ap, subst, arith, slice_get, length_push}
+use Rattle.ksv_places.proofs.Common.{spots_of, with_mark, row_at, nodes_of, Spotted, EndsAt}
 use Rattle.ksv_places.proofs.Filing.{filed_more, nodes_same, open_behind, no_mark, filed_push, nodes_push}
 use Rattle.ksv_places.proofs.Pairing.{count, on_err, pushed}
 use Rattle.ksv_places.proofs.spots.Spots.add.Goals as goal
@@ -26,9 +26,7 @@ invariant_of-self-2 c =
     let ok = c.in_ok-path.ensures.ok in
     let filed = filed_more t.tree paths t.rows.items rows spots c.self.invariant.filed c.make_row.ensures.roomed in
     let same = nodes_same t.tree paths t.rows.items rows spots c.self.invariant.filed c.make_row.ensures.roomed in
-    let free : (i : ℕ) → slice_get (nodes_of paths spots) i ≡ Some (kind, q)
-    → ⊥ = subst (λ (ns : List (NodeKind × List Step)). (i : ℕ) → slice_get ns i ≡ Some (kind, q) → ⊥)
-    (sym (same ∙ ap (λ (s : Spotted). s.nodes) c.self.view_is)) c.requires.none in
+    let free : (i : ℕ) → slice_get (nodes_of paths spots) i ≡ Some (kind, q) → ⊥ = rw (same, ap (λ (s : Spotted). s.nodes) c.self.view_is) c.requires.none in
     let mark : c.in_ok-mark.mark ≡ length spots + 1 =
     c.in_ok-mark.ensures
     ∙ ap (λ n. n + 1) (c.in_ok-count.ensures ∙ ap (λ rs. length rs) c.as_slice.ensures.value
@@ -42,12 +40,10 @@ invariant_of-self-2 c =
     let none = no_mark paths rows spots filed kind q path ok.0 free in
     let done = filed_push paths rows spots (length spots) (open_behind paths rows spots filed) path kind ok.1 none filed.few (λ _. length spots) in
     let both : length c.push_reserved-2.new.self.items ≡ length c.push_reserved.new.self.items =
-    (let a = ap length rs in let b = ap length ks in let n = length_push t.paths.items path in let m = length_push t.kinds.items kind in let e =
-    c.self.invariant.both in omega arith) in
+    omega (arith, ap length rs, ap length ks, length_push t.paths.items path, length_push t.kinds.items kind, c.self.invariant.both) in
     record {
       both = both;
-      filed = subst (λ (x : List Row). IsFiled paths x (spots_of c.push_reserved.new.self.items c.push_reserved-2.new.self.items)) (sym wrote)
-          (subst (λ ss. IsFiled paths (set rows path (with_mark (row_at rows path) kind (length spots + 1))) ss) (sym grown) done);
+      filed = rw (wrote, grown) done;
     }
 
 pub returns-clause-ok : goal.returns-clause-ok
@@ -65,5 +61,4 @@ returns-clause-ok c =
     let ks = c.push_reserved-2.ensures.items ∙ ap (λ xs. xs ++ kind ∷ []) c.reserve-2.ensures.items in
     let grown : spots_of c.push_reserved.new.self.items c.push_reserved-2.new.self.items ≡ spots ++ record { path = path; kind = kind } ∷ [] =
     (λ i. spots_of (rs i) (ks i)) ∙ pushed t.paths.items t.kinds.items c.self.invariant.both path kind in
-    ap (λ ss. nodes_of paths ss) grown ∙ nodes_push paths spots kind q path ok.0
-    ∙ ap (λ ns. ns ++ (kind, q) ∷ []) (same ∙ ap (λ (s : Spotted). s.nodes) c.self.view_is)
+    rw grown (nodes_push paths spots kind q path ok.0 ∙ ap (λ ns. ns ++ (kind, q) ∷ []) (same ∙ ap (λ (s : Spotted). s.nodes) c.self.view_is))

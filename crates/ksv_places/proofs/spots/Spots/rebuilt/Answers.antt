@@ -7,16 +7,15 @@ use Rattle.ksv_places.proofs.spots.Spots.rebuilt.Goals as goal
 -- an element among the first ones is at the same place of the whole
 of_whole : {X : Type 0} (xs : List X) (n i : ℕ) (x d : X) → n ≤ length xs → slice_get (take n xs) i ≡ Some x → (i < n) × (slice_get xs i ≡ Some x)
 of_whole xs n i x d few e =
-    let w = slice_get_within (take n xs) i x e in
     let c = length-take n xs in
-    let l : i < n = omega arith in
+    let l : i < n = omega (arith, slice_get_within (take n xs) i x e) in
     (l, slice_get-get_or xs i d (omega arith) ∙ ap Some (sym (get_or-take n xs i d l) ∙ get_or_from_slice_get (take n xs) i x d e))
 
 pub add-requires-clause-none : goal.add-requires-clause-none
 add-requires-clause-none c = λ i e.
     let ns : List (NodeKind × List Step) = c.args.self.now.nodes in
     let n = c.loop-place.place in
-    let lt : n < length ns = (let t = c.loop-place-test.true in let h = c.requires in omega arith) in
+    let lt : n < length ns = omega (arith, c.loop-place-test.true, c.requires) in
     let node : NodeKind × List Step = (c.in_ok-kind.kind, reverse c.node_at.new.steps.items) in
     let at : slice_get ns n ≡ Some node = c.in_ok-kind.ensures in
     let e1 : slice_get (take n ns) i ≡ Some node = ap (λ (xs : List (NodeKind × List Step)). slice_get xs i)
@@ -31,7 +30,7 @@ pub loop-place-preserved : goal.loop-place-preserved
 loop-place-preserved c =
     let ns : List (NodeKind × List Step) = c.args.self.now.nodes in
     let n = c.loop-place.place in
-    let lt : n < length ns = (let t = c.loop-place-test.true in let h = c.requires in omega arith) in
+    let lt : n < length ns = omega (arith, c.loop-place-test.true, c.requires) in
     let node : NodeKind × List Step = (c.in_ok-kind.kind, reverse c.node_at.new.steps.items) in
     let at : slice_get ns n ≡ Some node = c.in_ok-kind.ensures in
     c.in_ok-add.ensures.ok

@@ -1,5 +1,5 @@
-use Rattle.ksv_places.proofs.Common.{◌≡◌, ◌<◌, ℕ, List, [], Some, zero, suc, false, length, get_or, reverse, sym, ◌∙◌, ap, subst, arith, refl, slice_get}
-use Rattle.ksv_places.proofs.Common.{slice_get-get_or, take_all, Step, Name, number_at, shelf_at, look, paths_of, EndsAt}
+use Rattle.ksv_places.proofs.Common.{◌≡◌, ◌<◌, ℕ, List, [], Some, zero, suc, false, length, get_or, reverse, sym, ◌∙◌, ap, arith, refl}
+use Rattle.ksv_places.proofs.Common.{slice_get-get_or, take_all, Step, Name, number_at, shelf_at, look, paths_of}
 use Rattle.std.specs.Bool.{◌==◌}
 use Rattle.ksv_places.proofs.Walking.{length-paths, root_at, further, inside, no_path, beyond, more}
 use Rattle.ksv_places.proofs.Reaching.{stopped, whole}
@@ -23,21 +23,21 @@ returns-then-next-eq0-clause-none c =
     let is : look t.links.items (number_at t.firsts) (shelf_at t.members) (shelf_at t.elements) r s ≡ 0 =
     sym (c.look-next.ensures ∙ (λ i. look (c.as_slice-in-loop-count.ensures.value i) (number_at t.firsts) (shelf_at t.members) (shelf_at t.elements) r s))
     ∙ c.if-next-eq0.true in
-    subst (λ (ps : List (List Step)). (i : ℕ) → i < length ps → get_or ps i [] ≡ reverse c.args.steps.now → ⊥) c.self.view_is
+    rw (← c.self.view_is)
     (λ i lt e. no_path t.links.items (number_at t.firsts) (shelf_at t.members) (shelf_at t.elements) c.self.invariant c.args.steps.now c.loop-count.count r
-    c.loop-count-test.true c.loop-count.invariant.0 c.loop-count.invariant.1 is i (let n = length-paths t.links.items in omega arith) e)
+    c.loop-count-test.true c.loop-count.invariant.0 c.loop-count.invariant.1 is i (omega (arith, length-paths t.links.items)) e)
 
 pub overflow_cast-end : goal.overflow_cast-end
-overflow_cast-end c = let few = c.loop-count.invariant.2 in let fits = c.loop-count.invariant.3 in omega arith
+overflow_cast-end c = omega (arith, c.loop-count.invariant.2, c.loop-count.invariant.3)
 
 pub returns-then-next-eq0-clause-ends : goal.returns-then-next-eq0-clause-ends
 returns-then-next-eq0-clause-ends c =
     let links = c.self.inside.links.items in
     let r = c.loop-count.path in
     let h = c.loop-count-test.true in
-    subst (λ (ps : List (List Step)). EndsAt ps c.args.steps.now (record { path = r; steps = c.loop-count.count })) c.self.view_is
+    rw (← c.self.view_is)
     (stopped (paths_of links) c.args.steps.now r c.loop-count.count (omega arith)
-    (let n = length-paths links in let h = c.loop-count.invariant.0 in omega arith) c.loop-count.invariant.1)
+    (omega (arith, length-paths links, c.loop-count.invariant.0)) c.loop-count.invariant.1)
 
 pub loop-count-preserved : goal.loop-count-preserved
 loop-count-preserved c =
@@ -47,27 +47,25 @@ loop-count-preserved c =
     let k = look t.links.items (number_at t.firsts) (shelf_at t.members) (shelf_at t.elements) r s in
     let is : c.look-next.result ≡ k = c.look-next.ensures
     ∙ (λ i. look (c.as_slice-in-loop-count.ensures.value i) (number_at t.firsts) (shelf_at t.members) (shelf_at t.elements) r s) in
-    let some : 0 < k = (let h = c.if-next-eq0.false in omega arith) in
+    let some : 0 < k = omega (arith, c.if-next-eq0.false) in
     let past : r < k = beyond t.links.items (number_at t.firsts) (shelf_at t.members) (shelf_at t.elements) c.self.invariant r s some in
     let few = c.loop-count.invariant.2 in (
-      subst (λ n. n < length t.links.items) (sym is)
-          (inside t.links.items (number_at t.firsts) (shelf_at t.members) (shelf_at t.elements) c.self.invariant r s c.loop-count.invariant.0 some),
-      ap (λ n. get_or (paths_of t.links.items) n []) is
-          ∙ further t.links.items (number_at t.firsts) (shelf_at t.members) (shelf_at t.elements) c.self.invariant r s _ c.loop-count.invariant.0
+      rw is (inside t.links.items (number_at t.firsts) (shelf_at t.members) (shelf_at t.elements) c.self.invariant r s c.loop-count.invariant.0 some),
+      ap (λ n. get_or (paths_of t.links.items) n []) is ∙ further t.links.items (number_at t.firsts) (shelf_at t.members) (shelf_at t.elements) c.self.invariant r s _ c.loop-count.invariant.0
           c.loop-count.invariant.1 some ∙ more c.args.steps.now c.loop-count.count c.loop-count-test.true,
       omega arith,
       c.look-next.type_inv,
     )
 
 pub overflow_cast-end-2 : goal.overflow_cast-end-2
-overflow_cast-end-2 c = let few = c.loop-count.invariant.2 in let fits = c.loop-count.invariant.3 in let end = c.loop-count-test.false in omega arith
+overflow_cast-end-2 c = omega (arith, c.loop-count.invariant.2, c.loop-count.invariant.3, c.loop-count-test.false)
 
 pub returns-clause-some : goal.returns-clause-some
 returns-clause-some c =
     let ps = paths_of c.self.inside.links.items in
     let i = c.loop-count.path in
-    let lt : i < length ps = (let n = length-paths c.self.inside.links.items in let h = c.loop-count.invariant.0 in omega arith) in
-    subst (λ (ps : List (List Step)). slice_get ps i ≡ Some (reverse c.args.steps.now)) c.self.view_is
+    let lt : i < length ps = omega (arith, length-paths c.self.inside.links.items, c.loop-count.invariant.0) in
+    rw (← c.self.view_is)
     (slice_get-get_or ps i [] lt
     ∙ ap Some (c.loop-count.invariant.1 ∙ ap (λ (xs : List Step). reverse xs) (take_all c.loop-count.count c.args.steps.now c.loop-count-test.false)))
 
@@ -75,8 +73,8 @@ pub returns-clause-ends : goal.returns-clause-ends
 returns-clause-ends c =
     let ps = paths_of c.self.inside.links.items in
     let i = c.loop-count.path in
-    let lt : i < length ps = (let n = length-paths c.self.inside.links.items in let h = c.loop-count.invariant.0 in omega arith) in
-    subst (λ (ps : List (List Step)). EndsAt ps c.args.steps.now (record { path = i; steps = length c.args.steps.now })) c.self.view_is
+    let lt : i < length ps = omega (arith, length-paths c.self.inside.links.items, c.loop-count.invariant.0) in
+    rw (← c.self.view_is)
     (whole ps c.args.steps.now i (length c.args.steps.now) refl
     (slice_get-get_or ps i [] lt
     ∙ ap Some (c.loop-count.invariant.1 ∙ ap (λ (xs : List Step). reverse xs)

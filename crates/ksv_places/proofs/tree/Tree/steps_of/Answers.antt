@@ -1,4 +1,4 @@
-use Rattle.ksv_places.proofs.Common.{◌≡◌, ◌<◌, ◌++◌, ◌∷◌, List, [], length, get_or, reverse, sym, ◌∙◌, ap, subst, arith, get_or_default, Step, Link, link_at}
+use Rattle.ksv_places.proofs.Common.{◌≡◌, ◌<◌, ◌++◌, ◌∷◌, List, [], length, get_or, reverse, sym, ◌∙◌, ap, arith, get_or_default, Step, link_at}
 use Rattle.ksv_places.proofs.Common.{paths_of}
 use Rattle.std.proofs.Common.{append_assoc}
 use Rattle.std.proofs.lemmas.List.{append-nil, reverse-reverse}
@@ -8,23 +8,23 @@ use Rattle.ksv_places.proofs.tree.Tree.steps_of.Goals as goal
 pub loop-above-init : goal.loop-above-init
 loop-above-init c =
     let links = c.self.inside.links.items in
-    let inside : c.args.path < length (paths_of links) = subst (λ (ps : List (List Step)). c.args.path < length ps) (sym c.self.view_is) c.requires in
-    ((let n = length-paths links in omega arith), ap (λ (xs : List Step). xs ++ get_or (paths_of links) c.args.path []) c.clear.ensures.items)
+    let inside : c.args.path < length (paths_of links) = rw c.self.view_is c.requires in
+    (omega (arith, length-paths links), ap (λ (xs : List Step). xs ++ get_or (paths_of links) c.args.path []) c.clear.ensures.items)
 
 pub loop-above-preserved : goal.loop-above-preserved
 loop-above-preserved c =
     let links = c.self.inside.links.items in
     let k = c.loop-above.above in
     let steps = c.loop-above.steps.items in
-    let some : 0 < k = (let h = c.loop-above-test.true in omega arith) in
+    let some : 0 < k = omega (arith, c.loop-above-test.true) in
     let inside : k < length links = c.loop-above.invariant.0 in
     let up : (link_at links k).parent < k = c.self.invariant.up k some inside in
     let link : c.index-link.result.now ≡ link_at links k = c.index-link.ensures ∙ get_or_default links k _ _ inside in
     let l = c.index-link.result.now in
     let pushed : c.push.new.self.items ≡ steps ++ l.step ∷ [] = c.in_ok-push.ensures.items in
     let whole : l.step ∷ get_or (paths_of links) l.parent [] ≡ get_or (paths_of links) k [] =
-    ap (λ (x : Link). x.step ∷ get_or (paths_of links) x.parent []) link ∙ sym (path_at links k some inside up) in (
-      subst (λ (x : Link). x.parent < length links) (sym link) (omega arith),
+    rw link (sym (path_at links k some inside up)) in (
+      rw link (omega arith),
       ap (λ (xs : List Step). xs ++ get_or (paths_of links) l.parent []) pushed ∙ append_assoc steps (l.step ∷ []) (get_or (paths_of links) l.parent [])
           ∙ ap (λ (xs : List Step). steps ++ xs) whole ∙ c.loop-above.invariant.1,
     )
