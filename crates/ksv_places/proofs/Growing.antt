@@ -92,6 +92,7 @@ module _ (links : List Link) (link : Link) (falls : Falls links) (some : 0 < len
               let whole = tree.complete c p inside in
               rw (old_link c inside) (l.others k.parent k.step
               (λ h. let none = sym whole ∙ (λ i. look links firsts members elements (h.0 i) (h.1 i)) ∙ free in omega arith) ∙ whole)
-          | inr le ↦ let e : c ≡ length links = omega (arith, count2) in rw (e, new_link) ((λ i. look links2 firsts2 members2 elements2 (parent i) (step i)) ∙ l.here)
+          | inr le ↦ let e : c ≡ length links = omega (arith, count2) in rw (e, new_link)
+              ((λ i. look links2 firsts2 members2 elements2 (parent i) (step i)) ∙ l.here)
         ];
       }

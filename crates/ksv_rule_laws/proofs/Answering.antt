@@ -1,57 +1,21 @@
--- What a rule that answers went through: each of its parts answered. With fewer nodes open, a node answers the same.
-use Rattle.ksv_rule_laws.proofs.Common.{◌≡◌, ◌∙◌, ℕ, zero, suc, ◌≤◌, Bool, true, false, List, ◌∷◌, Option, Some, None, Result, Ok, Err, refl, sym, ap, arith}
-use Rattle.ksv_rule_laws.proofs.Common.{Answer, Fail, Ask, bind, Trail, Description, Node, NodeFault, Given, Head, Seen, look, Rule, Of, See, ask_head}
-use Rattle.ksv_rule_laws.proofs.Common.{head_node, answer_of, with_given, with_seen, from_nothing}
-use Rattle.std.proofs.Common.{cond, ◌||◌}
+-- Answers of nodes are those of their rules. With fewer nodes open, a node answers the same.
+use Rattle.ksv_rule_laws.proofs.Common.{inl, inr, ◌≡◌, ℕ, zero, suc, ◌≤◌, false, List, ◌∷◌, Result, Ok, arith}
+use Rattle.ksv_rule_laws.proofs.Common.{Trail, Description, Node, NodeFault, Given, Rule}
+use Rattle.ksv_rule_laws.proofs.Common.{answer_of, from_nothing}
 use Rattle.std.specs.Prelude.{nat_eq}
-use Rattle.std.proofs.lemmas.Bool.{or_right}
-use Rattle.ksv_basics.specs.Asking.{and_then}
+use Rattle.std.proofs.lemmas.Bool.{or_right, cases_Bool}
 use Rattle.ksv_memo_rules.specs.Evaluation.{is_among}
-use Rattle.ksv_nodes.specs.declared.given.Given.TheVariants as givens
 use Rattle.ksv_nodes.specs.Numbers.{node_number, node_bound}
-use Rattle.ksv_nodes.specs.Rule.{in_head}
 use Rattle.ksv_rule_meaning.specs.Meaning.{meaning_of, rule_of}
-use Rattle.ksv_rule_meaning.specs.FromNothing.{circle, answer_within}
+use Rattle.ksv_rule_meaning.specs.FromNothing.{answer_within}
 use Rattle.ksv_rule_laws.specs.Laws.{AreAmong, AnswersStay}
-use Rattle.ksv_rule_laws.proofs.Meeting.{answer_bind}
+use Rattle.ksv_rule_laws.proofs.Rules.{answered, also}
 
-pub ok_is : {A : Type 0} (x y : A) → ◌≡◌ {A = Result A NodeFault} (Ok x) (Ok y) → x ≡ y
-ok_is x y h = cc
-
--- ---- what came before an answer
-
--- the first answer, and what was made of it
-pub record Before {A B : Type 0} (r : Result A NodeFault) (f : A → Result B NodeFault) (b : B) : Type 0 where
-  pub first : A
-  pub was : r ≡ Ok first
-  pub gave : f first ≡ Ok b
-
-before : {A B : Type 0} (r : Result A NodeFault) (f : A → Result B NodeFault) (b : B) → and_then r f ≡ Ok b → Before r f b
-before (Ok a) f b h = record { first = a; was = refl; gave = h }
-before (Err e) f b h = absurd (cc)
-
--- where each asked node has the answer that `met` gives
-module _ (met : Node → Result Given NodeFault) (here : Trail) (bytes : List ℕ) where
-  -- what a rule answered before another went on from it
-  pub goes_on : {A B : Type 0} (p : Rule A) (f : A → Rule B) (b : B) → answer_of met here bytes (bind p f) ≡ Ok b
-      → Before (answer_of met here bytes p) (λ a. answer_of met here bytes (f a)) b
-  goes_on p f b h = before (answer_of met here bytes p) (λ a. answer_of met here bytes (f a)) b (sym (answer_bind met here bytes p f) ∙ h)
-
-  -- the head that was asked for
-  pub asked_head : (p : Trail) (h : Head) → answer_of met here bytes (ask_head p) ≡ Ok h → met (head_node p) ≡ Ok (givens.Head h)
-  asked_head p h e = by_given (met (head_node p)) refl e
-    where
-      by_given : (r : Result Given NodeFault) → met (head_node p) ≡ r → with_given r (λ g. answer_of met here bytes (in_head g)) ≡ Ok h
-          → met (head_node p) ≡ Ok (givens.Head h)
-      by_given (Ok (givens.Head h')) is e' = is ∙ ap (λ (x : Head). Ok (givens.Head x)) (ok_is h' h e')
-      by_given (Ok _) is e' = absurd (cc)
-      by_given (Err f) is e' = absurd (cc)
-
-  -- the rule of a node is the meaning of its kind
-  pub meaning_is : (d : Description) (n : Node) (g : Given) → answer_of met here bytes (rule_of d n) ≡ Ok g
-      → answer_of met here bytes (meaning_of d n.kind n.path) ≡ Ok g
-  unfolding rule_of
-  meaning_is d n g h = h
+-- the rule of a node is the meaning of its kind
+meaning_is : (met : Node → Result Given NodeFault) (here : Trail) (bytes : List ℕ) (d : Description) (n : Node) (g : Given)
+    → answer_of met here bytes (rule_of d n) ≡ Ok g → answer_of met here bytes (meaning_of d n.kind n.path) ≡ Ok g
+unfolding rule_of
+meaning_is met here bytes d n g h = h
 
 -- ---- evaluation from nothing
 
@@ -64,12 +28,10 @@ module _ (d : Description) (bytes : List ℕ) where
   pub ruled : (depth : ℕ) (opened : List Node) (n : Node) (g : Given) → answer_within d bytes (suc depth) opened n ≡ Ok g
       → (is_among node_number opened n ≡ false) × (answer_of (below depth opened n) n.path bytes (rule_of d n) ≡ Ok g)
   unfolding answer_within
-  ruled depth opened n g h = by_open (is_among node_number opened n) refl h
-    where
-      by_open : (b : Bool) → is_among node_number opened n ≡ b → cond b (circle n) (answer_of (below depth opened n) n.path bytes (rule_of d n)) ≡ Ok g
-          → (is_among node_number opened n ≡ false) × (answer_of (below depth opened n) n.path bytes (rule_of d n) ≡ Ok g)
-      by_open true e e' = absurd (cc)
-      by_open false e e' = (e, e')
+  ruled depth opened n g h = elim (cases_Bool (is_among node_number opened n)) [
+    | inl e ↦ let no = rw e at h in cc
+    | inr e ↦ (e, rw e at h)
+  ]
 
   pub no_depth : (opened : List Node) (n : Node) (g : Given) → answer_within d bytes zero opened n ≡ Ok g → ⊥
   unfolding answer_within
@@ -80,35 +42,11 @@ module _ (d : Description) (bytes : List ℕ) where
 -- a rule answers the same where each node that answered still does
 pub same_answer : (met met' : Node → Result Given NodeFault) (here : Trail) (bytes : List ℕ) → ((m : Node) (g : Given) → met m ≡ Ok g → met' m ≡ Ok g)
     → {A : Type 0} (p : Rule A) (a : A) → answer_of met here bytes p ≡ Ok a → answer_of met' here bytes p ≡ Ok a
-same_answer met met' here bytes same (Answer x) a h = h
-same_answer met met' here bytes same (Fail e) a h = absurd (cc)
-same_answer met met' here bytes same {A = A} (Ask (Of n) k) a h = by_given (met n) refl h (λ g. same_answer met met' here bytes same (k g) a)
-  where
-    by_given : (r : Result Given NodeFault) → met n ≡ r → with_given r (λ g. answer_of met here bytes (k g)) ≡ Ok a
-        → ((g : Given) → answer_of met here bytes (k g) ≡ Ok a → answer_of met' here bytes (k g) ≡ Ok a)
-        → with_given (met' n) (λ g. answer_of met' here bytes (k g)) ≡ Ok a
-    by_given (Ok g) is e later = ap (λ r. with_given r (λ x. answer_of met' here bytes (k x))) (same n g is) ∙ later g e
-    by_given (Err f) is e later = absurd (cc)
-same_answer met met' here bytes same {A = A} (Ask (See r) k) a h = by_seen (look r bytes).seen h (λ x. same_answer met met' here bytes same (k x) a)
-  where
-    by_seen : (o : Option (Seen r)) → with_seen here o (λ x. answer_of met here bytes (k x)) ≡ Ok a
-        → ((x : Seen r) → answer_of met here bytes (k x) ≡ Ok a → answer_of met' here bytes (k x) ≡ Ok a)
-        → with_seen here o (λ x. answer_of met' here bytes (k x)) ≡ Ok a
-    by_seen (Some x) e later = later x e
-    by_seen None e later = absurd (cc)
-
-or_more : (b c e : Bool) → (c ≡ true → e ≡ true) → (b || c) ≡ true → (b || e) ≡ true
-or_more true c e f h = refl
-or_more false c e f h = f h
-
-not_among : (b c : Bool) → (b ≡ true → c ≡ true) → c ≡ false → b ≡ false
-not_among true c f e = let t = f refl in absurd (cc)
-not_among false c f e = refl
+same_answer met met' here bytes same p a h = answered met here bytes _ p a (also met here bytes met' same p) h
 
 -- one node more on both sides, and one more among which others are
 among_both : (n : Node) (others opened : List Node) → AreAmong others opened → AreAmong (n ∷ others) (n ∷ opened)
-among_both n others opened among m h = or_more (nat_eq (node_number m) (node_number n)) (is_among node_number others m) (is_among node_number opened m)
-    (among m) h
+among_both n others opened among m h = let more = among m in grind arith
 
 pub among_more : (n : Node) (opened : List Node) → AreAmong opened (n ∷ opened)
 among_more n opened m h = or_right (nat_eq (node_number m) (node_number n)) (is_among node_number opened m) h
@@ -121,11 +59,11 @@ module _ (d : Description) (bytes : List ℕ) where
   stays_within (suc depth) zero opened others n g le among h = absurd (omega arith)
   stays_within (suc depth) (suc depth') opened others n g le among h =
       let r = ruled d bytes depth opened n g h in
-      let free : is_among node_number others n ≡ false = not_among (is_among node_number others n) (is_among node_number opened n) (among n) r.0 in
+      let free : is_among node_number others n ≡ false = (let more = among n in grind (arith, r.0)) in
       let rule = answer_of (answer_within d bytes depth' (n ∷ others)) n.path bytes (rule_of d n) in
       let same : rule ≡ Ok g = same_answer (answer_within d bytes depth (n ∷ opened)) (answer_within d bytes depth' (n ∷ others)) n.path bytes
       (λ m g' e. stays_within depth depth' (n ∷ opened) (n ∷ others) m g' (omega arith) (among_both n others opened among) e) (rule_of d n) g r.1 in
-      ap (λ b. cond b (circle n) rule) free ∙ same
+      rw free same
 
 pub answers_stay : AnswersStay
 unfolding from_nothing

@@ -1,6 +1,6 @@
 -- A value that is answered meets what it must.
-use Rattle.ksv_rule_laws.proofs.Common.{◌≡◌, ◌∙◌, ℕ, Bool, true, false, if◌then◌else◌, List, [], ◌∷◌, Option, Some, None, Result, refl, sym, ap, subst}
-use Rattle.ksv_rule_laws.proofs.Common.{AllByRecursion, Answer, bind, Tree, Setting, Trail, parent, last, Value, Description, MemberOfType, MemberKind, Node}
+use Rattle.ksv_rule_laws.proofs.Common.{◌≡◌, ℕ, true, List, [], ◌∷◌, Option, Some, None, Result, refl, ap}
+use Rattle.ksv_rule_laws.proofs.Common.{AllByRecursion, bind, Tree, Setting, Trail, parent, last, Value, Description, Node}
 use Rattle.ksv_rule_laws.proofs.Common.{NodeFault, Given, Head, MemberRef, Object, Origin, Rule, kind_of, truth_of, ValueMeets}
 use Rattle.ksv_desc.specs.Description.{Valid, AnyOf, AllOf, valid_of}
 use Rattle.ksv_nodes.specs.declared.given.Head.TheVariants as heads
@@ -22,32 +22,23 @@ module _ (met : Node → Result Given NodeFault) (here : Trail) (bytes : List �
 
   one_is : (s : Setting) (es : List Tree) → Says (λ b. b ≡ true → HasTrue met here bytes s es) (meets_one s es)
   unfolding meets_one
-  one_is s [] = λ e. absurd (cc)
-  one_is s (e ∷ es) = after _ _ (truth_of s e) _ (truth_is met here bytes s e) (λ b is. by_truth b is (one_is s es))
-    where
-      by_truth : (b : Bool) → Gives met here bytes s b e → Answers met here bytes (λ c. c ≡ true → HasTrue met here bytes s es) (meets_one s es)
-          → Answers met here bytes (λ c. c ≡ true → HasTrue met here bytes s (e ∷ es)) (if b then Answer true else meets_one s es)
-      by_truth true is later = λ t. record { front = []; condition = e; rest = es; is = refl; before = tt; holds = is }
-      by_truth false is later = so met here bytes _ _ (meets_one s es) later
-          (λ c one t. (let l = one t in record {
-            front = e ∷ l.front;
-            condition = l.condition;
-            rest = l.rest;
-            is = ap (λ (xs : List Tree). e ∷ xs) l.is;
-            before = (is, l.before);
-            holds = l.holds;
-          }))
+  one_is s [] = λ e. cc
+  one_is s (e ∷ es) = after _ _ (truth_of s e) _ (truth_is met here bytes s e) (λ b is. either met here bytes _ b _ _
+      (λ yes t. record { front = []; condition = e; rest = es; is = refl; before = tt; holds = rw yes at is })
+      (λ no. so met here bytes _ _ (meets_one s es) (one_is s es) (λ c one t. (let l = one t in record {
+        front = e ∷ l.front;
+        condition = l.condition;
+        rest = l.rest;
+        is = ap (λ (xs : List Tree). e ∷ xs) l.is;
+        before = (rw no at is, l.before);
+        holds = l.holds;
+      }))))
 
   each_is : (s : Setting) (es : List Tree) → Says (λ b. b ≡ true → AllByRecursion (Gives met here bytes s true) es) (meets_each s es)
   unfolding meets_each
   each_is s [] = λ e. tt
-  each_is s (e ∷ es) = after _ _ (truth_of s e) _ (truth_is met here bytes s e) (λ b is. by_truth b is (each_is s es))
-    where
-      by_truth : (b : Bool) → Gives met here bytes s b e
-          → Answers met here bytes (λ c. c ≡ true → AllByRecursion (Gives met here bytes s true) es) (meets_each s es)
-          → Answers met here bytes (λ c. c ≡ true → AllByRecursion (Gives met here bytes s true) (e ∷ es)) (if b then meets_each s es else Answer false)
-      by_truth true is later = so met here bytes _ _ (meets_each s es) later (λ c all t. (is, all t))
-      by_truth false is later = λ t. absurd (cc)
+  each_is s (e ∷ es) = after _ _ (truth_of s e) _ (truth_is met here bytes s e) (λ b is. either met here bytes _ b _ _
+      (λ yes. so met here bytes _ _ (meets_each s es) (each_is s es) (λ c all t. (rw yes at is, all t))) (λ no t. cc))
 
   meets_is : (s : Setting) (x : Valid) → Says (λ b. b ≡ true → IsMet met here bytes s x) (meets s x)
   meets_is s (AnyOf es) = one_is s es
@@ -58,23 +49,17 @@ module _ (met : Node → Result Given NodeFault) (here : Trail) (bytes : List �
   -- what a member must meet, once it is known
   checked_is : (s : Setting) (o : Option Valid) (v : Value) → Says (λ u. (x : Valid) → o ≡ Some x → IsMet met here bytes (with_value s v) x) (checked_if s o v)
   unfolding checked
-  checked_is s None v = λ x e. absurd (cc)
+  checked_is s None v = λ x e. cc
   checked_is s (Some y) v =
       after _ _ (meets (with_value s v) y) _ (meets_is (with_value s v) y) (λ b meets_so.
-      either met here bytes _ b _ _ (λ t x e. subst (λ z. IsMet met here bytes (with_value s v) z) (one_valid y x e) (meets_so t)) (λ f. tt))
-    where
-      one_valid : (a b : Valid) → Some a ≡ Some b → a ≡ b
-      one_valid a b e = cc
+      either met here bytes _ b _ _ (λ t x e. let same : y ≡ x = cc in rw (← same) (meets_so t)) (λ f. tt))
 
   member_is : (d : Description) (r : MemberRef) (s : Setting) (v : Value) → Says (λ u. MeetsMember met here bytes d r s v) (member_checked d r s v)
   unfolding member_checked
   member_is d r s v =
       after _ _ (kind_of d r) _ (kind_found met here bytes d r) (λ k found.
       so met here bytes _ _ (checked_if s (valid_of k) v) (checked_is s (valid_of k) v) (λ u meets_so m x is must.
-      meets_so x (ap (λ (j : MemberKind). valid_of j) (sym found.2 ∙ ap (λ (y : MemberOfType). y.kind) (one_member found.0 m (sym found.1 ∙ is))) ∙ must)))
-    where
-      one_member : (a b : MemberOfType) → Some a ≡ Some b → a ≡ b
-      one_member a b e = cc
+      meets_so x (cc)))
 
   object_is : (d : Description) (o : Object) (g : Option Origin) (v : Value) → Says (λ u. ObjectMeets met bytes d here o g v) (object_checked d here o g v)
   object_is d o None v = tt

@@ -1,9 +1,9 @@
 -- A circle comes from nodes that ask for each other, and from no rule.
-use Rattle.ksv_rule_laws.proofs.Common.{◌≡◌, ◌∙◌, ℕ, zero, suc, ◌+◌, ◌-◌, ◌<◌, ◌≤◌, Bool, true, false, List, [], ◌∷◌, length, Option, Some, None, Result, Ok}
-use Rattle.ksv_rule_laws.proofs.Common.{Err, refl, sym, ap, arith, inl, inr, Answer, Fail, Ask, Trail, Description, Node, NodeFault, Given, Seen, look, Rule}
+use Rattle.ksv_rule_laws.proofs.Common.{◌≡◌, ◌∙◌, ℕ, zero, suc, ◌+◌, ◌-◌, ◌<◌, ◌≤◌, true, false, List, [], ◌∷◌, length, Some, None, Result, Ok}
+use Rattle.ksv_rule_laws.proofs.Common.{Err, refl, sym, ap, arith, inl, inr, Answer, Fail, Ask, Trail, Description, Node, NodeFault, Given, look, Rule}
 use Rattle.ksv_rule_laws.proofs.Common.{Of, See, answer_of, with_given, with_seen, from_nothing}
-use Rattle.std.proofs.Common.{cond}
 use Rattle.std.specs.Prelude.{Contains}
+use Rattle.std.proofs.lemmas.Bool.{cases_Bool}
 use Rattle.std.proofs.lemmas.List.Elements.{Contains-append_left, Contains-append_right, Contains-append_cases, Contains-push, Contains-push_cases}
 use Rattle.ksv_expr_value.specs.declared.fault.FaultKind.TheVariants as kinds
 use Rattle.ksv_expr_value.specs.declared.fault.Fault.{Fault}
@@ -32,7 +32,7 @@ raised_is : {A : Type 0} (f : Fault) (q : Trail) → ◌≡◌ {A = Result A Nod
 raised_is f q h = let same : faults.Raised f ≡ faults.Circle q = err_is _ _ h in cc
 
 no_member : {A : Type 0} (x : A) → Contains [] x → ⊥
-no_member x h = let lt = h.1 in omega arith
+no_member x h = omega (arith, h.1)
 
 first_in : {A : Type 0} (x : A) (xs : List A) → Contains (x ∷ xs) x
 first_in x xs = Contains-append_left (x ∷ []) xs x (Contains-push [] x)
@@ -44,51 +44,39 @@ module _ (met : Node → Result Given NodeFault) (here : Trail) (bytes : List �
 
   -- a circle in which a rule ends is that of a node that it asks
   from_asked : {A : Type 0} (p : Rule A) (q : Trail) → answer_of met here bytes p ≡ Err (faults.Circle q) → Source p (faults.Circle q)
-  from_asked (Answer a) q h = absurd (cc)
+  from_asked (Answer a) q h = cc
   from_asked (Fail e) q h = absurd (raised_is (raised e here) q h)
-  from_asked {A = A} (Ask (Of n) k) q h = by_given (met n) refl h (λ g e. from_asked (k g) q e)
-    where
-      by_given : (r : Result Given NodeFault) → met n ≡ r → with_given r (λ g. answer_of met here bytes (k g)) ≡ Err (faults.Circle q)
-          → ((g : Given) → answer_of met here bytes (k g) ≡ Err (faults.Circle q) → Source (k g) (faults.Circle q))
-          → (m : Node) × Contains (n ∷ behind_given r (λ g. asks_of met here bytes (k g))) m × (met m ≡ Err (faults.Circle q))
-      by_given (Ok g) e e' later = let s = later g e' in (s.0, Contains-append_right (n ∷ []) (asks_of met here bytes (k g)) s.0 s.1, s.2)
-      by_given (Err f) e e' later = (n, first_in n [], e ∙ ap Err (err_is f (faults.Circle q) e'))
-  from_asked {A = A} (Ask (See r) k) q h = by_seen (look r bytes).seen h (λ x e. from_asked (k x) q e)
-    where
-      by_seen : (o : Option (Seen r)) → with_seen here o (λ x. answer_of met here bytes (k x)) ≡ Err (faults.Circle q)
-          → ((x : Seen r) → answer_of met here bytes (k x) ≡ Err (faults.Circle q) → Source (k x) (faults.Circle q))
-          → (m : Node) × Contains (behind_seen o (λ x. asks_of met here bytes (k x))) m × (met m ≡ Err (faults.Circle q))
-      by_seen (Some x) e later = later x e
-      by_seen None e later = absurd (raised_is (fault_at here kinds.EndOfBytes) q e)
+  from_asked (Ask (Of n) k) q h = (elim (met n) as (λ r. met n ≡ r → with_given r (λ g. answer_of met here bytes (k g)) ≡ Err (faults.Circle q)
+      → (m : Node) × Contains (n ∷ behind_given r (λ g. asks_of met here bytes (k g))) m × (met m ≡ Err (faults.Circle q))) [
+        | Ok g ↦ λ e e'. let s = from_asked (k g) q e' in (s.0, Contains-append_right (n ∷ []) (asks_of met here bytes (k g)) s.0 s.1, s.2)
+        | Err f ↦ λ e e'. (n, first_in n [], e ∙ ap Err (err_is f (faults.Circle q) e'))
+      ]) refl h
+  from_asked (Ask (See r) k) q h = (elim (look r bytes).seen as (λ o. with_seen here o (λ x. answer_of met here bytes (k x)) ≡ Err (faults.Circle q)
+      → (m : Node) × Contains (behind_seen o (λ x. asks_of met here bytes (k x))) m × (met m ≡ Err (faults.Circle q)))
+      [ Some x ↦ λ e. from_asked (k x) q e | None ↦ λ e. absurd (raised_is (fault_at here kinds.EndOfBytes) q e) ]) h
 
   -- a fault of a node that it asks is the rule's
   asked_fault : {A : Type 0} (p : Rule A) (m : Node) (f : NodeFault) → met m ≡ Err f → Contains (asks_of met here bytes p) m
       → answer_of met here bytes p ≡ Err f
   asked_fault (Answer a) m f is h = absurd (no_member m h)
   asked_fault (Fail e) m f is h = absurd (no_member m h)
-  asked_fault {A = A} (Ask (Of n) k) m f is h = by_given (met n) refl h (λ g. asked_fault (k g) m f is)
-    where
-      by_given : (r : Result Given NodeFault) → met n ≡ r → Contains (n ∷ behind_given r (λ g. asks_of met here bytes (k g))) m
-          → ((g : Given) → Contains (asks_of met here bytes (k g)) m → answer_of met here bytes (k g) ≡ Err f)
-          → with_given r (λ g. answer_of met here bytes (k g)) ≡ Err f
-      by_given (Ok g) e c later = elim (Contains-append_cases (n ∷ []) (asks_of met here bytes (k g)) m c) [
-        | inl front ↦ elim (Contains-push_cases [] n m front) [
-          | inl none ↦ absurd (no_member m none)
-          | inr same ↦ absurd (let clash : ◌≡◌ {A = Result Given NodeFault} (Ok g) (Err f) = sym e ∙ ap met same ∙ is in cc)
+  asked_fault {A = A} (Ask (Of n) k) m f is h = (elim (met n) as (λ r. met n ≡ r → Contains (n ∷ behind_given r (λ g. asks_of met here bytes (k g))) m
+      → with_given r (λ g. answer_of met here bytes (k g)) ≡ Err f) [
+        | Ok g ↦ λ e c. elim (Contains-append_cases (n ∷ []) (asks_of met here bytes (k g)) m c) [
+          | inl front ↦ elim (Contains-push_cases [] n m front) [
+            | inl none ↦ absurd (no_member m none)
+            | inr same ↦ cc
+          ]
+          | inr back ↦ asked_fault (k g) m f is back
         ]
-        | inr back ↦ later g back
-      ]
-      by_given (Err e') e c later = elim (Contains-push_cases [] n m c) [
-        | inl none ↦ absurd (no_member m none)
-        | inr same ↦ ap Err (err_is {A = Given} e' f (sym e ∙ ap met same ∙ is))
-      ]
-  asked_fault {A = A} (Ask (See r) k) m f is h = by_seen (look r bytes).seen h (λ x. asked_fault (k x) m f is)
-    where
-      by_seen : (o : Option (Seen r)) → Contains (behind_seen o (λ x. asks_of met here bytes (k x))) m
-          → ((x : Seen r) → Contains (asks_of met here bytes (k x)) m → answer_of met here bytes (k x) ≡ Err f)
-          → with_seen here o (λ x. answer_of met here bytes (k x)) ≡ Err f
-      by_seen (Some x) c later = later x c
-      by_seen None c later = absurd (no_member m c)
+        | Err e' ↦ λ e c. elim (Contains-push_cases [] n m c) [
+          | inl none ↦ absurd (no_member m none)
+          | inr same ↦ ap Err (err_is {A = Given} e' f (sym e ∙ ap met same ∙ is))
+        ]
+      ]) refl h
+  asked_fault (Ask (See r) k) m f is h = (elim (look r bytes).seen as (λ o. Contains (behind_seen o (λ x. asks_of met here bytes (k x))) m
+      → with_seen here o (λ x. answer_of met here bytes (k x)) ≡ Err f)
+      [ Some x ↦ λ c. asked_fault (k x) m f is c | None ↦ λ c. absurd (no_member m c) ]) h
 
 pub no_rule_makes_circles : NoRuleMakesCircles
 no_rule_makes_circles d bytes met n p h =
@@ -111,8 +99,7 @@ module _ (d : Description) (bytes : List ℕ) where
       let below : node_number n < node_bound = node_number-below n in
       let k : ℕ = node_bound - 1 in
       let deep : node_bound ≡ suc k = omega arith in
-      ap (λ x. answer_within d bytes x opened n) deep ∙ ap
-      (λ b. cond b (circle n) (answer_of (answer_within d bytes k (n ∷ opened)) n.path bytes (rule_of d n))) e
+      rw deep (rw e refl)
 
   abbrev Back : List Node → Node → Trail → Type 0
   Back opened n p = (way : List Node) × LeadsBack d bytes opened n way p
@@ -120,22 +107,15 @@ module _ (d : Description) (bytes : List ℕ) where
   -- where the node is open, the way has no further node
   by_open : (opened : List Node) (n : Node) (p : Trail) → from_nothing d bytes opened n ≡ Err (faults.Circle p)
       → (is_among node_number opened n ≡ false → Back opened n p) → Back opened n p
-  by_open opened n p h other = by_test (is_among node_number opened n) refl
-    where
-      one_path : (q r : Trail) → faults.Circle q ≡ faults.Circle r → q ≡ r
-      one_path q r e = cc
-
-      by_test : (b : Bool) → is_among node_number opened n ≡ b → Back opened n p
-      by_test true e = (
-        [],
-        (e, one_path n.path p (err_is {A = Given} (faults.Circle n.path) (faults.Circle p) (sym (open_circle opened n e) ∙ h))),
-      )
-      by_test false e = other e
+  by_open opened n p h other = elim (cases_Bool (is_among node_number opened n)) [
+    | inl e ↦ let c = open_circle opened n e in ([], (e, cc))
+    | inr e ↦ other e
+  ]
 
   leads_back : (k : ℕ) (opened : List Node) (n : Node) (p : Trail) → AreDistinct rules opened → node_bound ≤ k + length opened
       → from_nothing d bytes opened n ≡ Err (faults.Circle p) → Back opened n p
   leads_back zero opened n p distinct deep h = by_open opened n p h
-      (λ e. absurd (let most : length (n ∷ opened) ≤ node_bound = few rules settled (n ∷ opened) (AreDistinct-cons rules n opened e distinct) in omega arith))
+      (λ e. absurd (omega (arith, few rules settled (n ∷ opened) (AreDistinct-cons rules n opened e distinct))))
   leads_back (suc k) opened n p distinct deep h = by_open opened n p h (λ e.
       let follows = answers_follow_rules d bytes opened n (record { distinct = distinct; apart = e }) in
       let s = from_asked (from_nothing d bytes (n ∷ opened)) n.path bytes (rule_of d n) p (sym follows ∙ h) in

@@ -1,9 +1,10 @@
 -- The number of elements that a list is said to have is that of the ends of its elements.
-use Rattle.ksv_rule_laws.proofs.Common.{◌≡◌, ◌∙◌, ℕ, zero, suc, ◌+◌, ◌==◌, ◌<◌, Bool, true, false, List, [], ◌∷◌, Option, Some, None, Result, Ok, inl, inr}
-use Rattle.ksv_rule_laws.proofs.Common.{refl, sym, ap, subst, arith, nat_tests, Tree, Place, Trail, child, parent, last, Step, Description, Field, Repeat, Once}
+use Rattle.ksv_rule_laws.proofs.Common.{◌≡◌, ◌∙◌, ℕ, zero, suc, ◌+◌, ◌==◌, ◌<◌, Bool, true, false, List, [], ◌∷◌, Some, Result, Ok, inl, inr}
+use Rattle.ksv_rule_laws.proofs.Common.{refl, sym, ap, arith, nat_tests, Tree, Place, Trail, child, parent, last, Step, Description, Field, Repeat, Once}
 use Rattle.ksv_rule_laws.proofs.Common.{Eos, Expr, Until, Node, NodeFault, NodeKind, Given, head_node, end_node, rest_node, answer_of, is_last, from_nothing}
 use Rattle.ksv_rule_laws.proofs.Common.{IsFieldOf, IsCountedBy}
 use Rattle.std.proofs.Common.{◌⊎◌}
+use Rattle.std.proofs.lemmas.Option.{same_Some}
 use Rattle.std.proofs.lemmas.Bool.{cases_lt}
 use Rattle.ksv_expr_value.specs.Trail.{first_step, all_but_last, trail_of, trail_of-true}
 use Rattle.ksv_expr_value.specs.declared.step.Step.TheVariants as steps
@@ -13,9 +14,9 @@ use Rattle.ksv_nodes.specs.declared.given.List as lists
 use Rattle.ksv_nodes.specs.declared.given.Head.TheVariants as heads
 use Rattle.ksv_rule_meaning.specs.Ends.{is_counted}
 use Rattle.ksv_rule_laws.specs.Laws.{EndsAsOf, AreElements, IsEmptyList, RestsCount, ToldCounts}
-use Rattle.ksv_rule_laws.proofs.Answering.{ok_is}
+use Rattle.ksv_rule_laws.proofs.Rules.{ok_is}
 use Rattle.ksv_rule_laws.proofs.Values.{same_field}
-use Rattle.ksv_rule_laws.proofs.Shapes.{IsLastOf, IsLast, IsRest, IsAnswer}
+use Rattle.ksv_rule_laws.proofs.Shapes.{IsLastOf, IsRest, IsAnswer}
 use Rattle.ksv_rule_laws.proofs.Shaping.{part_of, by_shape, by_shapes}
 use Rattle.ksv_rule_laws.proofs.Sources.{heads_are_read}
 
@@ -24,7 +25,7 @@ own_part : (p : Trail) (step : Step) → last p ≡ Some step → child (parent 
 own_part p step is = by_steps p.upward refl is
   where
     by_steps : (up : List Step) → p.upward ≡ up → first_step up ≡ Some step → child (parent p) step ≡ Some p
-    by_steps [] e h = absurd (cc)
+    by_steps [] e h = cc
     by_steps (s ∷ q) e h =
         let same : s ≡ step = cc in
         let whole : step ∷ (parent p).upward ≡ p.upward = ap (λ t. t ∷ all_but_last p.upward) (sym same) ∙ ap (λ u. s ∷ all_but_last u) e ∙ sym e in
@@ -44,7 +45,7 @@ module _ (met : Node → Result Given NodeFault) where
   last_one l p i place is ended = record {
     some = omega arith;
     each =
-        λ j low high. (let same : i ≡ j = omega arith in subst (λ k. EndsAsOf met l k (i + 1) place) same one);
+        λ j low high. (let same : i ≡ j = omega arith in rw (← same) one);
   }
     where
       one : EndsAsOf met l i (i + 1) place
@@ -56,12 +57,12 @@ module _ (met : Node → Result Given NodeFault) where
     some = low_more;
     each = λ j low high. elim (cases_lt i j) [
       | inl lt ↦ more.each j (omega arith) high
-      | inr ge ↦ (let same : i ≡ j = omega arith in subst (λ k. EndsAsOf met l k c place) same one)
+      | inr ge ↦ (let same : i ≡ j = omega arith in rw (← same) one)
     ];
   }
     where
       low_more : i < c
-      low_more = let some = more.some in omega arith
+      low_more = omega (arith, more.some)
 
       one : EndsAsOf met l i c place
       one = let some = more.some in record {
@@ -90,8 +91,7 @@ module _ (d : Description) (bytes : List ℕ) (met all : Node → Result Given N
   rest_counts i c place step is = elim is [
     | inl whole ↦ let e = whole.1 in inl (whole.0, record { list = e.list; answered = same _ _ e.answered; empty = e.empty; none = e.none; start = e.start })
     | inr from ↦ inr (elim from [
-      | inl one ↦ subst (λ n. AreElements all (parent here) i n place) one.0
-          (last_one all (parent here) here i place (own_part here (steps.Index i) step) (same _ _ one.1))
+      | inl one ↦ rw (← one.0) (last_one all (parent here) here i place (own_part here (steps.Index i) step) (same _ _ one.1))
       | inr more ↦
           let r = more.2 in
           let up = part_of (parent here) r.path (steps.Index (i + 1)) r.is in
@@ -99,17 +99,14 @@ module _ (d : Description) (bytes : List ℕ) (met all : Node → Result Given N
           elim later [
             | inl none ↦ let zero_is = none.0 in absurd (omega arith)
             | inr elements ↦ one_more all (parent here) here i more.0 c place (own_part here (steps.Index i) step) (same _ _ more.1)
-                (subst (λ l. AreElements all l (i + 1) c place) up.0 elements)
+                (rw (← up.0) elements)
           ]
     ])
   ]
 
   answer_counts : (k : NodeKind) (g : Given) → IsAnswer d met here bytes k g → IsCounted all here g
-  answer_counts nodes.Rest (givens.Rest c place) is = λ i step. rest_counts i c place step (subst (λ o. IsRest d met here bytes o c place) step is)
-  answer_counts nodes.Head (givens.Rest c place) is = absurd is
-  answer_counts nodes.Value (givens.Rest c place) is = absurd is
-  answer_counts nodes.End (givens.Rest c place) is = absurd is
-  answer_counts _ _ is = tt
+  answer_counts nodes.Rest (givens.Rest c place) is = λ i step. rest_counts i c place step (rw step at is)
+  answer_counts k g is = grind arith
 
 first_counts : (d : Description) (bytes : List ℕ) (opened : List Node) (p : Trail) (c : ℕ) (place : Place) → last p ≡ Some (steps.Index 0)
     → from_nothing d bytes opened (rest_node p) ≡ Ok (givens.Rest c place)
@@ -128,17 +125,14 @@ rests_count d bytes opened p c place is e = first_counts d bytes opened p c plac
 
 -- ---- counts that are told
 
-list_of_given : (a b : lists.List) → ◌≡◌ {A = Result Given NodeFault} (Ok (givens.Head (heads.List a))) (Ok (givens.Head (heads.List b))) → a ≡ b
-list_of_given a b e = cc
-
 -- the last element has the number that the list's count tells
 told : (d : Description) (bytes : List ℕ) (met : Node → Result Given NodeFault) (p : Trail) (i n : ℕ) (place : Place) (so : Bool) (g : lists.List) (f : Field)
     (c : Tree) → IsLastOf d met p bytes i place so
     → met (head_node (parent p)) ≡ Ok (givens.Head (heads.List g)) → IsFieldOf d g.origin.member f → f.repeat ≡ Expr c → g.count ≡ Some n → so ≡ (n == i + 1)
 unfolding is_last
 told d bytes met p i n place so g f c l holder own repeat count =
-    let list : l.list ≡ g = list_of_given l.list g (sym l.asked ∙ holder) in
-    let field : l.field ≡ f = same_field d g.origin.member l.field f (subst (λ (y : lists.List). IsFieldOf d y.origin.member l.field) list l.read) own in
+    let list : l.list ≡ g = cc (l.asked, holder) in
+    let field : l.field ≡ f = same_field d g.origin.member l.field f (rw (← list) l.read) own in
     let says : is_counted l.list.count i ≡ so = ok_is (is_counted l.list.count i) so
     (sym (ap (λ r. answer_of met p bytes (is_last (parent (parent p)) l.list p i place r)) (ap (λ (y : Field). y.repeat) field ∙ repeat)) ∙ l.says) in
     sym says ∙ ap (λ o. is_counted o i) (ap (λ (y : lists.List). y.count) list ∙ count)
@@ -151,16 +145,13 @@ told_counts d bytes opened p c place g n is answered holder count =
     met : Node → Result Given NodeFault
     met = from_nothing d bytes opened
 
-    some_is : (a b : ℕ) → Some a ≡ Some b → a ≡ b
-    some_is a b h = cc
-
     by_last : (f : Field) (e : Tree) → IsFieldOf d g.origin.member f → f.repeat ≡ Expr e → AreElements met (parent p) 0 c place → (m : ℕ) → m ≡ c → c ≡ n
-    by_last f e own repeat elements zero is_c = absurd (let low = elements.some in omega arith)
+    by_last f e own repeat elements zero is_c = omega (arith, elements.some)
     by_last f e own repeat elements (suc j) is_c =
         let one = elements.each j (omega arith) (omega arith) in
         let up = part_of (parent p) one.path (steps.Index j) one.is in
         let ends = by_shape d bytes opened (end_node one.path) (givens.End one.ends (j + 1 == c)) one.ended in
-        let l : IsLastOf d met one.path bytes j one.ends (j + 1 == c) = subst (λ o. IsLast d met one.path bytes o one.ends (j + 1 == c)) up.1 ends.last in
+        let l : IsLastOf d met one.path bytes j one.ends (j + 1 == c) = rw up.1 at ends.last in
         let last_is = told d bytes met one.path j n one.ends (j + 1 == c) g f e l (ap (λ q. met (head_node q)) up.0 ∙ holder) own repeat count in
         let last_so : (j + 1 == c) ≡ true = grind (arith, nat_tests) in
         let n_so : (n == j + 1) ≡ true = sym last_is ∙ last_so in
@@ -169,10 +160,10 @@ told_counts d bytes opened p c place g n is answered holder count =
 
     by_empty : (m : ℕ) → g.count ≡ Some m → g.is_empty ≡ (m == 0) → IsEmptyList met (parent p) c place → c ≡ n
     by_empty m told empty_so empty =
-        let same : empty.list ≡ g = list_of_given empty.list g (sym empty.answered ∙ holder) in
+        let same : empty.list ≡ g = cc (empty.answered, holder) in
         let none : (m == 0) ≡ true = sym empty_so ∙ ap (λ (y : lists.List). y.is_empty) (sym same) ∙ empty.empty in
         let m_is : m ≡ 0 = grind (arith, nat_tests) in
-        let m_n : m ≡ n = some_is m n (sym told ∙ count) in
+        let m_n : m ≡ n = same_Some m n (sym told ∙ count) in
         let c_is = empty.none in
         omega arith
 
@@ -182,5 +173,5 @@ told_counts d bytes opened p c place g n is answered holder count =
       | inr elements ↦ by_last f e own repeat elements c refl
     ]
     by_repeat f own Once repeat so = absurd so
-    by_repeat f own Eos repeat so = absurd (let clash : ◌≡◌ {A = Option ℕ} None (Some n) = sym so ∙ count in cc)
-    by_repeat f own (Until x) repeat so = absurd (let clash : ◌≡◌ {A = Option ℕ} None (Some n) = sym so ∙ count in cc)
+    by_repeat f own Eos repeat so = cc
+    by_repeat f own (Until x) repeat so = cc

@@ -1,23 +1,23 @@
 -- What is read lies in the stream of the object or list that holds it.
-use Rattle.ksv_rule_laws.proofs.Common.{◌≡◌, ◌∙◌, ℕ, ◌+◌, ◌==◌, ◌≤◌, Bool, true, false, if◌then◌else◌, List, [], ◌∷◌, Option, Some, None, Result, Ok, refl, sym}
-use Rattle.ksv_rule_laws.proofs.Common.{ap, subst, arith, inl, inr, ◌⊎◌, AllByRecursion, nat_tests, Tree, Place, at_byte, byte_of, further, of_aligned, Trail}
-use Rattle.ksv_rule_laws.proofs.Common.{parent, last, Step, Stream, Value, Choice, Description, MemberOfType, MemberKind, Parameter, Attribute, ParseInstance}
+use Rattle.ksv_rule_laws.proofs.Common.{◌≡◌, ◌∙◌, ℕ, ◌+◌, ◌==◌, ◌≤◌, Bool, true, false, List, [], ◌∷◌, Option, Some, None, Result, Ok, refl, sym}
+use Rattle.ksv_rule_laws.proofs.Common.{ap, arith, inl, inr, ◌⊎◌, AllByRecursion, nat_tests, Tree, Place, at_byte, byte_of, of_aligned, Trail}
+use Rattle.ksv_rule_laws.proofs.Common.{parent, last, Step, Stream, Choice, Description, MemberOfType, MemberKind, Parameter, Attribute, ParseInstance}
 use Rattle.ksv_rule_laws.proofs.Common.{ValueInstance, Field, Node, NodeFault, NodeKind, Given, Origin, ObjectEnd, Object, Head, end_in, head_node, end_node}
 use Rattle.ksv_rule_laws.proofs.Common.{rest_node, answer_of, expression, holds, stream_for, members_of, behind, Sought, sought, last_attribute, origin_of}
 use Rattle.ksv_rule_laws.proofs.Common.{instance_setting, calc, is_last, from_nothing, EndsAt}
 use Rattle.ksv_rule_laws.proofs.Starts.{of_start, at_most, at_least}
 use Rattle.ksv_expr_value.specs.declared.step.Step.TheVariants as steps
-use Rattle.ksv_expr_value.specs.declared.value.Value.TheVariants as values
 use Rattle.ksv_nodes.specs.declared.node.NodeKind.TheVariants as nodes
 use Rattle.ksv_nodes.specs.declared.given.Given.TheVariants as givens
 use Rattle.ksv_nodes.specs.declared.given.ObjectEnd.TheVariants as endings
 use Rattle.ksv_nodes.specs.declared.given.Head.TheVariants as heads
-use Rattle.ksv_rule_meaning.specs.Wanted.{in_stream}
 use Rattle.ksv_rule_meaning.specs.Fields.{is_attribute}
 use Rattle.ksv_rule_meaning.specs.Heads.{within}
 use Rattle.ksv_rule_laws.specs.Laws.{IsBetween, LiesIn, IsStreamFor, IsReadIn, IsHeld, AreNamesDistinct, HasDistinctNames, HeadsLieInStreams, EndsLieInStreams}
-use Rattle.ksv_rule_laws.specs.Laws.{IsUnmet, IsUnmetAt, IsLeftOut}
-use Rattle.ksv_rule_laws.proofs.Answering.{ok_is, goes_on, same_answer}
+use Rattle.ksv_rule_laws.specs.Laws.{IsUnmet, IsLeftOut}
+use Rattle.std.proofs.lemmas.Bool.{cases_Bool}
+use Rattle.ksv_rule_laws.proofs.Answering.{same_answer}
+use Rattle.ksv_rule_laws.proofs.Rules.{Answers, answered, known}
 use Rattle.ksv_rule_laws.proofs.Shapes.{IsHeadAt, IsStart, IsOut, IsMember, IsMemberOf, IsElementOf, IsHead, IsFieldsEnd, IsObjectEnd, RestsAt, IsEnd, IsEndOf}
 use Rattle.ksv_rule_laws.proofs.Shapes.{IsRest, IsAnswer}
 use Rattle.ksv_rule_laws.proofs.Shaping.{part_of, by_shapes}
@@ -40,19 +40,13 @@ same_stream (heads.Object o) w w' a b = sym a ∙ b
 same_stream (heads.List g) w w' a b = sym a ∙ b
 same_stream _ w w' a b = absurd a
 
-some_is : {A : Type 0} (x y : A) → ◌≡◌ {A = Option A} (Some x) (Some y) → x ≡ y
-some_is x y e = cc
-
-head_of_given : (x y : Head) → ◌≡◌ {A = Result Given NodeFault} (Ok (givens.Head x)) (Ok (givens.Head y)) → x ≡ y
-head_of_given x y e = cc
-
 -- ---- the parts of an object that rules ask for
 
 -- an attribute is read in the stream of its object
 for_own : (met : Node → Result Given NodeFault) (bytes : List ℕ) (p : Trail) (o : Object) (k : MemberKind) (w : Stream) → is_attribute k ≡ true
     → IsStreamFor met bytes p o k w → o.stream ≡ w
 for_own met bytes p o (Attribute f) w own is = is
-for_own met bytes p o _ w own is = absurd (cc)
+for_own met bytes p o _ w own is = cc
 
 -- so is an element in that of its list
 read_own : (d : Description) (met : Node → Result Given NodeFault) (bytes : List ℕ) (p : Trail) (k : Head) (step : Step) (w : Stream)
@@ -85,36 +79,26 @@ named_attribute : (z i : ℕ) (before : Option ℕ) (ms : List MemberOfType) (s 
     → sought z i before ms ≡ Some s → is_attribute s.kind ≡ true
 unfolding sought
 named_attribute z i before [] s distinct named e = absurd named
-named_attribute z i before (m ∷ ms) s distinct named e =
-    by_test (m.name == z) refl e (λ later h. named_attribute z (i + 1) (behind before m) ms s distinct.1 later h)
-  where
-    by_test : (b : Bool) → (m.name == z) ≡ b → (if b then Some (record { member = i; before = before; kind = m.kind }) else sought z (i + 1)
-        (behind before m) ms) ≡ Some s
-        → (IsOfAttribute z ms → sought z (i + 1) (behind before m) ms ≡ Some s → is_attribute s.kind ≡ true) → is_attribute s.kind ≡ true
-    by_test true is h further = elim named [
-      | inl first ↦ sym (ap (λ (t : Sought). is_attribute t.kind) (some_is (record { member = i; before = before; kind = m.kind }) s h)) ∙ first.1
-      | inr later ↦ let same : m.name ≡ z = grind (arith, nat_tests) in
-          absurd (no_other m.name ms distinct.0 (subst (λ n. IsOfAttribute n ms) (sym same) later))
-    ]
-    by_test false is h further = elim named [
-      | inl first ↦ let same = first.0 in absurd (grind (arith, nat_tests))
-      | inr later ↦ further later h
-    ]
+named_attribute z i before (m ∷ ms) s distinct named e = elim (cases_Bool (m.name == z)) [
+  | inl is ↦
+      let found : ◌≡◌ {A = Option Sought} (Some (record { member = i; before = before; kind = m.kind })) (Some s) = rw is at e in
+      let same : m.name ≡ z = grind (arith, nat_tests) in
+      elim named [
+        | inl first ↦ let own = first.1 in cc
+        | inr later ↦ absurd (no_other m.name ms distinct.0 (rw same later))
+      ]
+  | inr other ↦ elim named [
+    | inl first ↦ let same = first.0 in absurd (grind (arith, nat_tests))
+    | inr later ↦ named_attribute z (i + 1) (behind before m) ms s distinct.1 later (rw other at e)
+  ]
+]
 
 -- what comes after a member is that member, or was there before
-behind_is : (before : Option ℕ) (m : MemberOfType) (z : ℕ) → behind before m ≡ Some z → (before ≡ Some z) ⊎ ((m.name ≡ z) × (is_attribute m.kind ≡ true))
-behind_is before m z e = by_test (is_attribute m.kind) refl e
-  where
-    by_test : (b : Bool) → is_attribute m.kind ≡ b → (if b then Some m.name else before) ≡ Some z → (before ≡ Some z)
-        ⊎ ((m.name ≡ z) × (is_attribute m.kind ≡ true))
-    by_test true is h = inr (some_is m.name z h, is)
-    by_test false is h = inl h
-
 one_more : (before : Option ℕ) (m : MemberOfType) (ms : List MemberOfType) (z : ℕ) → (behind before m ≡ Some z) ⊎ IsOfAttribute z ms → (before ≡ Some z)
     ⊎ IsOfAttribute z (m ∷ ms)
-one_more before m ms z (inl e) = elim (behind_is before m z e) [
-  | inl old ↦ inl old
-  | inr first ↦ inr (inl first)
+one_more before m ms z (inl e) = elim (cases_Bool (is_attribute m.kind)) [
+  | inl is ↦ let own : Some m.name ≡ Some z = rw is at e in inr (inl (cc, is))
+  | inr other ↦ inl (rw other at e)
 ]
 one_more before m ms z (inr later) = inr (inr later)
 
@@ -126,13 +110,11 @@ last_named before (m ∷ ms) z e = one_more before m ms z (last_named (behind be
 before_named : (x i : ℕ) (before : Option ℕ) (ms : List MemberOfType) (s : Sought) (y : ℕ) → sought x i before ms ≡ Some s → s.before ≡ Some y
     → (before ≡ Some y) ⊎ IsOfAttribute y ms
 unfolding sought
-before_named x i before [] s y e is = absurd (cc)
-before_named x i before (m ∷ ms) s y e is = by_test (m.name == x) e (λ h. before_named x (i + 1) (behind before m) ms s y h is)
-  where
-    by_test : (b : Bool) → (if b then Some (record { member = i; before = before; kind = m.kind }) else sought x (i + 1) (behind before m) ms) ≡ Some s
-        → (sought x (i + 1) (behind before m) ms ≡ Some s → (behind before m ≡ Some y) ⊎ IsOfAttribute y ms) → (before ≡ Some y) ⊎ IsOfAttribute y (m ∷ ms)
-    by_test true h further = inl (ap (λ (t : Sought). t.before) (some_is (record { member = i; before = before; kind = m.kind }) s h) ∙ is)
-    by_test false h further = one_more before m ms y (further h)
+before_named x i before [] s y e is = cc
+before_named x i before (m ∷ ms) s y e is = elim (cases_Bool (m.name == x)) [
+  | inl found ↦ let one : ◌≡◌ {A = Option Sought} (Some (record { member = i; before = before; kind = m.kind })) (Some s) = rw found at e in inl (cc)
+  | inr other ↦ one_more before m ms y (before_named x (i + 1) (behind before m) ms s y (rw other at e) is)
+]
 
 -- a part that is named so is an attribute
 abbrev IsHere : Description → Object → Option ℕ → Type 0
@@ -141,7 +123,7 @@ IsHere d o (Some z) = IsBeside d (heads.Object o) (steps.Name z)
 
 module _ (d : Description) (distinct : HasDistinctNames d) (o : Object) where
   here_named : (z : ℕ) → (None ≡ Some z) ⊎ IsOfAttribute z (members_of d o.type_number) → IsBeside d (heads.Object o) (steps.Name z)
-  here_named z (inl e) s is = absurd (cc)
+  here_named z (inl e) s is = cc
   here_named z (inr named) s is = named_attribute z 0 None (members_of d o.type_number) s (distinct o.type_number) named is
 
   last_here : (z : Option ℕ) → last_attribute None (members_of d o.type_number) ≡ z → IsHere d o z
@@ -161,7 +143,7 @@ module _ (bytes : List ℕ) where
 
   begins_in : (w : Stream) (h : Head) → LiesIn bytes w h → BeginsIn h
   begins_in w (heads.Object o) is = is.3
-  begins_in w (heads.List g) is = subst (λ v. IsBetween bytes v (byte_of g.start)) (sym is.1) is.0
+  begins_in w (heads.List g) is = rw is.1 is.0
   begins_in w (heads.Absent at) is = tt
   begins_in w (heads.Calc c) is = tt
   begins_in w (heads.Leaf l) is = tt
@@ -184,7 +166,7 @@ module _ (d : Description) (bytes : List ℕ) where
 
   head_begins : (met : Node → Result Given NodeFault) (p : Trail) (o : Option Step) (h : Head) → HeadLies met p o h → BeginsIn bytes h
   head_begins met p None h is = is
-  head_begins met p (Some step) h (inl out) = subst (BeginsIn bytes) (sym out.nowhere) tt
+  head_begins met p (Some step) h (inl out) = rw out.nowhere tt
   head_begins met p (Some step) h (inr is) = begins_in bytes is.stream h is.lies
 
 -- what the nodes that are asked answer lies so; all of it is what they answer in the end
@@ -200,30 +182,30 @@ module _ (d : Description) (distinct : HasDistinctNames d) (bytes : List ℕ) (m
   held_at : (P : Stream → Type 0) (r q : Trail) (step : Step) (k : Head) (w : Stream) → (parent r ≡ q) × (last r ≡ Some step)
       → IsBeside d k step → all (head_node q) ≡ Ok (givens.Head k) → IsStreamOf k w → IsHeld d bytes all r P → P w
   held_at P r q step k w up apart asked own held =
-      let one : held.holder ≡ k = head_of_given held.holder k (sym held.answered ∙ ap (λ p. all (head_node p)) up.0 ∙ asked) in
+      let one : held.holder ≡ k = cc (held.answered, asked, ap (λ p. all (head_node p)) up.0) in
       let read : IsReadIn d all bytes r k (Some step) held.stream =
-      subst (λ x. IsReadIn d all bytes r x (Some step) held.stream) one (subst (λ o. IsReadIn d all bytes r held.holder o held.stream) up.1 held.read) in
-      subst P (same_stream k held.stream w (read_own d all bytes r k step held.stream apart read) own) held.lies
+      rw (← one) (rw (← up.1) held.read) in
+      rw (← (same_stream k held.stream w (read_own d all bytes r k step held.stream apart read) own)) held.lies
 
   ends_in : (q : Trail) (step : Step) (e : Place) (k : Head) (w : Stream) → IsBeside d k step → all (head_node q) ≡ Ok (givens.Head k)
       → IsStreamOf k w → EndsAt met q step e → Between w (byte_of e)
   ends_in q step e k w apart asked own is =
       let up = part_of q is.path step is.is in
       let held = lies (end_node is.path) (givens.End e is.is_last) is.ended in
-      held_at (λ v. Between v (byte_of e)) is.path q step k w up apart asked own (subst (λ o. EndLies d bytes all is.path o e) up.1 held)
+      held_at (λ v. Between v (byte_of e)) is.path q step k w up apart asked own (rw up.1 at held)
 
   -- ---- heads
 
   at_in : (origin : Origin) (w : Stream) (s : Place) (f : Field) (h : Head) → Between w (byte_of s) → IsHeadAt bytes origin w s f h → LiesIn bytes w h
-  at_in origin w s f (heads.Absent at) begins is = subst (λ a. LiesIn bytes w (heads.Absent a)) (sym is) begins
+  at_in origin w s f (heads.Absent at) begins is = rw is begins
   at_in origin w s f (heads.Calc c) begins is = absurd is
   at_in origin w s f (heads.Leaf l) begins is =
       let to = is.to.after begins.1 in
       let end = is.end.after begins.1 in (
-        subst (λ (p : Place). Between w (byte_of p)) (sym is.from) begins,
+        rw is.from begins,
         (omega (arith, to, begins.0), is.to.inside),
         (omega (arith, end, begins.0), is.end.inside),
-        subst (λ (p : Place). byte_of p ≤ byte_of l.to) (sym is.from) to,
+        rw is.from to,
       )
   at_in origin w s f (heads.Object o) begins is =
       let to = is.to.after begins.1 in
@@ -231,20 +213,20 @@ module _ (d : Description) (distinct : HasDistinctNames d) (bytes : List ℕ) (m
         | inl own ↦ (omega (arith, own), omega (arith, own, begins.0))
         | inr at ↦ (omega (arith, at, begins.0), omega (arith, at))
       ] in (
-        subst (λ (p : Place). Between w (byte_of p)) (sym is.start) begins,
+        rw is.start begins,
         (from.0, omega (arith, from.1, begins.1)),
         is.to.inside,
-        subst (λ (p : Place). Between o.stream (byte_of p)) (sym is.start) (from.1, to),
+        rw is.start (from.1, to),
       )
-  at_in origin w s f (heads.List g) begins is = (subst (λ (p : Place). Between w (byte_of p)) (sym is.start) begins, is.stream)
+  at_in origin w s f (heads.List g) begins is = (rw is.start begins, is.stream)
 
   start_in : (o : Object) (before : Option ℕ) (c : Choice) (s : Place) → IsHere d o before
       → all (head_node (parent here)) ≡ Ok (givens.Head (heads.Object o)) → Between o.stream (byte_of o.start) → IsStart d met here bytes o before c s
       → Between o.stream (byte_of s)
-  start_in o None c s apart asked begins is = subst (λ n. Between o.stream (byte_of n)) is begins
+  start_in o None c s apart asked begins is = rw (← is) begins
   start_in o (Some y) c s apart asked begins is =
       let ends = ends_in (parent here) (steps.Name y) is.0 (heads.Object o) o.stream apart asked refl is.1 in
-      subst (λ n. Between o.stream (byte_of n)) is.2 (subst (λ n. Between o.stream n) (sym (of_start is.0 c)) ends)
+      rw (← is.2) (rw (of_start is.0 c) ends)
 
   -- what lies in the stream in which a member at a path is read, unless it lies nowhere
   abbrev LiesFor : Object → MemberKind → Head → Type 0
@@ -255,20 +237,14 @@ module _ (d : Description) (distinct : HasDistinctNames d) (bytes : List ℕ) (m
   unmet o condition h out = (sym out.1, same_answer met all here bytes same (holds (instance_setting here (parent here) o) condition) false out.0)
 
   -- the value of an `io` is its stream
-  stream_is : (v : Value) (w : Stream) → answer_of all here bytes (in_stream v) ≡ Ok w → v ≡ values.Stream w
-  stream_is (values.Stream s) w z = ap values.Stream (ok_is s w z)
-  stream_is _ w z = absurd (cc)
-
-  own_or_io : (o : Object) (e : Tree) (io : Option Tree) (f : Field) (w : Stream)
-      → answer_of all here bytes (stream_for (instance_setting here (parent here) o) io) ≡ Ok w → IsStreamFor all bytes here o (ParseInstance e io f) w
+  own_or_io : (o : Object) (e : Tree) (io : Option Tree) (f : Field)
+      → Answers all here bytes (λ w. IsStreamFor all bytes here o (ParseInstance e io f) w) (stream_for (instance_setting here (parent here) o) io)
   unfolding stream_for
-  own_or_io o e None f w z = ok_is o.stream w z
-  own_or_io o e (Some io) f w z =
-      let v = goes_on all here bytes (expression (instance_setting here (parent here) o) io) _ w z in
-      v.was ∙ ap Ok (stream_is v.first w v.gave)
+  own_or_io o e None f = refl
+  own_or_io o e (Some io) f = known all here bytes _ (expression (instance_setting here (parent here) o) io) _ (λ v is. grind arith)
 
   calc_in : (o : Object) (m : Sought) (h : Head) → calc o m ≡ h → LiesIn bytes o.stream h
-  calc_in o m h is = subst (LiesIn bytes o.stream) is tt
+  calc_in o m h is = rw (← is) tt
 
   member_in : (o : Object) (m : Sought) (k : MemberKind) (h : Head) → IsHere d o m.before → all (head_node (parent here)) ≡ Ok (givens.Head (heads.Object o))
       → Between o.stream (byte_of o.start) → IsMember d met here bytes o m k h → LiesFor o k h
@@ -278,8 +254,8 @@ module _ (d : Description) (distinct : HasDistinctNames d) (bytes : List ℕ) (m
   member_in o m (ParseInstance e io f) h apart asked begins is = elim is [
     | inl out ↦ inl (unmet o f.condition h out)
     | inr at ↦
-        let named = own_or_io o e io f at.stream (same_answer met all here bytes same
-        (stream_for (instance_setting here (parent here) o) io) at.stream at.named) in
+        let by = stream_for (instance_setting here (parent here) o) io in
+        let named = answered all here bytes _ by at.stream (own_or_io o e io f) (same_answer met all here bytes same by at.stream at.named) in
         inr (
           at.stream,
           named,
@@ -308,13 +284,13 @@ module _ (d : Description) (distinct : HasDistinctNames d) (bytes : List ℕ) (m
           object = o;
           answered = now;
           unmet =
-              subst (λ z. IsUnmetAt d all bytes here o z) (sym step) (is.member, is.found, none.1);
+              rw step (is.member, is.found, none.1);
         })
         | inr there ↦ inr (record {
           holder = heads.Object o;
           answered = now;
           stream = there.0;
-          read = subst (λ z. IsReadIn d all bytes here (heads.Object o) z there.0) (sym step) (is.member, is.found, there.1);
+          read = rw step (is.member, is.found, there.1);
           lies = there.2;
         })
       ]
@@ -324,7 +300,7 @@ module _ (d : Description) (distinct : HasDistinctNames d) (bytes : List ℕ) (m
       let g = is.list in
       let now = same _ _ is.asked in
       let begins : Between g.stream (byte_of is.start) = elim is.begins [
-        | inl first ↦ subst (λ n. Between g.stream (byte_of n)) first.1 (holder_begins (heads.List g) is.asked)
+        | inl first ↦ rw (← first.1) (holder_begins (heads.List g) is.asked)
         | inr later ↦ ends_in (parent here) (steps.Index later.before) is.start (heads.List g) g.stream tt now refl
             (record { path = later.path; is = later.is; is_last = false; ended = later.ended })
       ] in
@@ -332,12 +308,12 @@ module _ (d : Description) (distinct : HasDistinctNames d) (bytes : List ℕ) (m
         holder = heads.List g;
         answered = now;
         stream = g.stream;
-        read = subst (λ z. IsReadIn d all bytes here (heads.List g) z g.stream) (sym step) refl;
+        read = rw step refl;
         lies = at_in g.origin g.stream is.start is.field h begins is.is;
       }
 
   head_in : (o : Option Step) (h : Head) → last here ≡ o → IsHead d met here bytes o h → HeadLies d bytes all here o h
-  head_in None h is e = subst (BeginsIn bytes) e (at_least 0 0 (omega arith), at_most 0 _ (omega arith))
+  head_in None h is e = rw (← e) (at_least 0 0 (omega arith), at_most 0 _ (omega arith))
   head_in (Some (steps.Name x)) h is e = member_head_in x h is e
   head_in (Some (steps.Index i)) h is e = inr (element_in i h is e)
 
@@ -347,22 +323,22 @@ module _ (d : Description) (distinct : HasDistinctNames d) (bytes : List ℕ) (m
       → LiesIn bytes w (heads.Object o) → IsObjectEnd d met here bytes o x e → Between w (byte_of e)
   object_end_in o endings.OfStream w e asked within is =
       let end = end_in bytes o.stream.to in
-      subst (λ n. Between w (byte_of n)) is (at_least end w.from (omega (arith, within.1.0, within.3.0, within.3.1)), at_most end _ within.2)
+      rw (← is) (at_least end w.from (omega (arith, within.1.0, within.3.0, within.3.1)), at_most end _ within.2)
   object_end_in o endings.ByFields w e asked within is = by_last (last_attribute None (members_of d o.type_number)) (last_here d distinct o _ refl) is
     where
       by_last : (z : Option ℕ) → IsHere d o z → IsFieldsEnd d met here bytes o.start z e → IsBetween bytes w (byte_of e)
-      by_last None apart is' = subst (λ n. IsBetween bytes w (byte_of n)) is' within.0
+      by_last None apart is' = rw (← is') within.0
       by_last (Some z) apart is' =
           let i = ends_in here (steps.Name z) is'.0 (heads.Object o) o.stream apart asked refl is'.1 in
           let end = of_aligned is'.0 in
-          subst (λ n. IsBetween bytes w (byte_of n)) is'.2 (omega (arith, end, i.0, within.1.0), omega (arith, end, i.1, within.2))
+          rw (← is'.2) (omega (arith, end, i.0, within.1.0), omega (arith, end, i.1, within.2))
 
   place_in : (h : Head) (w : Stream) (e : Place) → all (head_node here) ≡ Ok (givens.Head h) → LiesIn bytes w h → IsEnd d met here bytes h e
       → Between w (byte_of e)
   place_in (heads.Absent None) w e asked within is = absurd is
-  place_in (heads.Absent (Some s)) w e asked within is = subst (λ n. Between w (byte_of n)) is within
+  place_in (heads.Absent (Some s)) w e asked within is = rw (← is) within
   place_in (heads.Calc c) w e asked within is = absurd is
-  place_in (heads.Leaf l) w e asked within is = subst (λ n. Between w (byte_of n)) is within.2
+  place_in (heads.Leaf l) w e asked within is = rw (← is) within.2
   place_in (heads.Object o) w e asked within is = object_end_in o o.ending w e asked within is
   place_in (heads.List g) w e asked within is =
       let r = is.1 in
@@ -374,7 +350,7 @@ module _ (d : Description) (distinct : HasDistinctNames d) (bytes : List ℕ) (m
     where
       by_step : (o : Option Step) → HeadLies d bytes all here o is.head → EndLies d bytes all here o e
       by_step None held = tt
-      by_step (Some step) (inl out) = absurd (subst (λ k. IsEnd d met here bytes k e) out.nowhere is.is)
+      by_step (Some step) (inl out) = absurd (rw out.nowhere at is.is)
       by_step (Some step) (inr held) = record {
         holder = held.holder;
         answered = held.answered;
@@ -392,8 +368,7 @@ module _ (d : Description) (distinct : HasDistinctNames d) (bytes : List ℕ) (m
       let up = part_of (parent here) r.path (steps.Index i) r.is in
       let a : IsHeld d bytes all r.path (λ w. Between w (byte_of place)) = lies (rest_node r.path) (givens.Rest count place) r.rested in
       let read : IsReadIn d all bytes here a.holder (last here) a.stream =
-      subst (λ o. IsReadIn d all bytes here a.holder o a.stream) (sym is)
-      (read_beside d all bytes r.path here a.holder i j a.stream (subst (λ o. IsReadIn d all bytes r.path a.holder o a.stream) up.1 a.read)) in
+      rw is (read_beside d all bytes r.path here a.holder i j a.stream (rw (← up.1) a.read)) in
       record { holder = a.holder; answered = ap (λ q. all (head_node q)) (sym up.0) ∙ a.answered; stream = a.stream; read = read; lies = a.lies }
 
   rest_in : (o : Option Step) (count : ℕ) (place : Place) → last here ≡ o → IsRest d met here bytes o count place
@@ -405,11 +380,11 @@ module _ (d : Description) (distinct : HasDistinctNames d) (bytes : List ℕ) (m
           holder = heads.List l.list;
           answered = same _ _ l.answered;
           stream = l.list.stream;
-          read = subst (λ o. IsReadIn d all bytes here (heads.List l.list) o l.list.stream) (sym step) refl;
-          lies = subst (λ n. Between l.list.stream (byte_of n)) l.start (holder_begins (heads.List l.list) l.answered);
+          read = rw step refl;
+          lies = rw (← l.start) (holder_begins (heads.List l.list) l.answered);
         }
     | inr from ↦ elim from [
-      | inl one ↦ subst (λ o. EndLies d bytes all here o place) step (lies (end_node here) (givens.End place true) one.1)
+      | inl one ↦ rw step at (lies (end_node here) (givens.End place true) one.1)
       | inr more ↦ rest_of_part (i + 1) i count place step more.2
     ]
   ]
@@ -422,8 +397,7 @@ module _ (d : Description) (distinct : HasDistinctNames d) (bytes : List ℕ) (m
   answer_in nodes.Head (givens.Head h) is = head_in (last here) h refl is
   answer_in nodes.End (givens.End place is_last) is = end_of_in place is_last is
   answer_in nodes.Rest (givens.Rest count place) is = rest_in (last here) count place refl is
-  answer_in nodes.Value (givens.Value v) is = tt
-  answer_in _ _ is = absurd is
+  answer_in k g is = grind arith
 
 all_lie : (d : Description) (bytes : List ℕ) (opened : List Node) → HasDistinctNames d → (n : Node) (g : Given) → from_nothing d bytes opened n ≡ Ok g
     → Lies d bytes (from_nothing d bytes opened) n.kind n.path g
@@ -434,8 +408,8 @@ all_lie d bytes opened distinct n g h =
 
 pub heads_lie_in_streams : HeadsLieInStreams
 heads_lie_in_streams d bytes opened p step h distinct is e =
-    subst (λ o. HeadLies d bytes (from_nothing d bytes opened) p o h) is (all_lie d bytes opened distinct (head_node p) (givens.Head h) e)
+    rw is at (all_lie d bytes opened distinct (head_node p) (givens.Head h) e)
 
 pub ends_lie_in_streams : EndsLieInStreams
 ends_lie_in_streams d bytes opened p step place is_last distinct is e =
-    subst (λ o. EndLies d bytes (from_nothing d bytes opened) p o place) is (all_lie d bytes opened distinct (end_node p) (givens.End place is_last) e)
+    rw is at (all_lie d bytes opened distinct (end_node p) (givens.End place is_last) e)

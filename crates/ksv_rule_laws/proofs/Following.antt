@@ -1,7 +1,7 @@
 -- An attribute begins after the one before it in its type, and the first where its object does.
-use Rattle.ksv_rule_laws.proofs.Common.{◌≡◌, ◌∙◌, ℕ, ◌+◌, ◌==◌, true, false, if◌then◌else◌, List, [], ◌∷◌, Option, Some, None, Result, Ok, refl, sym, ap, subst}
+use Rattle.ksv_rule_laws.proofs.Common.{◌≡◌, ◌∙◌, ℕ, ◌+◌, ◌==◌, true, false, List, [], ◌∷◌, Option, Some, None, Result, Ok, refl, sym, ap, subst}
 use Rattle.ksv_rule_laws.proofs.Common.{arith, AllByRecursion, nat_tests, Place, at_byte, byte_of, aligned, Trail, parent, last, Description, MemberOfType}
-use Rattle.ksv_rule_laws.proofs.Common.{MemberKind, Parameter, Attribute, ParseInstance, ValueInstance, Choice, Always, Switch}
+use Rattle.ksv_rule_laws.proofs.Common.{MemberKind, Attribute, Choice, Always}
 use Rattle.ksv_rule_laws.proofs.Common.{Node, NodeFault, Given, Object, Head, head_node, members_of, behind, Sought, sought, last_attribute, origin_of}
 use Rattle.ksv_rule_laws.proofs.Common.{start_after, start_of, from_nothing}
 use Rattle.std.proofs.Common.{◌*◌, ◌/◌, ◌++◌}
@@ -11,7 +11,8 @@ use Rattle.ksv_nodes.specs.declared.given.Given.TheVariants as givens
 use Rattle.ksv_nodes.specs.declared.given.Head.TheVariants as heads
 use Rattle.ksv_rule_meaning.specs.Fields.{is_attribute}
 use Rattle.ksv_rule_laws.specs.Laws.{AreBits, IsNextByte, BeginsAfter, FirstAttributesBegin, AttributesTouch}
-use Rattle.ksv_rule_laws.proofs.Shapes.{IsStart, IsMember, IsMemberOf, IsHead}
+use Rattle.ksv_rule_laws.proofs.Shapes.{IsStart, IsMember, IsMemberOf}
+use Rattle.std.proofs.lemmas.Option.{same_Some}
 use Rattle.ksv_rule_laws.proofs.Shaping.{by_shape}
 use Rattle.ksv_rule_laws.proofs.Touching.{begins_at}
 
@@ -24,13 +25,9 @@ sought_is : (x i : ℕ) (before : Option ℕ) (front : List MemberOfType) (m : M
 unfolding sought
 sought_is x i before [] m rest is apart =
     let same : (m.name == x) ≡ true = grind (arith, nat_tests) in
-    (i, ap (λ b. if b then Some (record { member = i; before = before; kind = m.kind }) else sought x (i + 1) (behind before m) rest) same)
+    (i, rw same refl)
 sought_is x i before (k ∷ front) m rest is apart =
-    let later = sought_is x (i + 1) (behind before k) front m rest is apart.1 in (
-      later.0,
-      ap (λ b. if b then Some (record { member = i; before = before; kind = k.kind }) else sought x (i + 1) (behind before k)
-          (front ++ m ∷ rest)) apart.0 ∙ later.1,
-    )
+    let later = sought_is x (i + 1) (behind before k) front m rest is apart.1 in (later.0, rw apart.0 later.1)
 
 last_of_both : (before : Option ℕ) (front rest : List MemberOfType) → last_attribute before (front ++ rest) ≡ last_attribute (last_attribute before front) rest
 last_of_both before [] rest = refl
@@ -38,15 +35,13 @@ last_of_both before (m ∷ front) rest = last_of_both (behind before m) front re
 
 last_of_none : (before : Option ℕ) (ms : List MemberOfType) → AllByRecursion (λ m. is_attribute m.kind ≡ false) ms → last_attribute before ms ≡ before
 last_of_none before [] none = refl
-last_of_none before (m ∷ ms) none = ap (λ b. last_attribute (if b then Some m.name else before) ms) none.0 ∙ last_of_none before ms none.1
+last_of_none before (m ∷ ms) none = rw none.0 (last_of_none before ms none.1)
 
 last_is : (front : List MemberOfType) (m : MemberOfType) (between : List MemberOfType) (y : ℕ) → m.name ≡ y → is_attribute m.kind ≡ true
     → AllByRecursion (λ k. is_attribute k.kind ≡ false) between
     → last_attribute None (front ++ m ∷ between) ≡ Some y
 last_is front m between y is attribute none =
-    last_of_both None front (m ∷ between)
-    ∙ ap (λ b. last_attribute (if b then Some m.name else last_attribute None front) between) attribute
-    ∙ last_of_none (Some m.name) between none ∙ ap Some is
+    rw (last_of_both None front (m ∷ between), attribute) (last_of_none (Some m.name) between none ∙ ap Some is)
 
 -- what an attribute reads by
 abbrev pub choice_of : MemberKind → Choice
@@ -62,18 +57,11 @@ next_byte e s is =
 
 starts_so : (c : Choice) (e s : Place) → start_after e c ≡ s → (AreBits c → s ≡ e) × ((AreBits c → ⊥) → IsNextByte e s)
 starts_so (Always (contents.Bits width enum)) e s is = (λ b. sym is, λ no. absurd (no tt))
-starts_so (Always contents.Bytes) e s is = (λ b. absurd b, λ no. next_byte e s is)
-starts_so (Always (contents.Fixed bs)) e s is = (λ b. absurd b, λ no. next_byte e s is)
-starts_so (Always (contents.Number signed size order enum)) e s is = (λ b. absurd b, λ no. next_byte e s is)
-starts_so (Always (contents.Characters encoding)) e s is = (λ b. absurd b, λ no. next_byte e s is)
-starts_so (Always (contents.Object t given)) e s is = (λ b. absurd b, λ no. next_byte e s is)
-starts_so (Switch on cases) e s is = (λ b. absurd b, λ no. next_byte e s is)
+starts_so c e s is = (λ b. absurd b, λ no. next_byte e s is)
 
 begins_after : (k : MemberKind) (e s : Place) → is_attribute k ≡ true → start_after e (choice_of k) ≡ s → BeginsAfter k e s
 begins_after (Attribute f) e s attribute is = starts_so f.choice e s is
-begins_after Parameter e s attribute is = absurd (cc)
-begins_after (ParseInstance x io f) e s attribute is = absurd (cc)
-begins_after (ValueInstance v) e s attribute is = absurd (cc)
+begins_after _ e s attribute is = cc
 
 -- where a member begins, of an object whose head is answered
 module _ (d : Description) (bytes : List ℕ) (met : Node → Result Given NodeFault) (p : Trail) where
@@ -82,15 +70,8 @@ module _ (d : Description) (bytes : List ℕ) (met : Node → Result Given NodeF
 
   member_starts : (o : Object) (m : Sought) (k : MemberKind) (h : Head) → is_attribute k ≡ true → IsMember d met p bytes o m k h
       → Starts o m.before (choice_of k) (start_of h)
-  member_starts o m (Attribute f) h attribute is = subst (Starts o m.before f.choice) (sym (begins_at bytes (origin_of o m) o.stream is.0 f h is.2)) is.1
-  member_starts o m _ h attribute is = absurd (cc)
-
-  -- the member that is found
-  one_member : (a b : Sought) → ◌≡◌ {A = Option Sought} (Some a) (Some b) → a ≡ b
-  one_member a b e = cc
-
-  one_object : (a b : Object) → ◌≡◌ {A = Result Given NodeFault} (Ok (givens.Head (heads.Object a))) (Ok (givens.Head (heads.Object b))) → a ≡ b
-  one_object a b e = cc
+  member_starts o m (Attribute f) h attribute is = rw (begins_at bytes (origin_of o m) o.stream is.0 f h is.2) is.1
+  member_starts o m _ h attribute is = cc
 
   -- the object at the holder's path is the one that the rule asked for
   begun : (x : ℕ) (h : Head) (o : Object) → IsMemberOf d met p bytes x h → met (head_node (parent p)) ≡ Ok (givens.Head (heads.Object o))
@@ -98,23 +79,19 @@ module _ (d : Description) (bytes : List ℕ) (met : Node → Result Given NodeF
       → m.name ≡ x → is_attribute m.kind ≡ true
       → AllByRecursion (λ k. (k.name == x) ≡ false) front → last_attribute None front ≡ before → Starts o before (choice_of m.kind) (start_of h)
   begun x h o i holder before front m rest members named attribute apart last_one =
-      let object : i.object ≡ o = one_object i.object o (sym i.asked ∙ holder) in
+      let object : i.object ≡ o = cc in
       let found = sought_is x 0 None front m rest named apart in
-      let here : sought x 0 None (members_of d i.object.type_number) ≡ Some
-      (record { member = found.0; before = last_attribute None front; kind = m.kind }) =
-      ap (λ (k : Object). sought x 0 None (members_of d k.type_number)) object ∙ ap (sought x 0 None) members ∙ found.1 in
-      let member : record { member = found.0; before = last_attribute None front; kind = m.kind } ≡ i.member = one_member _ i.member (sym here ∙ i.found) in
+      let here = ap (λ (k : Object). sought x 0 None (members_of d k.type_number)) object ∙ ap (sought x 0 None) members ∙ found.1 in
+      let member : record { member = found.0; before = last_attribute None front; kind = m.kind } ≡ i.member = same_Some _ _ (sym here ∙ i.found) in
       let front_is : i.member.before ≡ before = ap (λ (k : Sought). k.before) (sym member) ∙ last_one in
       let own = member_starts i.object i.member i.member.kind h (ap (λ (k : Sought). is_attribute k.kind) (sym member) ∙ attribute) i.is in
       let kind : i.member.kind ≡ m.kind = ap (λ (k : Sought). k.kind) (sym member) in
       let read = subst (λ k. Starts i.object i.member.before (choice_of k) (start_of h)) kind own in
-      subst (λ (k : Object). Starts k before (choice_of m.kind) (start_of h)) object
-      (subst (λ c. Starts i.object c (choice_of m.kind) (start_of h)) front_is read)
+      rw (← object) (rw (← front_is) read)
 
 head_begun : (d : Description) (bytes : List ℕ) (opened : List Node) (p : Trail) (x : ℕ) (h : Head) → last p ≡ Some (Name x)
     → from_nothing d bytes opened (head_node p) ≡ Ok (givens.Head h) → IsMemberOf d (from_nothing d bytes opened) p bytes x h
-head_begun d bytes opened p x h is e = subst (λ o. IsHead d (from_nothing d bytes opened) p bytes o h) is
-    (by_shape d bytes opened (head_node p) (givens.Head h) e)
+head_begun d bytes opened p x h is e = rw is at (by_shape d bytes opened (head_node p) (givens.Head h) e)
 
 pub first_attributes_begin : FirstAttributesBegin
 first_attributes_begin d bytes opened p x h o is e holder one =

@@ -1,6 +1,6 @@
 -- An answer has its node's form; a value is one of the head at its path, and meets what it must.
-use Rattle.ksv_rule_laws.proofs.Common.{◌≡◌, ℕ, List, Result, Ok, subst, inl, inr, Trail, Value, Description, Node, NodeFault, NodeKind, Given, Head, head_node}
-use Rattle.ksv_rule_laws.proofs.Common.{from_nothing, ValueMeets, IsNoStream}
+use Rattle.ksv_rule_laws.proofs.Common.{◌≡◌, ℕ, List, Result, Ok, inl, inr, Trail, Value, Description, Node, NodeFault, NodeKind, Given, Head, head_node}
+use Rattle.ksv_rule_laws.proofs.Common.{from_nothing, IsNoStream}
 use Rattle.ksv_expr_value.specs.declared.value.Value.TheVariants as values
 use Rattle.ksv_nodes.specs.declared.node.NodeKind.TheVariants as nodes
 use Rattle.ksv_nodes.specs.declared.given.Given.TheVariants as givens
@@ -14,8 +14,8 @@ use Rattle.ksv_rule_laws.specs.Laws.{ValuesMeetChecks, HasForm, AnswersHaveForms
 module _ (d : Description) (met : Node → Result Given NodeFault) (here : Trail) (bytes : List ℕ) where
   plain_is : (w v : Value) → IsPlain d met here bytes w v → IsNoStream v
   plain_is w v is = elim is [
-    | inl own ↦ subst (λ u. IsNoStream u) own.1 own.0
-    | inr member ↦ subst (λ u. IsNoStream u) member.2 tt
+    | inl own ↦ rw (← own.1) own.0
+    | inr member ↦ rw (← member.2) tt
   ]
 
   -- the value of a head that is read is one of it
@@ -67,4 +67,4 @@ pub values_meet_checks : ValuesMeetChecks
 values_meet_checks d bytes opened p h v head value =
     let met = from_nothing d bytes opened in
     let m : IsMadeOf d met p bytes v = by_shape d bytes opened (value_node p) (givens.Value v) value in
-    subst (λ (k : Head). ValueMeets met bytes d p k v) (one_head (met (head_node p)) m.head h m.asked head) m.meets
+    rw (← (one_head (met (head_node p)) m.head h m.asked head)) m.meets

@@ -1,5 +1,5 @@
 -- What an expression answers in a rule, where each node that it asks has an answer.
-use Rattle.ksv_rule_laws.proofs.Common.{◌≡◌, ℕ, List, [], ◌∷◌, Result, Ok, Err, Option, Some, None, refl, sym, ap, ◌∙◌, Answer, Fail, Ask, bind, Trail, Heard}
+use Rattle.ksv_rule_laws.proofs.Common.{◌≡◌, ℕ, List, [], ◌∷◌, Result, Ok, Err, Some, None, refl, sym, ap, ◌∙◌, Answer, Fail, Ask, bind, Trail, Heard}
 use Rattle.ksv_rule_laws.proofs.Common.{Setting, Eval, value_of, Want, look, Rule, Of, See, answer_of, with_given, with_seen, Node, NodeFault, Given}
 use Rattle.ksv_rule_laws.proofs.Common.{expression}
 use Rattle.std.proofs.Common.{◌++◌, flat_map, append_assoc, append-nil}
@@ -19,96 +19,60 @@ same_then (Ok a) f g same = same a
 same_then (Err e) f g same = refl
 
 module _ (met : Node → Result Given NodeFault) (here : Trail) (bytes : List ℕ) where
-  met_behind_given : {A B : Type 0} (r : Result Given NodeFault) (k : Given → Rule A) (f : A → Rule B)
-      → ((g : Given) → answer_of met here bytes (bind (k g) f) ≡ and_then (answer_of met here bytes (k g)) (λ a. answer_of met here bytes (f a)))
-      → with_given r (λ g. answer_of met here bytes (bind (k g) f)) ≡ and_then (with_given r (λ g. answer_of met here bytes (k g)))
-      (λ a. answer_of met here bytes (f a))
-  met_behind_given (Ok g) k f same = same g
-  met_behind_given (Err e) k f same = refl
+  -- what a rule answers, asks and uses there
+  abbrev Gives : {A : Type 0} → Rule A → Result A NodeFault
+  Gives p = answer_of met here bytes p
 
-  met_behind_seen : {A B X : Type 0} (o : Option X) (k : X → Rule A) (f : A → Rule B)
-      → ((x : X) → answer_of met here bytes (bind (k x) f) ≡ and_then (answer_of met here bytes (k x)) (λ a. answer_of met here bytes (f a)))
-      → with_seen here o (λ x. answer_of met here bytes (bind (k x) f)) ≡ and_then (with_seen here o (λ x. answer_of met here bytes (k x)))
-      (λ a. answer_of met here bytes (f a))
-  met_behind_seen (Some x) k f same = same x
-  met_behind_seen None k f same = refl
+  abbrev Asked : {A : Type 0} → Rule A → List Node
+  Asked p = asks_of met here bytes p
 
-  -- the answer of one rule after another
-  pub answer_bind : {A B : Type 0} (p : Rule A) (f : A → Rule B)
-      → answer_of met here bytes (bind p f) ≡ and_then (answer_of met here bytes p) (λ a. answer_of met here bytes (f a))
+  abbrev Used : {A : Type 0} → Rule A → List Use
+  Used p = uses_of met here bytes p
+
+  -- the same of one rule after another
+  answer_bind : {A B : Type 0} (p : Rule A) (f : A → Rule B) → Gives (bind p f) ≡ and_then (Gives p) (λ a. Gives (f a))
   unfolding bind
   answer_bind (Answer a) f = refl
   answer_bind (Fail e) f = refl
-  answer_bind (Ask (Of n) k) f = met_behind_given (met n) k f (λ g. answer_bind (k g) f)
-  answer_bind (Ask (See r) k) f = met_behind_seen (look r bytes).seen k f (λ x. answer_bind (k x) f)
+  answer_bind (Ask (Of n) k) f = elim (met n) as (λ r. with_given r (λ g. Gives (bind (k g) f)) ≡ and_then (with_given r (λ g. Gives (k g))) (λ a. Gives (f a)))
+      [ Ok g ↦ answer_bind (k g) f | Err e ↦ refl ]
+  answer_bind (Ask (See r) k) f = elim (look r bytes).seen
+      as (λ o. with_seen here o (λ x. Gives (bind (k x) f)) ≡ and_then (with_seen here o (λ x. Gives (k x))) (λ a. Gives (f a)))
+      [ Some x ↦ answer_bind (k x) f | None ↦ refl ]
 
-  -- a plan over wants, translated
-  met_plan : {A : Type 0} (s : Setting) (p : Eval A)
-      → answer_of met here bytes (translate (wanted s) Here p) ≡ plan_answer (raised_at here) (λ w. answer_of met here bytes (wanted s w)) p
-  met_plan s (Answer a) = refl
-  met_plan s (Fail k) = refl
-  met_plan s (Ask w k) =
-      answer_bind (wanted s w) (λ h. translate (wanted s) Here (k h))
-      ∙ same_then (answer_of met here bytes (wanted s w)) (λ h. answer_of met here bytes (translate (wanted s) Here (k h)))
-      (λ h. plan_answer (raised_at here) (λ v. answer_of met here bytes (wanted s v)) (k h)) (λ h. met_plan s (k h))
-
-  -- what one rule after another asks
-  asked_given : {A B : Type 0} (n : Node) (k : Given → Rule A) (f : A → Rule B)
-      → ((g : Given) → asks_of met here bytes (bind (k g) f) ≡ asks_of met here bytes (k g) ++ asks_behind (answer_of met here bytes (k g))
-      (λ a. asks_of met here bytes (f a)))
-      → (r : Result Given NodeFault) → n ∷ given_list r (λ g. asks_of met here bytes (bind (k g) f)) ≡
-      (n ∷ given_list r (λ g. asks_of met here bytes (k g))) ++ asks_behind (with_given r (λ g. answer_of met here bytes (k g)))
-      (λ a. asks_of met here bytes (f a))
-  asked_given n k f same (Ok g) = ap (λ ns. n ∷ ns) (same g)
-  asked_given n k f same (Err e) = refl
-
-  asked_seen : {A B X : Type 0} (k : X → Rule A) (f : A → Rule B)
-      → ((x : X) → asks_of met here bytes (bind (k x) f) ≡ asks_of met here bytes (k x) ++ asks_behind (answer_of met here bytes (k x))
-      (λ a. asks_of met here bytes (f a)))
-      → (o : Option X) → seen_list o (λ x. asks_of met here bytes (bind (k x) f)) ≡ seen_list o (λ x. asks_of met here bytes (k x)) ++ asks_behind
-      (with_seen here o (λ x. answer_of met here bytes (k x))) (λ a. asks_of met here bytes (f a))
-  asked_seen k f same (Some x) = same x
-  asked_seen k f same None = refl
-
-  asks_bind : {A B : Type 0} (p : Rule A) (f : A → Rule B)
-      → asks_of met here bytes (bind p f) ≡ asks_of met here bytes p ++ asks_behind (answer_of met here bytes p) (λ a. asks_of met here bytes (f a))
+  asks_bind : {A B : Type 0} (p : Rule A) (f : A → Rule B) → Asked (bind p f) ≡ Asked p ++ asks_behind (Gives p) (λ a. Asked (f a))
   unfolding bind
   asks_bind (Answer a) f = refl
   asks_bind (Fail e) f = refl
-  asks_bind (Ask (Of n) k) f = asked_given n k f (λ g. asks_bind (k g) f) (met n)
-  asks_bind (Ask (See r) k) f = asked_seen k f (λ x. asks_bind (k x) f) (look r bytes).seen
+  asks_bind (Ask (Of n) k) f = elim (met n) as (λ r. n ∷ given_list r (λ g. Asked (bind (k g) f)) ≡
+      (n ∷ given_list r (λ g. Asked (k g))) ++ asks_behind (with_given r (λ g. Gives (k g))) (λ a. Asked (f a)))
+      [ Ok g ↦ ap (λ ns. n ∷ ns) (asks_bind (k g) f) | Err e ↦ refl ]
+  asks_bind (Ask (See r) k) f = elim (look r bytes).seen as (λ o. seen_list o (λ x. Asked (bind (k x) f)) ≡
+      seen_list o (λ x. Asked (k x)) ++ asks_behind (with_seen here o (λ x. Gives (k x))) (λ a. Asked (f a)))
+      [ Some x ↦ asks_bind (k x) f | None ↦ refl ]
 
-  -- what one rule after another uses
-  used_given : {A B : Type 0} (k : Given → Rule A) (f : A → Rule B)
-      → ((g : Given) → uses_of met here bytes (bind (k g) f) ≡ uses_of met here bytes (k g) ++ asks_behind (answer_of met here bytes (k g))
-      (λ a. uses_of met here bytes (f a)))
-      → (r : Result Given NodeFault) → given_list r (λ g. uses_of met here bytes (bind (k g) f)) ≡ given_list r
-      (λ g. uses_of met here bytes (k g)) ++ asks_behind (with_given r (λ g. answer_of met here bytes (k g))) (λ a. uses_of met here bytes (f a))
-  used_given k f same (Ok g) = same g
-  used_given k f same (Err e) = refl
-
-  used_seen : {A B X : Type 0} (us : List Use) (k : X → Rule A) (f : A → Rule B)
-      → ((x : X) → uses_of met here bytes (bind (k x) f) ≡ uses_of met here bytes (k x) ++ asks_behind (answer_of met here bytes (k x))
-      (λ a. uses_of met here bytes (f a)))
-      → (o : Option X) → us ++ seen_list o (λ x. uses_of met here bytes (bind (k x) f)) ≡
-      (us ++ seen_list o (λ x. uses_of met here bytes (k x))) ++ asks_behind (with_seen here o (λ x. answer_of met here bytes (k x)))
-      (λ a. uses_of met here bytes (f a))
-  used_seen us k f same (Some x) = ap (λ vs. us ++ vs) (same x)
-      ∙ sym (append_assoc us (uses_of met here bytes (k x)) (asks_behind (answer_of met here bytes (k x)) (λ a. uses_of met here bytes (f a))))
-  used_seen us k f same None = sym (append-nil (us ++ []))
-
-  uses_bind : {A B : Type 0} (p : Rule A) (f : A → Rule B)
-      → uses_of met here bytes (bind p f) ≡ uses_of met here bytes p ++ asks_behind (answer_of met here bytes p) (λ a. uses_of met here bytes (f a))
+  uses_bind : {A B : Type 0} (p : Rule A) (f : A → Rule B) → Used (bind p f) ≡ Used p ++ asks_behind (Gives p) (λ a. Used (f a))
   unfolding bind
   uses_bind (Answer a) f = refl
   uses_bind (Fail e) f = refl
-  uses_bind (Ask (Of n) k) f = used_given k f (λ g. uses_bind (k g) f) (met n)
-  uses_bind (Ask (See r) k) f = used_seen (look r bytes).uses k f (λ x. uses_bind (k x) f) (look r bytes).seen
+  uses_bind (Ask (Of n) k) f = elim (met n) as (λ r. given_list r (λ g. Used (bind (k g) f)) ≡
+      given_list r (λ g. Used (k g)) ++ asks_behind (with_given r (λ g. Gives (k g))) (λ a. Used (f a)))
+      [ Ok g ↦ uses_bind (k g) f | Err e ↦ refl ]
+  uses_bind (Ask (See r) k) f = let us = (look r bytes).uses in elim (look r bytes).seen as (λ o. us ++ seen_list o (λ x. Used (bind (k x) f)) ≡
+      (us ++ seen_list o (λ x. Used (k x))) ++ asks_behind (with_seen here o (λ x. Gives (k x))) (λ a. Used (f a)))
+      [ Some x ↦ rw append_assoc (ap (λ vs. us ++ vs) (uses_bind (k x) f)) | None ↦ sym (append-nil (us ++ [])) ]
+
+  -- a plan over wants, translated
+  met_plan : {A : Type 0} (s : Setting) (p : Eval A)
+      → Gives (translate (wanted s) Here p) ≡ plan_answer (raised_at here) (λ w. Gives (wanted s w)) p
+  met_plan s (Answer a) = refl
+  met_plan s (Fail k) = refl
+  met_plan s (Ask w k) = answer_bind (wanted s w) _ ∙ same_then (Gives (wanted s w)) _ _ (λ h. met_plan s (k h))
 
   -- a plan over wants, translated, asks and uses what its wants do
   module _ (s : Setting) where
     abbrev heard_of : Want → Result Heard NodeFault
-    heard_of w = answer_of met here bytes (wanted s w)
+    heard_of w = Gives (wanted s w)
 
     -- what some rules ask or use, one for each want
     rest_same : {X : Type 0} (each : Want → List X) (w : Want) (behind : Heard → List X) (wants : Heard → List Want)
@@ -117,23 +81,15 @@ module _ (met : Node → Result Given NodeFault) (here : Trail) (bytes : List �
     rest_same each w behind wants same (Ok h) = ap (λ xs. each w ++ xs) (same h)
     rest_same each w behind wants same (Err e) = refl
 
-    asks_plan : {A : Type 0} (p : Eval A) → asks_of met here bytes (translate (wanted s) Here p) ≡ flat_map (λ w. asks_of met here bytes (wanted s w))
-        (plan_asks heard_of p)
+    asks_plan : {A : Type 0} (p : Eval A) → Asked (translate (wanted s) Here p) ≡ flat_map (λ w. Asked (wanted s w)) (plan_asks heard_of p)
     asks_plan (Answer a) = refl
     asks_plan (Fail k) = refl
-    asks_plan (Ask w k) =
-        asks_bind (wanted s w) (λ h. translate (wanted s) Here (k h))
-        ∙ rest_same (λ v. asks_of met here bytes (wanted s v)) w (λ h. asks_of met here bytes (translate (wanted s) Here (k h)))
-        (λ h. plan_asks heard_of (k h)) (λ h. asks_plan (k h)) (heard_of w)
+    asks_plan (Ask w k) = asks_bind (wanted s w) _ ∙ rest_same (λ v. Asked (wanted s v)) w _ _ (λ h. asks_plan (k h)) (heard_of w)
 
-    uses_plan : {A : Type 0} (p : Eval A) → uses_of met here bytes (translate (wanted s) Here p) ≡ flat_map (λ w. uses_of met here bytes (wanted s w))
-        (plan_asks heard_of p)
+    uses_plan : {A : Type 0} (p : Eval A) → Used (translate (wanted s) Here p) ≡ flat_map (λ w. Used (wanted s w)) (plan_asks heard_of p)
     uses_plan (Answer a) = refl
     uses_plan (Fail k) = refl
-    uses_plan (Ask w k) =
-        uses_bind (wanted s w) (λ h. translate (wanted s) Here (k h))
-        ∙ rest_same (λ v. uses_of met here bytes (wanted s v)) w (λ h. uses_of met here bytes (translate (wanted s) Here (k h)))
-        (λ h. plan_asks heard_of (k h)) (λ h. uses_plan (k h)) (heard_of w)
+    uses_plan (Ask w k) = uses_bind (wanted s w) _ ∙ rest_same (λ v. Used (wanted s v)) w _ _ (λ h. uses_plan (k h)) (heard_of w)
 
 pub expressions_are_met : ExpressionsAreMet
 unfolding expression

@@ -1,9 +1,10 @@
 -- How the members of a description read: the member of a place or a name, and the case that a switch chose.
-use Rattle.ksv_rule_laws.proofs.Common.{◌≡◌, ◌∙◌, ℕ, suc, ◌+◌, Bool, true, false, if◌then◌else◌, List, [], ◌∷◌, slice_get, Option, Some, None, Result, refl}
-use Rattle.ksv_rule_laws.proofs.Common.{sym, ap, subst, arith, Tree, Setting, Trail, Value, Description, MemberOfType, MemberKind, Parameter, Attribute}
-use Rattle.ksv_rule_laws.proofs.Common.{ParseInstance, ValueInstance, Content, Choice, Always, Switch, Node, NodeFault, Given, MemberRef, Rule, expression}
+use Rattle.ksv_rule_laws.proofs.Common.{◌≡◌, ◌∙◌, ℕ, suc, ◌+◌, Bool, List, [], ◌∷◌, slice_get, Option, Some, None, Result, refl}
+use Rattle.ksv_rule_laws.proofs.Common.{inl, inr, sym, ap, arith, Tree, Setting, Trail, Value, Description, MemberOfType, MemberKind, Attribute}
+use Rattle.ksv_rule_laws.proofs.Common.{ParseInstance, Content, Choice, Always, Switch, Node, NodeFault, Given, MemberRef, Rule, expression}
 use Rattle.ksv_rule_laws.proofs.Common.{members_of, Sought, kind_of, field_of, Reads, IsFieldOf, IsContentOf}
 use Rattle.std.specs.Prelude.{option_map, option_and_then}
+use Rattle.std.proofs.lemmas.Bool.{cases_Bool}
 use Rattle.ksv_desc.specs.Description.{Case, field_in}
 use Rattle.ksv_desc.specs.Description as contents
 use Rattle.ksv_rule_meaning.specs.Choosing.{Chosen, is_case_of, is_default, first_case, or_default, case_for, switched, choose, in_content, content_of}
@@ -18,30 +19,19 @@ record IsOneOf (cases : List Case) (i : ℕ) (c : Chosen) : Type 0 where
   there : slice_get cases place ≡ Some one
   content : one.content ≡ c.content
 
-one_case : (a b : Case) → Some a ≡ Some b → a ≡ b
-one_case a b e = cc
-
-one_chosen : (a b : Chosen) → Some a ≡ Some b → a ≡ b
-one_chosen a b e = cc
-
 first_there : (is_right : Case → Bool) (i : ℕ) (cases : List Case) (c : Chosen) → first_case is_right i cases ≡ Some c → IsOneOf cases i c
 unfolding first_case
-first_there is_right i [] c e = absurd (cc)
-first_there is_right i (k ∷ cases) c e = by_right (is_right k) e (first_there is_right (i + 1) cases c)
-  where
-    found : Chosen
-    found = record { case = Some i; content = k.content }
-
-    by_right : (b : Bool) → (if b then Some found else first_case is_right (i + 1) cases) ≡ Some c
-        → (first_case is_right (i + 1) cases ≡ Some c → IsOneOf cases (i + 1) c) → IsOneOf (k ∷ cases) i c
-    by_right true h later =
-        let same : found ≡ c = one_chosen found c h in
-        let at : i ≡ i + 0 = omega arith in
-        record { place = 0; is = ap (λ (x : Chosen). x.case) (sym same) ∙ ap Some at; one = k; there = refl; content = ap (λ (x : Chosen). x.content) same }
-    by_right false h later =
-        let r = later h in
-        let at : i + 1 + r.place ≡ i + suc r.place = omega arith in
-        record { place = suc r.place; is = r.is ∙ ap Some at; one = r.one; there = r.there; content = r.content }
+first_there is_right i [] c e = cc
+first_there is_right i (k ∷ cases) c e = elim (cases_Bool (is_right k)) [
+  | inl so ↦
+      let found : ◌≡◌ {A = Option Chosen} (Some (record { case = Some i; content = k.content })) (Some c) = rw so at e in
+      let at : i ≡ i + 0 = omega arith in
+      record { place = 0; is = cc; one = k; there = refl; content = cc }
+  | inr other ↦
+      let r = first_there is_right (i + 1) cases c (rw other at e) in
+      let at : i + 1 + r.place ≡ i + suc r.place = omega arith in
+      record { place = suc r.place; is = r.is ∙ ap Some at; one = r.one; there = r.there; content = r.content }
+]
 
 case_there : (v : Value) (cases : List Case) (c : Chosen) → case_for v cases ≡ Some c → IsOneOf cases 0 c
 unfolding case_for
@@ -61,7 +51,7 @@ switch_is on cases v None e = refl
 switch_is on cases v (Some c) e =
     let r = case_there v cases c e in
     let at : 0 + r.place ≡ r.place = omega arith in
-    subst (λ k. IsContentOf (Switch on cases) k c.content) (sym (r.is ∙ ap Some at)) (r.one, r.there, r.content)
+    rw (r.is ∙ ap Some at) (r.one, r.there, r.content)
 
 module _ (met : Node → Result Given NodeFault) (here : Trail) (bytes : List ℕ) where
   abbrev Says : {A : Type 0} → (A → Type 0) → Rule A → Type 0
@@ -84,7 +74,7 @@ module _ (met : Node → Result Given NodeFault) (here : Trail) (bytes : List �
       by_case : (o : Option Case) → Answers met here bytes (λ c. (k : Content) → (one : Case) × (o ≡ Some one) × (one.content ≡ k) → k ≡ c)
           (in_content (option_map (λ c. c.content) o))
       by_case None = tt
-      by_case (Some c) = λ k is. sym is.2 ∙ sym (ap (λ (x : Case). x.content) (one_case c is.0 is.1))
+      by_case (Some c) = λ k is. cc
 
   -- what the member of a place is, and how it reads
   pub kind_found : (d : Description) (r : MemberRef)
@@ -102,10 +92,9 @@ module _ (met : Node → Result Given NodeFault) (here : Trail) (bytes : List �
     where
       by_kind : (m : MemberOfType) (k : MemberKind) → m.kind ≡ k
           → Answers met here bytes (λ f. (n : MemberOfType) × (Some m ≡ Some n) × Reads n.kind f) (in_field (field_in k))
-      by_kind m (Attribute f) is = (m, refl, subst (λ k. Reads k f) (sym is) refl)
-      by_kind m (ParseInstance at io f) is = (m, refl, subst (λ k. Reads k f) (sym is) refl)
-      by_kind m Parameter is = tt
-      by_kind m (ValueInstance v) is = tt
+      by_kind m (Attribute f) is = (m, refl, rw is refl)
+      by_kind m (ParseInstance at io f) is = (m, refl, rw is refl)
+      by_kind m _ is = tt
 
       by_member : (o : Option MemberOfType) → Answers met here bytes (λ f. (n : MemberOfType) × (o ≡ Some n) × Reads n.kind f)
           (in_field (option_and_then (λ m. field_in m.kind) o))

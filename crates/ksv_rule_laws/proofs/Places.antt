@@ -1,5 +1,5 @@
 -- Each place in an answer lies in the file.
-use Rattle.ksv_rule_laws.proofs.Common.{◌≡◌, ℕ, ◌≤◌, true, List, length, Option, Some, None, Result, Ok, subst, sym, arith, inl, inr, Place, at_byte, byte_of}
+use Rattle.ksv_rule_laws.proofs.Common.{◌≡◌, ℕ, ◌≤◌, true, List, length, Option, Some, None, Result, Ok, arith, inl, inr, Place, at_byte, byte_of}
 use Rattle.ksv_rule_laws.proofs.Common.{of_aligned, Trail, parent, last, Step, Stream, Value, Choice, Description, MemberKind, Parameter, Attribute}
 use Rattle.ksv_rule_laws.proofs.Common.{ParseInstance, ValueInstance, Field, Node, NodeFault, NodeKind, Given, Holder, Leaf, Origin, ObjectEnd, Object, Head}
 use Rattle.ksv_rule_laws.proofs.Common.{end_in, head_node, end_node, rest_node, members_of, Sought, last_attribute, origin_of, instance_setting, from_nothing}
@@ -10,11 +10,11 @@ use Rattle.ksv_nodes.specs.declared.node.NodeKind.TheVariants as nodes
 use Rattle.ksv_nodes.specs.declared.given.Given.TheVariants as givens
 use Rattle.ksv_nodes.specs.declared.given.ObjectEnd.TheVariants as endings
 use Rattle.ksv_nodes.specs.declared.given.Head.TheVariants as heads
-use Rattle.ksv_rule_laws.specs.Laws.{IsOfHead, IsEndIn, IsPlaceIn, IsStreamIn, IsHomeIn, IsHolderIn, IsHeadIn, IsValueIn, IsIn, PlacesAreInFile}
+use Rattle.ksv_rule_laws.specs.Laws.{IsOfHead, IsEndIn, IsStreamIn, IsHolderIn, IsHeadIn, IsValueIn, IsIn, PlacesAreInFile}
 use Rattle.ksv_rule_laws.proofs.Starts.{of_start, at_most}
 use Rattle.ksv_rule_laws.proofs.Forms.{value_fits, no_stream}
 use Rattle.ksv_rule_laws.proofs.Sources.{heads_are_read}
-use Rattle.ksv_rule_laws.proofs.Ranges.{IsRanged, IsElementIn, IsKnown, expression_in, stream_in}
+use Rattle.ksv_rule_laws.proofs.Ranges.{IsRanged, IsKnown, expression_in, stream_in}
 use Rattle.ksv_rule_laws.proofs.Shapes.{IsHeadAt, IsStart, IsMember, IsElementOf, IsHead, IsPlain, IsCalculatedIn, IsValueAt, IsMadeOf, IsFieldsEnd}
 use Rattle.ksv_rule_laws.proofs.Shapes.{IsObjectEnd, IsEnd, IsRest, IsAnswer}
 use Rattle.ksv_rule_laws.proofs.Shaping.{by_shapes}
@@ -39,29 +39,29 @@ module _ (d : Description) (bytes : List ℕ) (opened : List Node) (met : Node �
 
   at_in : (origin : Origin) (w : Stream) (s : Place) (f : Field) (h : Head) → IsStreamIn size origin.home → IsStreamIn size w → byte_of s ≤ size
       → IsHeadAt bytes origin w s f h → IsHeadIn size h
-  at_in origin w s f (heads.Absent at) home within begins is = subst (IsPlaceIn size) (sym is) begins
+  at_in origin w s f (heads.Absent at) home within begins is = rw is begins
   at_in origin w s f (heads.Calc c) home within begins is = absurd is
   at_in origin w s f (heads.Leaf l) home within begins is =
       let end = end_is_in w.to within.1 in (
-        subst (λ (p : Place). byte_of p ≤ size) (sym is.from) begins,
+        rw is.from begins,
         omega (arith, is.to.inside, end),
         omega (arith, is.end.inside, end),
-        subst (IsStreamIn size) (sym is.home) home,
+        rw is.home home,
       )
   at_in origin w s f (heads.Object o) home within begins is =
       let end = end_is_in w.to within.1 in
       let from : o.stream.from ≤ size = elim is.from [
-        | inl own ↦ subst (λ n. n ≤ size) (sym own) within.0
-        | inr at ↦ subst (λ n. n ≤ size) (sym at) begins
+        | inl own ↦ rw own within.0
+        | inr at ↦ rw at begins
       ] in (
-        subst (λ (p : Place). byte_of p ≤ size) (sym is.start) begins,
+        rw is.start begins,
         (from, is_end_in o.stream.to (omega (arith, is.to.inside, end))),
-        subst (IsHomeIn size) (sym is.read_by) (subst (IsStreamIn size) (sym is.home) home),
+        rw is.read_by (rw is.home home),
       )
   at_in origin w s f (heads.List g) home within begins is = (
-    subst (λ (p : Place). byte_of p ≤ size) (sym is.start) begins,
-    subst (IsStreamIn size) (sym is.stream) within,
-    subst (λ (o : Origin). IsStreamIn size o.home) (sym is.is) home,
+    rw is.start begins,
+    rw is.stream within,
+    rw is.is home,
   )
 
   abbrev IsObjectIn : Object → Type 0
@@ -71,35 +71,35 @@ module _ (d : Description) (bytes : List ℕ) (opened : List Node) (met : Node �
   ends_in q step e is = lies (end_node is.path) (givens.End e is.is_last) is.ended
 
   start_in : (o : Object) (before : Option ℕ) (c : Choice) (s : Place) → IsObjectIn o → IsStart d met here bytes o before c s → byte_of s ≤ size
-  start_in o None c s within is = subst (λ (n : Place). byte_of n ≤ size) is within.0
-  start_in o (Some y) c s within is = subst (λ (n : Place). byte_of n ≤ size) is.2 (rw (of_start is.0 c) (ends_in (parent here) (steps.Name y) is.0 is.1))
+  start_in o None c s within is = rw (← is) within.0
+  start_in o (Some y) c s within is = rw (← is.2) (rw (of_start is.0 c) (ends_in (parent here) (steps.Name y) is.0 is.1))
 
   member_in : (o : Object) (m : Sought) (k : MemberKind) (h : Head) → IsObjectIn o → IsMember d met here bytes o m k h → IsHeadIn size h
-  member_in o m Parameter h within is = subst (IsHeadIn size) is within
+  member_in o m Parameter h within is = rw (← is) within
   member_in o m (Attribute f) h within is = at_in (origin_of o m) o.stream is.0 f h within.1 within.1 (start_in o m.before f.choice is.0 within is.1) is.2
   member_in o m (ParseInstance e io f) h within is = elim is [
-    | inl out ↦ subst (IsHeadIn size) out.1 tt
+    | inl out ↦ rw (← out.1) tt
     | inr at ↦
         let stream = stream_in met here bytes lies (instance_setting here (parent here) o) io at.stream (within.1, tt) at.named in
         at_in (origin_of o m) at.stream (at_byte at.byte) f h within.1 stream
         (at_most at.byte size (omega (arith, at.inside, end_is_in at.stream.to stream.1))) at.is
   ]
   member_in o m (ValueInstance v) h within is = elim is [
-    | inl out ↦ subst (IsHeadIn size) out.1 tt
-    | inr calc ↦ subst (IsHeadIn size) calc within
+    | inl out ↦ rw (← out.1) tt
+    | inr calc ↦ rw (← calc) within
   ]
 
   element_in : (i : ℕ) (h : Head) → IsElementOf d met here bytes i h → IsHeadIn size h
   element_in i h is =
       let within = lies (head_node (parent here)) (givens.Head (heads.List is.list)) is.asked in
       let begins : byte_of is.start ≤ size = elim is.begins [
-        | inl first ↦ subst (λ (n : Place). byte_of n ≤ size) first.1 within.0
+        | inl first ↦ rw (← first.1) within.0
         | inr later ↦ lies (end_node later.path) (givens.End is.start _) later.ended
       ] in
       at_in is.list.origin is.list.stream is.start is.field h within.2 within.1 begins is.is
 
   head_in : (step : Option Step) (h : Head) → IsHead d met here bytes step h → IsHeadIn size h
-  head_in None h is = subst (IsHeadIn size) is (at_most 0 size (omega arith), (omega arith, tt), tt)
+  head_in None h is = rw (← is) (at_most 0 size (omega arith), (omega arith, tt), tt)
   head_in (Some (steps.Name x)) h is = member_in is.object is.member is.member.kind h
       (lies (head_node (parent here)) (givens.Head (heads.Object is.object)) is.asked) is.is
   head_in (Some (steps.Index i)) h is = element_in i h is
@@ -107,19 +107,18 @@ module _ (d : Description) (bytes : List ℕ) (opened : List Node) (met : Node �
   -- ---- ends
 
   fields_end_in : (start : Place) (z : Option ℕ) (e : Place) → byte_of start ≤ size → IsFieldsEnd d met here bytes start z e → byte_of e ≤ size
-  fields_end_in start None e begins is = subst (λ (n : Place). byte_of n ≤ size) is begins
-  fields_end_in start (Some z) e begins is = subst (λ (n : Place). byte_of n ≤ size) is.2 (rw (of_aligned is.0) (ends_in here (steps.Name z) is.0 is.1))
+  fields_end_in start None e begins is = rw (← is) begins
+  fields_end_in start (Some z) e begins is = rw (← is.2) (rw (of_aligned is.0) (ends_in here (steps.Name z) is.0 is.1))
 
   object_end_in : (o : Object) (x : ObjectEnd) (e : Place) → IsObjectIn o → IsObjectEnd d met here bytes o x e → byte_of e ≤ size
-  object_end_in o endings.OfStream e within is = subst (λ (n : Place). byte_of n ≤ size) is
-      (at_most (end_in bytes o.stream.to) size (end_is_in o.stream.to within.1.1))
+  object_end_in o endings.OfStream e within is = rw (← is) (at_most (end_in bytes o.stream.to) size (end_is_in o.stream.to within.1.1))
   object_end_in o endings.ByFields e within is = fields_end_in o.start (last_attribute None (members_of d o.type_number)) e within.0 is
 
   end_in_file : (h : Head) (e : Place) → IsHeadIn size h → IsEnd d met here bytes h e → byte_of e ≤ size
   end_in_file (heads.Absent None) e within is = absurd is
-  end_in_file (heads.Absent (Some s)) e within is = subst (λ (n : Place). byte_of n ≤ size) is within
+  end_in_file (heads.Absent (Some s)) e within is = rw (← is) within
   end_in_file (heads.Calc c) e within is = absurd is
-  end_in_file (heads.Leaf l) e within is = subst (λ (n : Place). byte_of n ≤ size) is within.2
+  end_in_file (heads.Leaf l) e within is = rw (← is) within.2
   end_in_file (heads.Object o) e within is = object_end_in o o.ending e within is
   end_in_file (heads.List g) e within is = lies (rest_node is.1.path) (givens.Rest is.0 e) is.1.rested
 
@@ -128,7 +127,7 @@ module _ (d : Description) (bytes : List ℕ) (opened : List Node) (met : Node �
   rest_in : (step : Option Step) (count : ℕ) (place : Place) → IsRest d met here bytes step count place → byte_of place ≤ size
   rest_in (Some (steps.Index i)) count place is = elim is [
     | inl whole ↦ let list : IsHeadIn size (heads.List whole.1.list) = lies _ (givens.Head (heads.List whole.1.list)) whole.1.answered in
-        subst (λ (n : Place). byte_of n ≤ size) whole.1.start list.0
+        rw (← whole.1.start) list.0
     | inr from ↦ elim from [
       | inl one ↦ lies (end_node here) (givens.End place true) one.1
       | inr more ↦ lies (rest_node more.2.path) (givens.Rest count place) more.2.rested
@@ -141,8 +140,8 @@ module _ (d : Description) (bytes : List ℕ) (opened : List Node) (met : Node �
   -- what an expression of a member gives
   plain_in : (w v : Value) → IsRanged size w → IsPlain d met here bytes w v → IsValueIn size v
   plain_in w v within is = elim is [
-    | inl own ↦ subst (IsValueIn size) own.1 (by_value w within)
-    | inr member ↦ subst (IsValueIn size) member.2 tt
+    | inl own ↦ rw (← own.1) (by_value w within)
+    | inr member ↦ rw (← member.2) tt
   ]
     where
       by_value : (u : Value) → IsRanged (length bytes) u → IsValueIn (length bytes) u
@@ -152,10 +151,10 @@ module _ (d : Description) (bytes : List ℕ) (opened : List Node) (met : Node �
   calculated_in : (o : Holder) (v : Value) → IsHolderIn size o → IsCalculatedIn d met here bytes o v → IsValueIn size v
   calculated_in o v within is =
       let stream : IsStreamIn size is.setting.stream = elim is.stream [
-        | inl own ↦ subst (IsStreamIn size) (sym own) within.1
-        | inr by ↦ subst (IsStreamIn size) (sym by.2) (subst (IsHomeIn size) by.1 within.2)
+        | inl own ↦ rw own within.1
+        | inr by ↦ rw by.2 (rw by.1 at within.2)
       ] in
-      plain_in is.first v (expression_in met here bytes lies is.setting is.tree is.first (stream, subst (IsElementIn size) (sym is.element) tt) is.was) is.plain
+      plain_in is.first v (expression_in met here bytes lies is.setting is.tree is.first (stream, rw is.element tt) is.was) is.plain
 
   leaf_value_in : (l : Leaf) (v : Value) → IsHeadIn size (heads.Leaf l) → IsOfLeaf l v → IsValueIn size v
   leaf_value_in l (values.Bytes from to) within fits = let f = fits.0 in let t = fits.1 in let a = within.0 in let b = within.1 in (omega arith, omega arith)
@@ -170,8 +169,8 @@ module _ (d : Description) (bytes : List ℕ) (opened : List Node) (met : Node �
       by_head (heads.Absent at) within fits is' = absurd fits
       by_head (heads.Calc c) within fits is' = calculated_in c.object v within is'
       by_head (heads.Leaf l) within fits is' = leaf_value_in l v within fits
-      by_head (heads.Object o) within fits is' = subst (IsValueIn (length bytes)) (sym fits) tt
-      by_head (heads.List g) within fits is' = subst (IsValueIn (length bytes)) (sym fits) tt
+      by_head (heads.Object o) within fits is' = rw fits tt
+      by_head (heads.List g) within fits is' = rw fits tt
 
   -- ---- answers
 

@@ -1,6 +1,6 @@
 -- What is so of each answer of a rule, by its parts: a rule whose parts answer so answers so.
-use Rattle.ksv_rule_laws.proofs.Common.{◌≡◌, ◌∙◌, Bool, true, false, if◌then◌else◌, List, Option, Some, None, Result, Ok, Err, refl, ap, subst, ℕ, Answer, Fail}
-use Rattle.ksv_rule_laws.proofs.Common.{Ask, bind, Tree, Setting, Trail, Value, Node, NodeFault, Given, Seen, look, Rule, Of, See, ask_head, ask_rest}
+use Rattle.ksv_rule_laws.proofs.Common.{arith, ◌≡◌, Bool, true, false, if◌then◌else◌, List, Option, Some, None, Result, Ok, Err, refl, subst, ℕ, Answer, Fail}
+use Rattle.ksv_rule_laws.proofs.Common.{Ask, bind, Tree, Setting, Trail, Node, NodeFault, Given, Seen, look, Rule, Of, See, ask_head, ask_rest}
 use Rattle.ksv_rule_laws.proofs.Common.{head_node, end_node, rest_node, answer_of, with_given, with_seen, expression, truth_of}
 use Rattle.ksv_expr_value.specs.declared.value.Value.TheVariants as values
 use Rattle.ksv_nodes.specs.declared.given.Given.TheVariants as givens
@@ -8,7 +8,9 @@ use Rattle.ksv_nodes.specs.declared.given.Ended.{Ended}
 use Rattle.ksv_nodes.specs.declared.given.Rested.{Rested}
 use Rattle.ksv_nodes.specs.Rule.{in_path, ask_end}
 use Rattle.ksv_rule_meaning.specs.Wanted.{in_truth}
-use Rattle.ksv_rule_laws.proofs.Answering.{ok_is}
+
+pub ok_is : {A : Type 0} (x y : A) → ◌≡◌ {A = Result A NodeFault} (Ok x) (Ok y) → x ≡ y
+ok_is x y h = cc
 
 -- ---- what a rule answers
 
@@ -42,26 +44,29 @@ module _ (met : Node → Result Given NodeFault) (here : Trail) (bytes : List �
   -- what is answered is so
   pub answered : {A : Type 0} (P : A → Type 0) (p : Rule A) (a : A) → Answers P p → answer_of met here bytes p ≡ Ok a → P a
   answered P (Answer x) a h e = subst P (ok_is x a e) h
-  answered P (Fail x) a h e = absurd (cc)
-  answered P (Ask (Of n) k) a h e = by_given (met n) refl e (λ g is. answered P (k g) a (h g is))
-    where
-      by_given : (r : Result Given NodeFault) → met n ≡ r → with_given r (λ g. answer_of met here bytes (k g)) ≡ Ok a
-          → ((g : Given) → met n ≡ Ok g → answer_of met here bytes (k g) ≡ Ok a → P a) → P a
-      by_given (Ok g) is e' later = later g is e'
-      by_given (Err f) is e' later = absurd (cc)
-  answered P (Ask (See r) k) a h e = by_seen (look r bytes).seen refl e (λ x is. answered P (k x) a (h x is))
-    where
-      by_seen : (o : Option (Seen r)) → (look r bytes).seen ≡ o → with_seen here o (λ x. answer_of met here bytes (k x)) ≡ Ok a
-          → ((x : Seen r) → (look r bytes).seen ≡ Some x → answer_of met here bytes (k x) ≡ Ok a → P a) → P a
-      by_seen (Some x) is e' later = later x is e'
-      by_seen None is e' later = absurd (cc)
+  answered P (Fail x) a h e = cc
+  answered P (Ask (Of n) k) a h e =
+      (elim (met n) as (λ r. met n ≡ r → with_given r (λ g. answer_of met here bytes (k g)) ≡ Ok a → P a)
+      [ Ok g ↦ λ is e'. answered P (k g) a (h g is) e' | Err f ↦ λ is e'. cc ]) refl e
+  answered P (Ask (See r) k) a h e =
+      (elim (look r bytes).seen as (λ o. (look r bytes).seen ≡ o → with_seen here o (λ x. answer_of met here bytes (k x)) ≡ Ok a → P a)
+      [ Some x ↦ λ is e'. answered P (k x) a (h x is) e' | None ↦ λ is e'. cc ]) refl e
 
-  -- a rule answers what it answers
+  -- a rule answers what it answers, also where more nodes have answers
+  pub also : (met' : Node → Result Given NodeFault) → ((m : Node) (g : Given) → met m ≡ Ok g → met' m ≡ Ok g) → {A : Type 0} (p : Rule A)
+      → Answers (λ a. answer_of met' here bytes p ≡ Ok a) p
+  also met' same (Answer a) = refl
+  also met' same (Fail e) = tt
+  also met' same (Ask (Of n) k) = λ g is. so _ _ (k g) (also met' same (k g)) (λ a e. rw (same n g is) e)
+  also met' same (Ask (See r) k) = λ x is. so _ _ (k x) (also met' same (k x)) (λ a e. rw is e)
+
   pub exact : {A : Type 0} (p : Rule A) → Answers (λ a. answer_of met here bytes p ≡ Ok a) p
-  exact (Answer a) = refl
-  exact (Fail e) = tt
-  exact (Ask (Of n) k) = λ g is. so _ _ (k g) (exact (k g)) (λ a e. ap (λ r. with_given r (λ x. answer_of met here bytes (k x))) is ∙ e)
-  exact (Ask (See r) k) = λ x is. so _ _ (k x) (exact (k x)) (λ a e. ap (λ o. with_seen here o (λ y. answer_of met here bytes (k y))) is ∙ e)
+  exact p = also met (λ m g is. is) p
+
+  -- one rule, and then what follows from its answer
+  pub known : {A B : Type 0} (S : B → Type 0) (p : Rule A) (f : A → Rule B) → ((a : A) → answer_of met here bytes p ≡ Ok a → Answers S (f a))
+      → Answers S (bind p f)
+  known S p f g = join _ S p f (exact p) g
 
   -- ---- what is asked
 
@@ -85,9 +90,4 @@ module _ (met : Node → Result Given NodeFault) (here : Trail) (bytes : List �
 
   pub truth_is : (s : Setting) (e : Tree) → Answers (λ b. answer_of met here bytes (expression s e) ≡ Ok (values.Bool b)) (truth_of s e)
   unfolding truth_of
-  truth_is s e = join _ _ (expression s e) (λ v. in_truth v) (exact (expression s e)) (λ v is. by_value v is)
-    where
-      by_value : (v : Value) → answer_of met here bytes (expression s e) ≡ Ok v
-          → Answers (λ b. answer_of met here bytes (expression s e) ≡ Ok (values.Bool b)) (in_truth v)
-      by_value (values.Bool b) is = is
-      by_value _ is = tt
+  truth_is s e = known _ (expression s e) (λ v. in_truth v) (λ v is. grind arith)

@@ -1,17 +1,17 @@
 -- What rules answer has a shape: one lemma a rule.
 use Rattle.ksv_rule_laws.proofs.Common.{◌≡◌, ◌∙◌, ℕ, ◌+◌, ◌-◌, ◌==◌, ◌≤◌, ◌<◌, Bool, true, false, if◌then◌else◌, List, ◌∷◌, length, Option, Some, None, Result}
-use Rattle.ksv_rule_laws.proofs.Common.{Ok, refl, sym, ap, subst, arith, inl, inr, ◌⊎◌, nat_tests, bind, Tree, Place, at_byte, byte_of, further, Setting, Trail}
+use Rattle.ksv_rule_laws.proofs.Common.{Ok, refl, sym, ap, arith, inl, inr, ◌⊎◌, nat_tests, bind, Tree, Place, at_byte, byte_of, further, Setting, Trail}
 use Rattle.ksv_rule_laws.proofs.Common.{child, parent, last, Step, Stream, Choice, Description, MemberKind, Parameter, Attribute, ParseInstance}
 use Rattle.ksv_rule_laws.proofs.Common.{ValueInstance, Field, Content, Repeat, Once, Eos, Expr, Until, Node, NodeFault, NodeKind, Given, Leaf, Origin}
-use Rattle.ksv_rule_laws.proofs.Common.{ObjectEnd, Object, Head, end_in, Rule, ask_head, ask_rest, head_node, end_node, answer_of, truth_of, holds, stream_for}
-use Rattle.ksv_rule_laws.proofs.Common.{members_of, Sought, sought, last_attribute, field_of, origin_of, instance_setting, is_last, start_of, from_nothing}
+use Rattle.ksv_rule_laws.proofs.Common.{ObjectEnd, Object, Head, end_in, Rule, ask_rest, head_node, end_node, answer_of, truth_of, holds, stream_for}
+use Rattle.ksv_rule_laws.proofs.Common.{members_of, Sought, sought, last_attribute, origin_of, instance_setting, is_last, start_of, from_nothing}
 use Rattle.ksv_rule_laws.proofs.Common.{IsContentOf, IsLeafOf, IsCountedBy, EndsAt}
-use Rattle.std.proofs.Common.{◌||◌, drop, nat_lt}
+use Rattle.std.proofs.Common.{◌||◌, drop}
 use Rattle.std.specs.Prelude.{slice_range}
 use Rattle.std.proofs.lemmas.List.{length-take}
 use Rattle.std.proofs.lemmas.Grind.{common_steps}
+use Rattle.std.proofs.lemmas.Option.{same_Some}
 use Rattle.ksv_expr_tree.specs.Tree.{Arguments}
-use Rattle.ksv_expr_value.specs.Places.{is_same}
 use Rattle.ksv_expr_value.proofs.Places.{of_further}
 use Rattle.ksv_expr_value.specs.Trail.{element_limit, first_step, all_but_last, same_trail, trail_of-steps}
 use Rattle.ksv_expr_value.specs.declared.step.Step.TheVariants as steps
@@ -27,19 +27,18 @@ use Rattle.ksv_nodes.specs.declared.given.Rested.{Rested}
 use Rattle.ksv_nodes.specs.declared.turn.readings.Found.{Found}
 use Rattle.ksv_nodes.specs.declared.turn.readings.Found.TheVariants as founds
 use Rattle.ksv_nodes.specs.Reading.{reach_file, reach_within, finish_of, peek_at, first_at, found_none, found_from, find_at}
-use Rattle.ksv_nodes.specs.Rule.{part, ask_end, reach, finish, done, find}
+use Rattle.ksv_nodes.specs.Rule.{ask_end, reach, finish, done, find}
 use Rattle.ksv_nodes.proofs.First.{first_at_below}
 use Rattle.ksv_rule_meaning.specs.Choosing.{Chosen, choose}
 use Rattle.ksv_rule_meaning.specs.Wanted.{in_object, size_of}
-use Rattle.ksv_rule_meaning.specs.Fields.{in_sought, member_named}
+use Rattle.ksv_rule_meaning.specs.Fields.{member_named}
 use Rattle.ksv_rule_meaning.specs.Heads.{leaf, bits_leaf, leaf_to_end, terminated_at, terminated, run_of, sized_leaf, bytes_at, sized_object, object_at}
 use Rattle.ksv_rule_meaning.specs.Heads.{content_at, unchosen_at, chosen_at, shape_at, count_of, counted, until_eos, repeated, attribute_at, part_end}
 use Rattle.ksv_rule_meaning.specs.Heads.{attribute_start, attribute_setting, element_setting, attribute_head, positioned_in, positioned, instance_head}
 use Rattle.ksv_rule_meaning.specs.Heads.{value_head, member_at, member_head, in_list, is_past, in_next, next_start, element_start, element_head, head_at}
 use Rattle.ksv_rule_meaning.specs.Heads.{head_of}
-use Rattle.ksv_rule_meaning.specs.Values.{value_of}
 use Rattle.ksv_rule_meaning.specs.Ends.{stream_end, fields_end, object_end, part_rest, list_end, place_of, not_empty, element_end, end_at, end_of, next_rest}
-use Rattle.ksv_rule_meaning.specs.Ends.{rest_behind, rest_from, in_whole_list, whole_rest, rest_at, rest_of, behind_element, is_by_bytes}
+use Rattle.ksv_rule_meaning.specs.Ends.{rest_behind, rest_from, in_whole_list, whole_rest, rest_at, rest_of, behind_element}
 use Rattle.ksv_rule_meaning.specs.Meaning.{meaning_of}
 use Rattle.ksv_rule_laws.proofs.Answering.{by_rule, by_rules}
 use Rattle.ksv_rule_laws.proofs.Rules.{Answers, join, either, so, answered, asked_head, asked_end, asked_rest, path_is, exact}
@@ -62,26 +61,18 @@ module _ (met : Node → Result Given NodeFault) (here : Trail) (bytes : List �
   hence : {A : Type 0} (P S : A → Type 0) (p : Rule A) → Says P p → ((a : A) → P a → S a) → Says S p
   hence P S p h f = so met here bytes P S p h f
 
-  -- ---- readings
+  known : {A B : Type 0} (S : B → Type 0) (p : Rule A) (f : A → Rule B) → ((a : A) → answer_of met here bytes p ≡ Ok a → Says S (f a)) → Says S (bind p f)
+  known S p f g = after _ S p f (exact met here bytes p) g
 
-  some_is : {A : Type 0} (x y : A) → ◌≡◌ {A = Option A} (Some x) (Some y) → x ≡ y
-  some_is x y e = cc
+  -- ---- readings
 
   reached : (w : Stream) (t : ℕ) → Says (λ x. t ≤ end_in bytes w.to) (reach w t)
   unfolding reach_within reach_file
-  reached w t x e = by_end w.to e
-    where
-      by_end : (to : Option ℕ) → (reach_within bytes to t).seen ≡ Some x → t ≤ end_in bytes to
-      by_end None h = grind (arith, nat_tests, common_steps)
-      by_end (Some end) h = grind (arith, nat_tests, common_steps)
+  reached w t x e = grind (arith, nat_tests, common_steps)
 
   finished : (w : Stream) → Says (λ e. e ≡ end_in bytes w.to) (finish w)
   unfolding finish_of
-  finished w e h = by_end w.to h
-    where
-      by_end : (to : Option ℕ) → (finish_of bytes to).seen ≡ Some e → e ≡ end_in bytes to
-      by_end None h' = sym (some_is (length bytes) e h')
-      by_end (Some end) h' = sym (some_is end e h')
+  finished w e h = grind arith
 
   range_short : (s e i : ℕ) → i < length (slice_range bytes s e) → s + i + 1 ≤ e
   range_short s e i lt = omega (arith, length-take (e - s) (drop s bytes))
@@ -96,14 +87,14 @@ module _ (met : Node → Result Given NodeFault) (here : Trail) (bytes : List �
   found w s b q h = by_place (first_at b (slice_range bytes s (end_in bytes w.to))) refl h
     where
       missing : (o : Option (List ℕ)) → (elim o [ None ↦ None | Some bs ↦ Some (founds.Missing (end_in bytes w.to)) ]) ≡ Some q → IsFoundIn w s q
-      missing None h' = absurd (cc)
-      missing (Some bs) h' = subst (IsFoundIn w s) (some_is (founds.Missing (end_in bytes w.to)) q h') refl
+      missing None h' = cc
+      missing (Some bs) h' = rw (← (same_Some (founds.Missing (end_in bytes w.to)) q h')) refl
 
       by_place : (o : Option ℕ) → first_at b (slice_range bytes s (end_in bytes w.to)) ≡ o → (found_from bytes w.to s (end_in bytes w.to) o).seen ≡ Some q
           → IsFoundIn w s q
       by_place (Some i) is h' =
           let inside = range_short s (end_in bytes w.to) i (first_at_below b (slice_range bytes s (end_in bytes w.to)) i is) in
-          subst (IsFoundIn w s) (some_is (founds.At (s + i)) q h') (omega arith, inside)
+          rw (← (same_Some (founds.At (s + i)) q h')) (omega arith, inside)
       by_place None is h' = missing (peek_at bytes s (end_in bytes w.to)).seen h'
 
   -- ---- what is read at a place of a stream
@@ -134,19 +125,19 @@ module _ (met : Node → Result Given NodeFault) (here : Trail) (bytes : List �
 
       bits_are : (n : ℕ) → (origin.case ≡ None → IsLeafOf (leaf_to (further s n) (further s n)) f) → Says Shaped (bits_leaf by w s n)
       unfolding bits_leaf
-      bits_are n own = after _ _ (reach w (byte_of (further s n))) _ (reached w (byte_of (further s n))) (λ x low.
+      bits_are n own = after _ _ _ _ (reached w (byte_of (further s n))) (λ x low.
           let end : IsBehind bytes w s (byte_of (further s n)) = record { after = λ e'. of_further s n; inside = low } in
           leaf_is (further s n) (further s n) end end own)
 
       module _ (own : (to end : Place) → origin.case ≡ None → IsLeafOf (leaf_to to end) f) where
         some_are : (n : ℕ) → Says Shaped (leaf by w s n)
         unfolding leaf
-        some_are n = after _ _ (reach w (byte_of s + n)) _ (reached w (byte_of s + n))
+        some_are n = after _ _ _ _ (reached w (byte_of s + n))
             (λ x low. let end = behind (byte_of s + n) (omega arith) low in leaf_is _ _ end end (own _ _))
 
         sized_are : (at : Setting) (e : Tree) → Says Shaped (sized_leaf at by w s e)
         unfolding sized_leaf
-        sized_are at e = after _ _ (size_of at e) _ (exact met here bytes (size_of at e)) (λ n was. some_are n)
+        sized_are at e = known _ (size_of at e) _ (λ n was. some_are n)
 
         up_to : (e : ℕ) → e ≡ end_in bytes w.to → Shaped (heads.Leaf (leaf_to (at_byte e) (at_byte e)))
         up_to e is =
@@ -156,7 +147,7 @@ module _ (met : Node → Result Given NodeFault) (here : Trail) (bytes : List �
 
         to_end_are : Says Shaped (leaf_to_end by w s)
         unfolding leaf_to_end
-        to_end_are = after _ _ (finish w) _ (finished w) (λ e is. up_to e is)
+        to_end_are = after _ _ _ _ (finished w) (λ e is. up_to e is)
 
         found_are : (t : Terminator) (q : Found) → IsFoundIn w (byte_of s) q → Says Shaped (terminated_at by s t q)
         found_are t (founds.At q) is = leaf_is _ _ (one_of t.is_included q is.0 is.1) (one_of t.is_consumed q is.0 is.1) (own _ _)
@@ -165,7 +156,7 @@ module _ (met : Node → Result Given NodeFault) (here : Trail) (bytes : List �
         run_is : (t : Option Terminator) → Says Shaped (run_of by w s t)
         unfolding run_of terminated
         run_is None = refl
-        run_is (Some t) = after _ _ (find w (byte_of s) t.byte) _ (found w (byte_of s) t.byte) (λ q is. found_are t q is)
+        run_is (Some t) = after _ _ _ _ (found w (byte_of s) t.byte) (λ q is. found_are t q is)
 
         bytes_are : (at : Setting) (x : Extent) (t : Option Terminator) → Says Shaped (bytes_at at by w s x t)
         unfolding bytes_at
@@ -182,8 +173,8 @@ module _ (met : Node → Result Given NodeFault) (here : Trail) (bytes : List �
       object_is : (at : Setting) (t : ℕ) (given : Arguments) (x : Extent) → IsContentOf f.choice case (contents.Object t given)
           → Says Shaped (object_at at by t w s x)
       unfolding object_at sized_object
-      object_is at t given (Sized e) own = after _ _ (size_of at e) _ (exact met here bytes (size_of at e))
-          (λ n was. after _ _ (reach w (byte_of s + n)) _ (reached w (byte_of s + n)) (λ x low.
+      object_is at t given (Sized e) own = known _ (size_of at e) _
+          (λ n was. after _ _ _ _ (reached w (byte_of s + n)) (λ x low.
           record {
             start = refl;
             from = inr refl;
@@ -233,54 +224,44 @@ module _ (met : Node → Result Given NodeFault) (here : Trail) (bytes : List �
       where
         by_chosen : (o : Option Chosen) → IsChosen f.choice o → Answers met here bytes (IsHeadAt bytes origin w s f) (chosen_at at origin w s f o)
         by_chosen None is = unchosen_is origin.case (λ to end none.
-            (contents.Bytes, subst (λ k. IsContentOf f.choice k contents.Bytes) (sym none) is, tt, tt)) at f.extent
+            (contents.Bytes, rw none is, tt, tt)) at f.extent
         by_chosen (Some c) is = content_is c.case at c.content is
 
     -- ---- lists
 
-    count_is : (at : Setting) (e : Tree) → Says (λ n. Unit {0}) (count_of at e)
-    unfolding count_of
-    count_is at e = after _ _ (size_of at e) _ (exact met here bytes (size_of at e)) (λ n was. test _ (nat_lt element_limit n) _ _ (λ many. tt) (λ few. tt))
-
     list_is : (r : Repeat) (g : lists.List) → f.repeat ≡ r → g.start ≡ s → g.stream ≡ w → g.origin ≡ origin → IsCountedBy r g → Shaped (heads.List g)
-    list_is r g is start stream by so' = record { start = start; stream = stream; is = by; read = subst (λ q. IsCountedBy q g) (sym is) so' }
+    list_is r g is start stream by so' = record { start = start; stream = stream; is = by; read = rw is so' }
 
     repeated_is : (at : Setting) (r : Repeat) → f.repeat ≡ r → Says Shaped (repeated at origin w s f r)
     unfolding repeated counted until_eos
     repeated_is at Once is = shape_is at
-    repeated_is at (Expr e) is = after _ _ (count_of at e) _ (count_is at e) (λ n any. list_is (Expr e) _ is refl refl refl (n, refl, refl))
-    repeated_is at Eos is = after _ _ (done w s) _ (exact met here bytes (done w s)) (λ b was. list_is Eos _ is refl refl refl refl)
+    repeated_is at (Expr e) is = known _ (count_of at e) _ (λ n any. list_is (Expr e) _ is refl refl refl (n, refl, refl))
+    repeated_is at Eos is = known _ (done w s) _ (λ b was. list_is Eos _ is refl refl refl refl)
     repeated_is at (Until c) is = list_is (Until c) _ is refl refl refl refl
 
     attribute_is : (at : Setting) → Says Shaped (attribute_at at origin w s f)
     unfolding attribute_at
-    attribute_is at = after _ _ (holds at f.condition) _ (exact met here bytes (holds at f.condition))
+    attribute_is at = known _ (holds at f.condition) _
         (λ there was. test _ there _ _ (λ e. repeated_is at f.repeat refl) (λ e. refl))
 
   -- ---- what was asked for
 
   object_asked : (q : Trail) (k : Head) → met (head_node q) ≡ Ok (givens.Head k)
       → Says (λ o. met (head_node q) ≡ Ok (givens.Head (heads.Object o))) (in_object q k)
-  object_asked q (heads.Object o) asked = asked
-  object_asked q (heads.Absent at) asked = tt
-  object_asked q _ asked = tt
+  object_asked q k asked = grind arith
 
   list_asked : (l : Trail) (k : Head) → met (head_node l) ≡ Ok (givens.Head k) → Says (λ g. met (head_node l) ≡ Ok (givens.Head (heads.List g))) (in_list l k)
-  list_asked l (heads.List g) asked = asked
-  list_asked l (heads.Absent at) asked = tt
-  list_asked l _ asked = tt
+  list_asked l k asked = grind arith
 
   whole_list_asked : (l : Trail) (k : Head) → met (head_node l) ≡ Ok (givens.Head k)
       → Says (λ g. met (head_node l) ≡ Ok (givens.Head (heads.List g))) (in_whole_list l k)
-  whole_list_asked l (heads.List g) asked = asked
-  whole_list_asked l (heads.Absent at) asked = tt
-  whole_list_asked l _ asked = tt
+  whole_list_asked l k asked = grind arith
 
   -- a part ends, the last or not
   part_ends : (q : Trail) (step : Step) → Says (λ (x : Ended). (r : Trail) × (child q step ≡ Some r) × (met (end_node r) ≡ Ok (givens.End x.place x.last)))
       (part_end q step)
   unfolding part_end
-  part_ends q step = after _ _ (part q step) _ (path_is met here bytes (child q step))
+  part_ends q step = after _ _ _ _ (path_is met here bytes (child q step))
       (λ r is. hence _ _ (ask_end r) (asked_end met here bytes r) (λ x ended. (r, is, ended)))
 
   ends_at : (q : Trail) (step : Step) (x : Ended) → (r : Trail) × (child q step ≡ Some r) × (met (end_node r) ≡ Ok (givens.End x.place x.last))
@@ -289,7 +270,7 @@ module _ (met : Node → Result Given NodeFault) (here : Trail) (bytes : List �
 
   part_rests : (q : Trail) (step : Step) → Says (λ (x : Rested). RestsAt met q step x.count x.place) (part_rest q step)
   unfolding part_rest
-  part_rests q step = after _ _ (part q step) _ (path_is met here bytes (child q step))
+  part_rests q step = after _ _ _ _ (path_is met here bytes (child q step))
       (λ r is. hence _ _ (ask_rest r) (asked_rest met here bytes r) (λ x rested. record { path = r; is = is; rested = rested }))
 
   -- ---- heads
@@ -298,7 +279,7 @@ module _ (met : Node → Result Given NodeFault) (here : Trail) (bytes : List �
     start_is : (o : Object) (before : Option ℕ) (c : Choice) → Says (IsStart d met here bytes o before c) (attribute_start (parent here) o before c)
     unfolding attribute_start
     start_is o None c = refl
-    start_is o (Some y) c = after _ _ (part_end (parent here) (steps.Name y)) _ (part_ends (parent here) (steps.Name y))
+    start_is o (Some y) c = after _ _ _ _ (part_ends (parent here) (steps.Name y))
         (λ x is. (x.place, ends_at (parent here) (steps.Name y) x is, refl))
 
     -- a condition that is false
@@ -311,9 +292,9 @@ module _ (met : Node → Result Given NodeFault) (here : Trail) (bytes : List �
     unfolding positioned positioned_in
     placed_is o m e io f =
         let at = instance_setting here (parent here) o in
-        after _ _ (stream_for at io) (λ x. positioned_in at (origin_of o m) x e f) (exact met here bytes (stream_for at io)) (λ w named.
-        after _ _ (size_of at e) _ (exact met here bytes (size_of at e)) (λ n was.
-        after _ _ (reach w (w.from + n)) _ (reached w (w.from + n)) (λ x low.
+        known _ (stream_for at io) (λ x. positioned_in at (origin_of o m) x e f) (λ w named.
+        known _ (size_of at e) _ (λ n was.
+        after _ _ _ _ (reached w (w.from + n)) (λ x low.
         hence _ _ (repeated (record at { place = at_byte (w.from + n) }) (origin_of o m) w (at_byte (w.from + n)) f f.repeat)
         (repeated_is (origin_of o m) w (at_byte (w.from + n)) f (record at { place = at_byte (w.from + n) }) f.repeat refl)
         (λ h is. record { stream = w; named = named; byte = w.from + n; behind = omega arith; inside = low; is = is }))))
@@ -322,25 +303,25 @@ module _ (met : Node → Result Given NodeFault) (here : Trail) (bytes : List �
     unfolding member_at attribute_head instance_head value_head
     member_is o m Parameter = refl
     member_is o m (Attribute f) =
-        after _ _ (attribute_start (parent here) o m.before f.choice) _ (start_is o m.before f.choice) (λ s starts.
+        after _ _ _ _ (start_is o m.before f.choice) (λ s starts.
         hence _ _ (attribute_at (attribute_setting here (parent here) (origin_of o m) s) (origin_of o m) o.stream s f)
         (attribute_is (origin_of o m) o.stream s f (attribute_setting here (parent here) (origin_of o m) s)) (λ h is. (s, starts, is)))
     member_is o m (ParseInstance e io f) =
         let at = instance_setting here (parent here) o in
-        after _ _ (holds at f.condition) _ (exact met here bytes (holds at f.condition)) (λ there was.
+        known _ (holds at f.condition) _ (λ there was.
         test _ there _ _ (λ yes. hence _ _ (positioned at (origin_of o m) e io f) (placed_is o m e io f) (λ h is. inr is))
         (λ no. inl (unmet at f.condition there was no, refl)))
     member_is o m (ValueInstance v) =
         let at = instance_setting here (parent here) o in
-        after _ _ (holds at v.condition) _ (exact met here bytes (holds at v.condition))
+        known _ (holds at v.condition) _
         (λ there was. test _ there _ _ (λ yes. inr refl) (λ no. inl (unmet at v.condition there was no, refl)))
 
     member_head_is : (x : ℕ) → Says (IsMemberOf d met here bytes x) (member_head d here (parent here) x)
     unfolding member_head member_named
     member_head_is x =
-        after _ _ (ask_head (parent here)) _ (asked_head met here bytes (parent here)) (λ k asked.
-        after _ _ (in_object (parent here) k) _ (object_asked (parent here) k asked) (λ o now.
-        after _ _ (in_sought (sought x 0 None (members_of d o.type_number))) _ (sought_is met here bytes (sought x 0 None (members_of d o.type_number)))
+        after _ _ _ _ (asked_head met here bytes (parent here)) (λ k asked.
+        after _ _ _ _ (object_asked (parent here) k asked) (λ o now.
+        after _ _ _ _ (sought_is met here bytes (sought x 0 None (members_of d o.type_number)))
         (λ m found.
         hence _ _ (member_at here (parent here) o m m.kind) (member_is o m m.kind)
         (λ h is. record { object = o; asked = now; member = m; found = found; is = is }))))
@@ -349,7 +330,7 @@ module _ (met : Node → Result Given NodeFault) (here : Trail) (bytes : List �
     unfolding element_start next_start
     element_start_is g i =
         test _ (g.is_empty || is_past g.count i) _ _ (λ e. tt) (λ e. test _ (i == 0) _ _ (λ is. inl (first is, refl)) (λ is.
-        after _ _ (part_end (parent here) (steps.Index (i - 1))) _ (part_ends (parent here) (steps.Index (i - 1))) (λ x r. by_last x.place x.last is r)))
+        after _ _ _ _ (part_ends (parent here) (steps.Index (i - 1))) (λ x r. by_last x.place x.last is r)))
       where
         first : (i == 0) ≡ true → i ≡ 0
         first is = grind (arith, nat_tests)
@@ -363,10 +344,10 @@ module _ (met : Node → Result Given NodeFault) (here : Trail) (bytes : List �
     element_is : (i : ℕ) → Says (IsElementOf d met here bytes i) (element_head d here (parent here) (parent (parent here)) i)
     unfolding element_head
     element_is i =
-        after _ _ (ask_head (parent here)) _ (asked_head met here bytes (parent here)) (λ k asked.
-        after _ _ (in_list (parent here) k) _ (list_asked (parent here) k asked) (λ g now.
-        after _ _ (element_start (parent here) g i) _ (element_start_is g i) (λ s begins.
-        after _ _ (field_of d g.origin.member) _ (field_found met here bytes d g.origin.member) (λ f read.
+        after _ _ _ _ (asked_head met here bytes (parent here)) (λ k asked.
+        after _ _ _ _ (list_asked (parent here) k asked) (λ g now.
+        after _ _ _ _ (element_start_is g i) (λ s begins.
+        after _ _ _ _ (field_found met here bytes d g.origin.member) (λ f read.
         hence _ _ (shape_at (element_setting here (parent (parent here)) g.origin s i) g.origin g.stream s f)
         (shape_is g.origin g.stream s f (element_setting here (parent (parent here)) g.origin s i))
         (λ h is. record { list = g; asked = now; start = s; begins = begins; field = f; read = read; is = is })))))
@@ -381,12 +362,12 @@ module _ (met : Node → Result Given NodeFault) (here : Trail) (bytes : List �
     fields_end_is : (start : Place) (z : Option ℕ) → Says (IsFieldsEnd d met here bytes start z) (fields_end here start z)
     unfolding fields_end
     fields_end_is start None = refl
-    fields_end_is start (Some z) = after _ _ (part_end here (steps.Name z)) _ (part_ends here (steps.Name z))
+    fields_end_is start (Some z) = after _ _ _ _ (part_ends here (steps.Name z))
         (λ x is. (x.place, ends_at here (steps.Name z) x is, refl))
 
     object_end_is : (o : Object) (x : ObjectEnd) → Says (IsObjectEnd d met here bytes o x) (object_end d here o x)
     unfolding object_end stream_end
-    object_end_is o endings.OfStream = after _ _ (finish o.stream) _ (finished o.stream) (λ e is. ap at_byte (sym is))
+    object_end_is o endings.OfStream = after _ _ _ _ (finished o.stream) (λ e is. ap at_byte (sym is))
     object_end_is o endings.ByFields = fields_end_is o.start (last_attribute None (members_of d o.type_number))
 
     place_is : (h : Head) → Says (IsEnd d met here bytes h) (place_of d here h)
@@ -396,7 +377,7 @@ module _ (met : Node → Result Given NodeFault) (here : Trail) (bytes : List �
     place_is (heads.Calc c) = tt
     place_is (heads.Leaf l) = refl
     place_is (heads.Object o) = object_end_is o o.ending
-    place_is (heads.List g) = after _ _ (part_rest here (steps.Index 0)) _ (part_rests here (steps.Index 0)) (λ x r. (x.count, r))
+    place_is (heads.List g) = after _ _ _ _ (part_rests here (steps.Index 0)) (λ x r. (x.count, r))
 
     last_is : (g : lists.List) (i : ℕ) (e : Place) (r : Repeat)
         → Says (λ b. answer_of met here bytes (is_last (parent (parent here)) g here i e r) ≡ Ok b) (is_last (parent (parent here)) g here i e r)
@@ -406,41 +387,37 @@ module _ (met : Node → Result Given NodeFault) (here : Trail) (bytes : List �
     last_is g i e Eos = exact met here bytes (done g.stream e)
     last_is g i e (Until c) = exact met here bytes (truth_of (behind_element (parent (parent here)) g here i e) c)
 
-    not_empty_is : (r : Repeat) (start e : Place) → Says (λ u. Unit {0}) (not_empty r start e)
-    unfolding not_empty
-    not_empty_is r start e = test _ (is_by_bytes r) _ _ (λ yes. test _ (is_same e start) _ _ (λ none. tt) (λ some. tt)) (λ no. tt)
-
     end_at_is : (step : Option Step) (h : Head) (e : Place)
         → Says (λ (x : Ended). (e ≡ x.place) × IsLast d met here bytes step e x.last) (end_at d here step h e)
     unfolding element_end
     end_at_is (Some (steps.Index i)) h e =
-        after _ _ (ask_head (parent here)) _ (asked_head met here bytes (parent here)) (λ k asked.
-        after _ _ (in_list (parent here) k) _ (list_asked (parent here) k asked) (λ g now.
-        after _ _ (field_of d g.origin.member) _ (field_found met here bytes d g.origin.member) (λ f read.
-        after _ _ (not_empty f.repeat (start_of h) e) _ (not_empty_is f.repeat (start_of h) e) (λ u any.
-        after _ _ (is_last (parent (parent here)) g here i e f.repeat) _ (last_is g i e f.repeat)
+        after _ _ _ _ (asked_head met here bytes (parent here)) (λ k asked.
+        after _ _ _ _ (list_asked (parent here) k asked) (λ g now.
+        after _ _ _ _ (field_found met here bytes d g.origin.member) (λ f read.
+        known _ (not_empty f.repeat (start_of h) e) _ (λ u any.
+        after _ _ _ _ (last_is g i e f.repeat)
         (λ b says. (refl, record { list = g; asked = now; field = f; read = read; says = says }))))))
     end_at_is _ h e = (refl, refl)
 
     end_is : Says (λ (x : Ended). IsEndOf d met here bytes x.place x.last) (end_of d here)
     unfolding end_of
     end_is =
-        after _ _ (ask_head here) _ (asked_head met here bytes here) (λ h asked.
-        after _ _ (place_of d here h) _ (place_is h) (λ e is.
+        after _ _ _ _ (asked_head met here bytes here) (λ h asked.
+        after _ _ _ _ (place_is h) (λ e is.
         hence _ _ (end_at d here (last here) h e) (end_at_is (last here) h e) (λ x was.
         record {
           head = h;
           asked = asked;
-          is = subst (IsEnd d met here bytes h) was.0 is;
+          is = rw (← was.0) is;
           last =
-              subst (λ n. IsLast d met here bytes (last here) n x.last) was.0 was.1;
+              rw (← was.0) was.1;
         })))
 
     -- ---- rests
 
     rest_from_is : (i : ℕ) → Says (λ (x : Rested). IsRestFrom d met here bytes i x.count x.place) (rest_from here (parent here) i)
     unfolding rest_from next_rest
-    rest_from_is i = after _ _ (ask_end here) _ (asked_end met here bytes here) (λ e ended. by_last e.last e.place ended)
+    rest_from_is i = after _ _ _ _ (asked_end met here bytes here) (λ e ended. by_last e.last e.place ended)
       where
         by_last : (b : Bool) (place : Place) → met (end_node here) ≡ Ok (givens.End place b)
             → Answers met here bytes (λ (x : Rested). IsRestFrom d met here bytes i x.count x.place)
@@ -453,8 +430,8 @@ module _ (met : Node → Result Given NodeFault) (here : Trail) (bytes : List �
     whole_rest_is : Says (λ (x : Rested). IsRest d met here bytes (Some (steps.Index 0)) x.count x.place) (whole_rest here (parent here))
     unfolding whole_rest
     whole_rest_is =
-        after _ _ (ask_head (parent here)) _ (asked_head met here bytes (parent here)) (λ h asked.
-        after _ _ (in_whole_list (parent here) h) _ (whole_list_asked (parent here) h asked) (λ g now.
+        after _ _ _ _ (asked_head met here bytes (parent here)) (λ h asked.
+        after _ _ _ _ (whole_list_asked (parent here) h asked) (λ g now.
         test _ g.is_empty _ _ (λ empty. inl (refl, record { list = g; answered = now; empty = empty; none = refl; start = refl }))
         (λ some. hence _ _ (rest_from here (parent here) 0) (rest_from_is 0) (λ x from. inr from))))
 
@@ -468,17 +445,17 @@ module _ (met : Node → Result Given NodeFault) (here : Trail) (bytes : List �
 
         by_zero : (j : ℕ) (x : Rested) → j ≡ 0 → IsRest d met here bytes (Some (steps.Index 0)) x.count x.place
             → IsRest d met here bytes (Some (steps.Index j)) x.count x.place
-        by_zero j x none is = subst (λ n. IsRest d met here bytes (Some (steps.Index n)) x.count x.place) (sym none) is
+        by_zero j x none is = rw none is
     rest_is _ = tt
 
     -- ---- answers
 
     pub answer_is : (k : NodeKind) → Says (IsAnswer d met here bytes k) (meaning_of d k here)
     unfolding meaning_of head_of rest_of
-    answer_is nodes.Head = after _ _ (head_at d here (last here)) _ (head_is (last here)) (λ h is. is)
-    answer_is nodes.Value = after _ _ (value_of d here) _ (made_is met here bytes d) (λ v is. is)
+    answer_is nodes.Head = after _ _ _ _ (head_is (last here)) (λ h is. is)
+    answer_is nodes.Value = after _ _ _ _ (made_is met here bytes d) (λ v is. is)
     answer_is nodes.End = after _ _ (end_of d here) _ end_is (λ x is. is)
-    answer_is nodes.Rest = after _ _ (rest_at here (last here)) _ (rest_is (last here)) (λ x is. is)
+    answer_is nodes.Rest = after _ _ _ _ (rest_is (last here)) (λ x is. is)
 
 -- a part's last step, and what it is a part of
 pub part_of : (q r : Trail) (step : Step) → child q step ≡ Some r → (parent r ≡ q) × (last r ≡ Some step)

@@ -1,6 +1,6 @@
 -- What is at a path is read by a member of the description, by the case of its switch, and a list has the count of its `repeat`.
-use Rattle.ksv_rule_laws.proofs.Common.{◌≡◌, ◌∙◌, ℕ, suc, ◌+◌, ◌==◌, Bool, true, false, if◌then◌else◌, List, [], ◌∷◌, slice_get, Option, Some, None, Result, Ok}
-use Rattle.ksv_rule_laws.proofs.Common.{refl, sym, ap, subst, arith, inl, inr, Place, at_byte, Trail, parent, last, Step, Stream, Description, MemberOfType}
+use Rattle.ksv_rule_laws.proofs.Common.{◌≡◌, ◌∙◌, ℕ, suc, ◌+◌, ◌==◌, List, [], ◌∷◌, slice_get, Option, Some, None, Result, Ok}
+use Rattle.ksv_rule_laws.proofs.Common.{refl, ap, arith, inl, inr, Place, at_byte, Trail, parent, last, Step, Stream, Description, MemberOfType}
 use Rattle.ksv_rule_laws.proofs.Common.{MemberKind, Parameter, Attribute, ParseInstance, ValueInstance, Field, Node, NodeFault, NodeKind, Given, Object, Origin}
 use Rattle.ksv_rule_laws.proofs.Common.{Head, head_node, members_of, behind, Sought, sought, calc, origin_of, Reads, IsFieldOf}
 use Rattle.ksv_expr_value.specs.declared.step.Step.TheVariants as steps
@@ -9,6 +9,7 @@ use Rattle.ksv_nodes.specs.declared.given.Given.TheVariants as givens
 use Rattle.ksv_nodes.specs.declared.given.Head.TheVariants as heads
 use Rattle.ksv_rule_laws.specs.Laws.{IsObjectRead, IsCalculated, IsRead, HeadsAreRead}
 use Rattle.ksv_rule_laws.proofs.Shapes.{IsHeadAt, IsMember, IsHead, IsAnswer}
+use Rattle.std.proofs.lemmas.Bool.{cases_Bool}
 use Rattle.ksv_rule_laws.proofs.Shaping.{by_shapes}
 
 -- ---- the member of a place
@@ -23,25 +24,16 @@ pub record IsThere (ms : List MemberOfType) (i : ℕ) (s : Sought) : Type 0 wher
 
 sought_there : (x i : ℕ) (before : Option ℕ) (ms : List MemberOfType) (s : Sought) → sought x i before ms ≡ Some s → IsThere ms i s
 unfolding sought
-sought_there x i before [] s e = absurd (cc)
-sought_there x i before (m ∷ ms) s e = by_name (m.name == x) e (sought_there x (i + 1) (behind before m) ms s)
-  where
-    found : Sought
-    found = record { member = i; before = before; kind = m.kind }
-
-    some_is : (a b : Sought) → Some a ≡ Some b → a ≡ b
-    some_is a b h = cc
-
-    by_name : (b : Bool) → (if b then Some found else sought x (i + 1) (behind before m) ms) ≡ Some s
-        → (sought x (i + 1) (behind before m) ms ≡ Some s → IsThere ms (i + 1) s) → IsThere (m ∷ ms) i s
-    by_name true h later =
-        let same : found ≡ s = some_is found s h in
-        let at : s.member ≡ i = ap (λ (k : Sought). k.member) (sym same) in
-        record { place = 0; is = omega arith; member = m; there = refl; kind = ap (λ (k : Sought). k.kind) same }
-    by_name false h later =
-        let r = later h in
-        let at = r.is in
-        record { place = suc r.place; is = omega arith; member = r.member; there = r.there; kind = r.kind }
+sought_there x i before [] s e = cc
+sought_there x i before (m ∷ ms) s e = elim (cases_Bool (m.name == x)) [
+  | inl so ↦
+      let found : ◌≡◌ {A = Option Sought} (Some (record { member = i; before = before; kind = m.kind })) (Some s) = rw so at e in
+      let at : s.member ≡ i = cc in
+      record { place = 0; is = omega arith; member = m; there = refl; kind = cc }
+  | inr other ↦
+      let r = sought_there x (i + 1) (behind before m) ms s (rw other at e) in
+      record { place = suc r.place; is = omega (arith, r.is); member = r.member; there = r.there; kind = r.kind }
+]
 
 -- ---- what holds of each head
 
@@ -64,12 +56,12 @@ module _ (d : Description) (bytes : List ℕ) (met : Node → Result Given NodeF
       → IsHeadAt bytes origin w s f h → IsReadSo d h
   at_read origin w s f (heads.Absent at) own none is = (tt, tt)
   at_read origin w s f (heads.Calc c) own none is = absurd is
-  at_read origin w s f (heads.Leaf l) own none is = (record { field = f; is = subst (λ r. IsFieldOf d r f) (sym is.member) own; so = is.read none }, tt)
+  at_read origin w s f (heads.Leaf l) own none is = (record { field = f; is = rw is.member own; so = is.read none }, tt)
   at_read origin w s f (heads.Object o) own none is =
-      let by : IsObjectRead d (Some is.by) o.type_number = record { field = f; is = subst (λ r. IsFieldOf d r f) (sym is.member) own; so = is.read } in
-      (subst (λ g. IsObjectRead d g o.type_number) (sym is.read_by) by, tt)
+      let by : IsObjectRead d (Some is.by) o.type_number = record { field = f; is = rw is.member own; so = is.read } in
+      (rw is.read_by by, tt)
   at_read origin w s f (heads.List g) own none is =
-      (record { field = f; is = subst (λ (o : Origin). IsFieldOf d o.member f) (sym is.is) own; so = is.read }, ap (λ (o : Origin). o.case) is.is ∙ none)
+      (record { field = f; is = rw is.is own; so = is.read }, ap (λ (o : Origin). o.case) is.is ∙ none)
 
   member_read : (o : Object) (m : Sought) (k : MemberKind) (h : Head) → m.kind ≡ k → IsThere (members_of d o.type_number) 0 m
       → IsObjectRead d o.origin o.type_number → IsMember d met here bytes o m k h → IsReadSo d h
@@ -79,28 +71,28 @@ module _ (d : Description) (bytes : List ℕ) (met : Node → Result Given NodeF
       found_member =
           let at = there.is in
           let one : there.place ≡ m.member = omega arith in
-          ap (slice_get (members_of d o.type_number)) (sym one) ∙ there.there
+          rw (← one) there.there
 
       field : (j : MemberKind) (f : Field) → m.kind ≡ j → Reads j f → IsFieldOf d (record { type_number = o.type_number; member = m.member }) f
-      field j f is' so = (there.member, found_member, subst (λ i. Reads i f) (sym (there.kind ∙ is')) so)
+      field j f is' so = (there.member, found_member, rw (there.kind ∙ is') so)
 
       calc_read : (j : MemberKind) → m.kind ≡ j → IsCalculated j → calc o m ≡ h → IsReadSo d h
-      calc_read j is' so e = subst (IsReadSo d) e (((there.member, found_member, subst (λ i. IsCalculated i) (sym (there.kind ∙ is')) so), object), tt)
+      calc_read j is' so e = rw (← e) (((there.member, found_member, rw (there.kind ∙ is') so), object), tt)
 
       by_kind : (j : MemberKind) → m.kind ≡ j → IsMember d met here bytes o m j h → IsReadSo d h
       by_kind Parameter is' e = calc_read Parameter is' tt e
       by_kind (Attribute f) is' e = at_read (origin_of o m) o.stream e.0 f h (field (Attribute f) f is' refl) refl e.2
       by_kind (ParseInstance at io f) is' e = elim e [
-        | inl out ↦ subst (IsReadSo d) out.1 (tt, tt)
+        | inl out ↦ rw (← out.1) (tt, tt)
         | inr placed ↦ at_read (origin_of o m) placed.stream (at_byte placed.byte) f h (field (ParseInstance at io f) f is' refl) refl placed.is
       ]
       by_kind (ValueInstance v) is' e = elim e [
-        | inl out ↦ subst (IsReadSo d) out.1 (tt, tt)
+        | inl out ↦ rw (← out.1) (tt, tt)
         | inr calc ↦ calc_read (ValueInstance v) is' tt calc
       ]
 
   head_read : (o : Option Step) (h : Head) → IsHead d met here bytes o h → IsReadSo d h
-  head_read None h is = subst (IsReadSo d) is (tt, tt)
+  head_read None h is = rw (← is) (tt, tt)
   head_read (Some (steps.Name x)) h is =
       let object = lies (head_node (parent here)) (givens.Head (heads.Object is.object)) is.asked in
       member_read is.object is.member is.member.kind h refl (sought_there x 0 None (members_of d is.object.type_number) is.member is.found) object.0 is.is
@@ -110,10 +102,7 @@ module _ (d : Description) (bytes : List ℕ) (met : Node → Result Given NodeF
 
   answer_read : (k : NodeKind) (g : Given) → IsAnswer d met here bytes k g → IsSo d g
   answer_read nodes.Head (givens.Head h) is = head_read (last here) h is
-  answer_read nodes.Value (givens.Head h) is = absurd is
-  answer_read nodes.End (givens.Head h) is = absurd is
-  answer_read nodes.Rest (givens.Head h) is = absurd is
-  answer_read _ _ is = tt
+  answer_read k g is = grind arith
 
 pub heads_are_read : HeadsAreRead
 heads_are_read d bytes opened p h e =

@@ -1,21 +1,21 @@
 -- What rules of values answer, one lemma a rule: a value of a leaf that is read fits the leaf, and what is calculated is an expression's value.
-use Rattle.ksv_rule_laws.proofs.Common.{zero, suc, ◌≡◌, ◌∙◌, ℕ, ◌+◌, ◌≤◌, Bool, true, false, if◌then◌else◌, List, length, slice_get, Option, Some, None, Result}
-use Rattle.ksv_rule_laws.proofs.Common.{refl, sym, ap, subst, arith, inl, inr, nat_tests, bind, Tree, Step, Origin, Holder, expression, Place, byte_of, further}
-use Rattle.ksv_rule_laws.proofs.Common.{Trail, parent, last, Value, Description, MemberOfType, MemberKind, Parameter, Attribute, ParseInstance, ValueInstance}
-use Rattle.ksv_rule_laws.proofs.Common.{Field, Content, Node, NodeFault, Given, Head, Leaf, MemberRef, Rule, ask_head, members_of}
+use Rattle.ksv_rule_laws.proofs.Common.{◌≡◌, ℕ, ◌+◌, ◌≤◌, Bool, true, false, if◌then◌else◌, List, length, Option, Some, None, Result}
+use Rattle.ksv_rule_laws.proofs.Common.{refl, ap, arith, inl, inr, nat_tests, bind, Tree, Step, Origin, Holder, expression, Place, byte_of, further}
+use Rattle.ksv_rule_laws.proofs.Common.{Trail, parent, last, Value, Description, MemberKind, Parameter, ValueInstance}
+use Rattle.ksv_rule_laws.proofs.Common.{Field, Content, Node, NodeFault, Given, Head, Leaf, MemberRef, Rule, ask_head}
 use Rattle.ksv_rule_laws.proofs.Common.{field_of, kind_of, Reads, IsFieldOf, IsContentOf, IsLeafOf, IsOfLeaf}
 use Rattle.std.proofs.Common.{pos, ℤ}
 use Rattle.std.specs.Prelude.{nat_le}
 use Rattle.std.specs.Str.{bytes_eq}
 use Rattle.std.proofs.lemmas.Grind.{common_steps}
-use Rattle.ksv_expr_tree.specs.Tree.{Arguments, no_arguments, argument}
 use Rattle.ksv_nodes.specs.declared.given.Calc.{Calc}
-use Rattle.ksv_rule_meaning.specs.Heads.{attribute_setting, element_setting, member_setting, holder_setting}
+use Rattle.ksv_rule_meaning.specs.Heads.{member_setting, holder_setting}
 use Rattle.ksv_rule_meaning.specs.Checks.{value_checked}
 use Rattle.ksv_expr_value.specs.declared.step.Step.TheVariants as steps
 use Rattle.ksv_expr_value.specs.Places.{byte_in}
 use Rattle.ksv_expr_value.specs.Bits.{number_of, bits_from}
 use Rattle.ksv_expr_value.specs.Range.{ranged}
+use Rattle.ksv_expr_value.specs.Setting.{Setting, NoElement}
 use Rattle.ksv_expr_value.specs.Encodings.{decoded}
 use Rattle.ksv_expr_value.specs.declared.encoding.Encoding.{Encoding}
 use Rattle.ksv_expr_value.specs.declared.value.Value.TheVariants as values
@@ -29,10 +29,10 @@ use Rattle.ksv_nodes.proofs.First.{first_at_below}
 use Rattle.ksv_rule_meaning.specs.Choosing.{content_of}
 use Rattle.ksv_rule_meaning.specs.Integers.{integer_value}
 use Rattle.ksv_rule_meaning.specs.Values.{in_number, number_value, of_bits, bits_value, fixed_value, cut_by, kept_of, kept_by, is_cut, kept, cut_bytes}
-use Rattle.ksv_rule_meaning.specs.Values.{bytes_value, in_text, cut_text, text_value, content_value, leaf_value, value_at, given_by, arguments_for}
+use Rattle.ksv_rule_meaning.specs.Values.{bytes_value, in_text, cut_text, text_value, content_value, leaf_value, value_at, arguments_for}
 use Rattle.ksv_rule_meaning.specs.Values.{in_no_stream, plain_value, parameter_value, instance_value, value_of, calculated, in_enum, argument_at, calc_value}
 use Rattle.ksv_rule_meaning.specs.Values.{argument_value}
-use Rattle.ksv_rule_laws.proofs.Rules.{Answers, join, either, so, asked_head, exact}
+use Rattle.ksv_rule_laws.proofs.Rules.{Answers, join, either, so, asked_head, known}
 use Rattle.ksv_rule_laws.proofs.Members.{field_found, kind_found, content_found}
 use Rattle.ksv_rule_laws.proofs.Checking.{value_meets}
 use Rattle.ksv_rule_laws.proofs.Shapes.{IsPlain, IsCalculatedIn, IsValueAt, IsMadeOf}
@@ -40,18 +40,11 @@ use Rattle.ksv_rule_laws.specs.Laws.{IsReadBy, IsAsWide}
 
 -- how a member that reads is the one by which something is read
 same_reads : (k : MemberKind) (f g : Field) → Reads k f → Reads k g → f ≡ g
-same_reads (Attribute x) f g a b = sym a ∙ b
-same_reads (ParseInstance e io x) f g a b = sym a ∙ b
-same_reads Parameter f g a b = absurd a
-same_reads (ValueInstance x) f g a b = absurd a
+same_reads k f g a b = grind arith
 
 pub same_field : (d : Description) (r : MemberRef) (f g : Field) → IsFieldOf d r f → IsFieldOf d r g → f ≡ g
 same_field d r f g a b =
-    let same : a.0 ≡ b.0 = member_same (slice_get (members_of d r.type_number) r.member) a.0 b.0 a.1 b.1 in
-    same_reads b.0.kind f g (subst (λ (m : MemberOfType). Reads m.kind f) same a.2) b.2
-  where
-    member_same : (o : Option MemberOfType) (m n : MemberOfType) → o ≡ Some m → o ≡ Some n → m ≡ n
-    member_same o m n e e' = cc
+    let same : a.0 ≡ b.0 = cc in same_reads b.0.kind f g (rw same at a.2) b.2
 
 -- where each asked node has the answer that `met` gives
 module _ (met : Node → Result Given NodeFault) (here : Trail) (bytes : List ℕ) where
@@ -76,9 +69,7 @@ module _ (met : Node → Result Given NodeFault) (here : Trail) (bytes : List �
 
   module _ (l : Leaf) where
     in_number_fits : (enum : Option ℕ) (n : Option ℤ) → Says (IsOfLeaf l) (in_number enum n)
-    in_number_fits enum None = tt
-    in_number_fits None (Some n) = tt
-    in_number_fits (Some e) (Some n) = tt
+    in_number_fits enum n = grind arith
 
     number_fits : (signed : Bool) (order : ByteOrder) (enum : Option ℕ) → Says (IsOfLeaf l) (number_value l signed order enum)
     unfolding number_value
@@ -90,7 +81,7 @@ module _ (met : Node → Result Given NodeFault) (here : Trail) (bytes : List �
     one_bit : (width : ℕ) (enum : Option ℕ) → l.to ≡ further l.from width → is_truth width enum ≡ true → l.to.bits ≡ l.from.bits + 1
     unfolding further
     one_bit width None wide e = let bits : l.to.bits ≡ l.from.bits + width = ap (λ (p : Place). p.bits) wide in grind (arith, nat_tests, common_steps)
-    one_bit width (Some k) wide e = absurd (cc)
+    one_bit width (Some k) wide e = cc
 
     of_bits_fits : (width : ℕ) (enum : Option ℕ) (n : ℕ) → Says (λ v. l.to ≡ further l.from width → IsOfLeaf l v) (of_bits width enum n)
     of_bits_fits width enum n =
@@ -125,8 +116,7 @@ module _ (met : Node → Result Given NodeFault) (here : Trail) (bytes : List �
         (λ e. (refl, omega arith))
 
     in_text_fits : (t : Option (List ℕ)) → Says (IsOfLeaf l) (in_text t)
-    in_text_fits None = tt
-    in_text_fits (Some t) = tt
+    in_text_fits t = grind arith
 
     text_fits : (encoding : Encoding) (f : Field) → Says (IsOfLeaf l) (text_value l encoding f)
     unfolding text_value
@@ -151,8 +141,8 @@ module _ (met : Node → Result Given NodeFault) (here : Trail) (bytes : List �
     as_wide : (l : Leaf) (f : Field) (c : Content) → IsFieldOf d l.origin.member f → ((k : Content) → IsContentOf f.choice l.origin.case k → k ≡ c)
         → IsReadBy d l.origin.member (IsLeafOf l) → IsAsWide c l
     as_wide l f c is one read =
-        let so : IsLeafOf l f = subst (IsLeafOf l) (same_field d l.origin.member read.field f read.is is) read.so in
-        subst (λ (k : Content). IsAsWide k l) (one so.0 so.1) so.3
+        let so : IsLeafOf l f = rw (← (same_field d l.origin.member read.field f read.is is)) read.so in
+        rw (← (one so.0 so.1)) so.3
 
     leaf_fits : (l : Leaf) → Says (λ v. IsReadBy d l.origin.member (IsLeafOf l) → IsOfLeaf l v) (leaf_value d l)
     unfolding leaf_value
@@ -176,53 +166,26 @@ module _ (met : Node → Result Given NodeFault) (here : Trail) (bytes : List �
         → Says (λ v. IsCalculatedIn d met here bytes o v) (instance_value (holder_setting here q o) e enum)
     unfolding instance_value
     instance_is q o e enum =
-        after _ _ (expression (holder_setting here q o) e) _ (exact met here bytes (expression (holder_setting here q o) e)) (λ w was.
-        hence _ _ (in_enum enum w) (enum_is enum w) (λ v plain. record {
-          setting = holder_setting here q o;
-          tree = e;
-          first = w;
-          was = was;
-          stream =
-              inl refl;
-          element = refl;
-          plain = plain;
-        }))
+        known met here bytes _ (expression (holder_setting here q o) e) _ (λ w was. hence _ _ (in_enum enum w) (enum_is enum w) (λ v plain.
+        record { setting = holder_setting here q o; tree = e; first = w; was = was; stream = inl refl; element = refl; plain = plain }))
+
+    plain_from : (at : Setting) (o : Holder) (g : Origin) (e : Tree) → o.origin ≡ Some g → at.stream ≡ g.home → at.element ≡ NoElement
+        → Says (λ v. IsCalculatedIn d met here bytes o v) (plain_value at e)
+    unfolding plain_value
+    plain_from at o g e is stream element = known met here bytes _ (expression at e) _ (λ w was. hence _ _ (in_no_stream w) (plain_is w)
+        (λ v plain. record { setting = at; tree = e; first = w; was = was; stream = inr (g, is, stream); element = element; plain = plain }))
 
     argument_is : (q : Trail) (step : Option Step) (o : Holder) (g : Origin) (e : Tree) → o.origin ≡ Some g
         → Says (λ v. IsCalculatedIn d met here bytes o v) (plain_value (member_setting here q step g o.start) e)
-    unfolding plain_value
-    argument_is q (Some (steps.Index i)) o g e is =
-        let at = element_setting here (parent (parent q)) g o.start i in
-        after _ _ (expression at e) _ (exact met here bytes (expression at e))
-        (λ w was. hence _ _ (in_no_stream w) (plain_is w)
-        (λ v plain. record { setting = at; tree = e; first = w; was = was; stream = inr (g, is, refl); element = refl; plain = plain }))
-    argument_is q _ o g e is =
-        let at = attribute_setting here (parent q) g o.start in
-        after _ _ (expression at e) _ (exact met here bytes (expression at e))
-        (λ w was. hence _ _ (in_no_stream w) (plain_is w)
-        (λ v plain. record { setting = at; tree = e; first = w; was = was; stream = inr (g, is, refl); element = refl; plain = plain }))
-
-    given_is : (c : Content) → Says (λ es. Unit {0}) (given_by c)
-    given_is (contents.Object t given) = tt
-    given_is _ = tt
-
-    argument_at_is : (es : Arguments) (i : ℕ) → Says (λ e. Unit {0}) (argument_at es i)
-    unfolding argument_at
-    argument_at_is no_arguments i = tt
-    argument_at_is (argument e es) zero = tt
-    argument_at_is (argument e es) (suc i) = argument_at_is es i
-
-    arguments_are : (g : Origin) → Says (λ es. Unit {0}) (arguments_for d g)
-    unfolding arguments_for
-    arguments_are g = after _ _ (field_of d g.member) _ (field_found met here bytes d g.member)
-        (λ f is. after _ _ (content_of f.choice g.case) _ (content_found met here bytes f.choice g.case) (λ c one. given_is c))
+    argument_is q (Some (steps.Index i)) o g e is = plain_from _ o g e is refl refl
+    argument_is q _ o g e is = plain_from _ o g e is refl refl
 
     parameter_is : (q : Trail) (member : ℕ) (o : Holder) (g : Option Origin) → o.origin ≡ g
         → Says (λ v. IsCalculatedIn d met here bytes o v) (parameter_value d here q member o g)
     unfolding parameter_value argument_value
     parameter_is q member o None is = tt
-    parameter_is q member o (Some g) is = after _ _ (arguments_for d g) _ (arguments_are g)
-        (λ es any. after _ _ (argument_at es _) _ (argument_at_is es _) (λ e any'. argument_is q (last q) o g e is))
+    parameter_is q member o (Some g) is = known met here bytes _ (arguments_for d g) _
+        (λ es any. known met here bytes _ (argument_at es _) _ (λ e any'. argument_is q (last q) o g e is))
 
     calc_is : (q : Trail) (c : Calc) (k : MemberKind) → Says (λ v. IsCalculatedIn d met here bytes c.object v) (calc_value d here q c k)
     unfolding calc_value

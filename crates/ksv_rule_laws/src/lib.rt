@@ -20,7 +20,7 @@
 //!
 //! Lemmas (`proofs/`):
 //!
-//! - `Answering`: what a rule that answers went through, what it answers with fewer nodes open, and what is so of all answers
+//! - `Answering`: an answer is its rule's, with fewer nodes open it is the same, and what is so of all answers
 //! - `Checking`: a value that was checked meets what it must
 //! - `Circles`: a circle comes from nodes that ask for each other, and from no rule
 //! - `Common`: what many of them name, of definitions and of other crates

@@ -35,5 +35,6 @@ returns-clause-ok c =
     let some : 0 < k = omega (arith, c.if-number-eq0.false) in
     record {
       inside = rw is (inside links firsts members elements c.requires.tree c.args.path c.args.step c.requires.there some);
-      is = rw is (further links firsts members elements c.requires.tree c.args.path c.args.step (get_or (paths_of links) c.args.path []) c.requires.there refl some);
+      is = rw is (further links firsts members elements c.requires.tree c.args.path c.args.step (get_or (paths_of links) c.args.path [])
+          c.requires.there refl some);
     }

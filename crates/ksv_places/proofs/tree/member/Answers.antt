@@ -17,5 +17,6 @@ loop-path-preserved c =
 pub returns-then-is_name : goal.returns-then-is_name
 returns-then-is_name c =
     let some = c.loop-path-test.true in
-    sym (found_at c.args.links.now c.args.name c.requires.tree.next c.loop-path.path (omega arith) c.loop-path.invariant.0 (sym c.is_name.ensures ∙ c.if-is_name.true))
+    sym (found_at c.args.links.now c.args.name c.requires.tree.next c.loop-path.path (omega arith) c.loop-path.invariant.0
+    (sym c.is_name.ensures ∙ c.if-is_name.true))
     ∙ c.loop-path.invariant.1

@@ -20,7 +20,8 @@ returns c =
     let alone : takes old.descent c.args.index ≡ false = sym c.takes.ensures ∙ c.if-takes.false in
     record {
       ok =
-          on_ok_weaker c.put-2.result (λ put. rw (← c.self.view_is) (page_put old starts pages c.args.index n c.reach_part.ensures.apart part same c.put-2.new.self c.args.number far alone
+          on_ok_weaker c.put-2.result (λ put. rw (← c.self.view_is) (page_put old starts pages c.args.index n c.reach_part.ensures.apart part same
+          c.put-2.new.self c.args.number far alone
           (rw lent at put))) c.put-2.ensures.ok;
       err =
           on_err_weaker c.put-2.result (λ e. page_same old starts pages c.args.index n c.reach_part.ensures.apart part same c.put-2.new.self (e ∙ lent)

@@ -17,7 +17,8 @@ returns c =
     c.index_mut-numbers.ensures.value ∙ get_or_default tables (n - 1) _ _ (omega (arith, part.some, part.inside)) in
     record {
       ok =
-          on_ok_weaker c.put.result (λ put. rw (← c.self.view_is) (shelf_put old starts tables c.args.path n c.reach_part.ensures.apart part same c.put.new.self c.args.index c.args.number
+          on_ok_weaker c.put.result (λ put. rw (← c.self.view_is) (shelf_put old starts tables c.args.path n c.reach_part.ensures.apart part same
+          c.put.new.self c.args.index c.args.number
           (rw lent at put))) c.put.ensures.ok;
       err =
           on_err_weaker c.put.result (λ e. shelf_same old starts tables c.args.path n c.reach_part.ensures.apart part same c.put.new.self (e ∙ ap table_at lent)

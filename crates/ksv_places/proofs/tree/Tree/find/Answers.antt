@@ -51,7 +51,8 @@ loop-count-preserved c =
     let past : r < k = beyond t.links.items (number_at t.firsts) (shelf_at t.members) (shelf_at t.elements) c.self.invariant r s some in
     let few = c.loop-count.invariant.2 in (
       rw is (inside t.links.items (number_at t.firsts) (shelf_at t.members) (shelf_at t.elements) c.self.invariant r s c.loop-count.invariant.0 some),
-      ap (λ n. get_or (paths_of t.links.items) n []) is ∙ further t.links.items (number_at t.firsts) (shelf_at t.members) (shelf_at t.elements) c.self.invariant r s _ c.loop-count.invariant.0
+      ap (λ n. get_or (paths_of t.links.items) n []) is ∙ further t.links.items (number_at t.firsts) (shelf_at t.members) (shelf_at t.elements)
+          c.self.invariant r s _ c.loop-count.invariant.0
           c.loop-count.invariant.1 some ∙ more c.args.steps.now c.loop-count.count c.loop-count-test.true,
       omega arith,
       c.look-next.type_inv,
