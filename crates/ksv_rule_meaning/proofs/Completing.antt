@@ -1,6 +1,6 @@
 -- What an engine completes, touches and counts is what the direct definitions say.
-use Rattle.std.proofs.Common.{◌≡◌, ◌↔◌, ℕ, zero, suc, ◌+◌, ◌≤◌, Bool, true, false, List, [], ◌∷◌, ◌++◌, length, Result, Ok, Err, if◌then◌else◌}
-use Rattle.std.proofs.Common.{refl, sym, ap, ◌∙◌, subst, arith}
+use Rattle.std.proofs.Common.{◌≡◌, ◌↔◌, ℕ, zero, suc, ◌+◌, ◌≤◌, Bool, true, false, List, [], ◌∷◌, ◌++◌, length, Result, if◌then◌else◌}
+use Rattle.std.proofs.Common.{refl, sym, ap, ◌∙◌, arith, inl, inr}
 use Rattle.std.specs.Prelude.{Contains}
 use Rattle.std.specs.List.{flat_map, list_any}
 use Rattle.std.proofs.lemmas.List.Folds.{Any-from_list_any, list_any-from_Any}
@@ -10,11 +10,11 @@ use Rattle.ksv_bytes.specs.Uses.{is_use_touched}
 use Rattle.ksv_desc.specs.Description.{Description}
 use Rattle.ksv_expr_value.specs.declared.fault.Fault.{Fault}
 use Rattle.ksv_memo_rules.specs.declared.rules.Outcome.{Outcome}
-use Rattle.ksv_memo_rules.specs.declared.rules.Outcome.TheVariants.{Answered, Circle}
 use Rattle.ksv_memo_rules.specs.Evaluation.{IsAnswered, done, if_answered, is_among, tells}
 use Rattle.ksv_memo_rules.specs.Meaning.{IsSettled, Standing, on}
 use Rattle.ksv_memo_rules.specs.Right.{AreDistinct}
 use Rattle.ksv_memo_rules.specs.Touched as engines
+use Rattle.std.proofs.lemmas.Bool.{cases_Bool, false_from_ne_true, true_from_ne_false}
 use Rattle.ksv_memo_rules.proofs.Evals.{AreDistinct-cons, completed-open, done-free, few}
 use Rattle.ksv_memo_rules.proofs.Keeping.{AreDistinct-none}
 use Rattle.ksv_memo_rules.proofs.Standing.{law_on}
@@ -34,7 +34,10 @@ use Rattle.ksv_rule_meaning.specs.Laws.{CompletionIsDirect, CostIsDirect, TouchI
 
 -- lists of the same members pass a test alike
 any_same_members : {X : Type 0} (p : X → Bool) (xs ys : List X) → ((x : X) → Contains xs x ↔ Contains ys x) → list_any p xs ≡ list_any p ys
-any_same_members {X} p xs ys same = by (list_any p xs) refl (list_any p ys) refl
+any_same_members {X} p xs ys same = elim (cases_Bool (list_any p xs)) [
+  | inl e ↦ e ∙ sym (passes xs ys (λ x. (same x).0) e)
+  | inr e ↦ e ∙ sym (false_from_ne_true _ (λ f. let other = passes ys xs (λ x. (same x).1) f in cc))
+]
   where
     passes : (us vs : List X) → ((x : X) → Contains us x → Contains vs x) → list_any p us ≡ true → list_any p vs ≡ true
     passes us vs each e =
@@ -42,18 +45,9 @@ any_same_members {X} p xs ys same = by (list_any p xs) refl (list_any p ys) refl
         let there = each found.1 (found.0, found.2, found.3) in
         list_any-from_Any p vs (there.0, found.1, there.1, there.2, found.4)
 
-    by : (a : Bool) → list_any p xs ≡ a → (b : Bool) → list_any p ys ≡ b → list_any p xs ≡ list_any p ys
-    by true e true f = e ∙ sym f
-    by false e false f = e ∙ sym f
-    by true e false f = let no : true ≡ false = sym (passes xs ys (λ x. (same x).0) e) ∙ f in absurd (cc)
-    by false e true f = let no : true ≡ false = sym (passes ys xs (λ x. (same x).1) f) ∙ e in absurd (cc)
-
 -- the node itself is completed, unless a circle was met
 own_is : {A : Type 0} (n : Node) (o : Outcome Node A) (c : Bool) → (IsAnswered o ↔ (c ≡ false)) → if_answered n o ≡ (if c then [] else n ∷ [])
-own_is n (Answered a) true h = let no : true ≡ false = h.0 tt in absurd (cc)
-own_is n (Answered a) false h = refl
-own_is n (Circle c) true h = refl
-own_is n (Circle c) false h = absurd (h.1 refl)
+own_is n o c h = grind arith
 
 module _ (d : Description) (bytes : List ℕ) where
   abbrev w : Standing Node (Result Given Fault)
@@ -66,30 +60,24 @@ module _ (d : Description) (bytes : List ℕ) where
 
   -- where as many nodes are open as there are, each is
   all_open : (opened : List Node) (n : Node) → AreDistinct w opened → node_bound ≤ length opened → is_among node_number opened n ≡ true
-  all_open opened n distinct deep = by (is_among node_number opened n) refl
-    where
-      by : (b : Bool) → is_among node_number opened n ≡ b → is_among node_number opened n ≡ true
-      by true e = e
-      by false e = let more : length (n ∷ opened) ≤ node_bound = few w settled (n ∷ opened) (AreDistinct-cons w n opened e distinct) in absurd (omega arith)
+  all_open opened n distinct deep = true_from_ne_false _
+      (λ e. omega (arith, few w settled (n ∷ opened) (AreDistinct-cons w n opened e distinct)))
 
   -- ---- a node that isn't open
 
   module _ (opened : List Node) (n : Node) (distinct : AreDistinct w opened) (free : is_among node_number opened n ≡ false) where
     same_asked : (tells w opened n).asked ≡ asks d bytes opened n
-    same_asked = let direct : IsDirect d bytes opened n = asks_are_direct d bytes opened n (record { distinct = distinct; apart = free }) in direct.asked
+    same_asked = (asks_are_direct d bytes opened n (record { distinct = distinct; apart = free })).asked
 
   -- ---- circles
 
   -- an outcome is an answer just where it is no circle
   circle_is : (o : Outcome Node (Result Given Fault)) → IsAnswered o ↔ (is_circle (flattened o) ≡ false)
-  circle_is (Answered (Ok g)) = (λ h. refl, λ no. tt)
-  circle_is (Answered (Err f)) = (λ h. refl, λ no. tt)
-  circle_is (Circle c) = (λ h. absurd h, λ no. absurd (cc))
+  circle_is o = (λ h. grind arith, λ h. grind arith)
 
   pub answered_direct : (opened : List Node) (n : Node) → IsAnswered (tells w opened n).outcome ↔ (meets_circle d bytes opened n ≡ false)
   unfolding meets_circle
-  answered_direct opened n = subst (λ r. IsAnswered (tells w opened n).outcome ↔ (is_circle r ≡ false)) (answers_are_direct d bytes opened n)
-      (circle_is (tells w opened n).outcome)
+  answered_direct opened n = rw (answers_are_direct d bytes opened n) at (circle_is (tells w opened n).outcome)
 
   -- ---- completed nodes
 
@@ -101,10 +89,8 @@ module _ (d : Description) (bytes : List ℕ) where
   done_level k opened n distinct each true e = completed-open w w.nodes opened n e
   done_level k opened n distinct each false e =
       done-free w settled opened n distinct e
-      ∙ ap (λ ms. flat_map (done w (n ∷ opened)) ms ++ if_answered n (tells w opened n).outcome) (same_asked opened n distinct e)
-      ∙ ap (λ (f : Node → List Node). flat_map f (asks d bytes opened n) ++ if_answered n (tells w opened n).outcome) (fun_ext (each e))
-      ∙ ap (λ ms. flat_map (completed_within d bytes k (n ∷ opened)) (asks d bytes opened n) ++ ms)
-      (own_is n (tells w opened n).outcome (meets_circle d bytes opened n) (answered_direct opened n))
+      ∙ rw (same_asked opened n distinct e, fun_ext (each e), own_is n (tells w opened n).outcome (meets_circle d bytes opened n) (answered_direct opened n))
+      refl
 
   done_within : (k : ℕ) (opened : List Node) (n : Node) → AreDistinct w opened → node_bound ≤ k + length opened
       → done w opened n ≡ completed_within d bytes k opened n

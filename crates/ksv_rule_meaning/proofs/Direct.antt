@@ -1,10 +1,9 @@
 -- Evaluation by replies, as every engine has it, is the direct one.
 use Rattle.std.proofs.Common.{◌≡◌, inl, inr, ℕ, zero, suc, ◌+◌, ◌≤◌, ◌<◌, Bool, true, false, cond, List, [], ◌∷◌, ◌++◌, length, map, Option, Some, None, Result}
-use Rattle.std.proofs.Common.{Ok, Err, refl, sym, ap, ◌∙◌, subst, arith, append_assoc, append-nil, length-append}
+use Rattle.std.proofs.Common.{Ok, Err, refl, sym, ap, ◌∙◌, arith, append_assoc, append-nil, length-append}
 use mathlib.Core.Path.{fun_ext}
-use Rattle.std.specs.Prelude.{Contains}
 use Rattle.std.proofs.lemmas.List.Elements.{Contains-append_left, Contains-append_right, Contains-append_cases}
-use Rattle.ksv_basics.specs.Plan.{Answer, Fail, Ask, Ran, next, run, behind}
+use Rattle.ksv_basics.specs.Plan.{Answer, Fail, Ask, Ran, run, behind}
 use Rattle.ksv_basics.specs.Asking.{ended}
 use Rattle.ksv_bytes.specs.declared.uses.Use.{Use}
 use Rattle.ksv_expr_value.specs.declared.fault.Fault.{Fault}
@@ -13,7 +12,7 @@ use Rattle.ksv_desc.specs.Description.{Description}
 use Rattle.ksv_memo_rules.specs.declared.rules.Next.TheVariants as steps
 use Rattle.ksv_memo_rules.specs.declared.rules.Outcome.{Outcome}
 use Rattle.ksv_memo_rules.specs.declared.rules.Outcome.TheVariants.{Answered, Circle}
-use Rattle.ksv_memo_rules.specs.Meaning.{Standing, IsSettled, IsDone, on}
+use Rattle.ksv_memo_rules.specs.Meaning.{Standing, IsSettled, on}
 use Rattle.ksv_memo_rules.specs.Evaluation.{is_among, Told, only_circle, after, with_reply, with_step, told, eval, tells, answering}
 use Rattle.ksv_memo_rules.proofs.Evals.{tells-free}
 use Rattle.ksv_nodes.specs.declared.node.Node.{Node}
@@ -22,8 +21,8 @@ use Rattle.ksv_nodes.specs.declared.node_fault.NodeFault.{NodeFault}
 use Rattle.ksv_nodes.specs.Numbers.{node_number, node_bound, node_number-one, node_number-below}
 use Rattle.ksv_nodes.specs.Reading.{Reading, Seen, look}
 use Rattle.ksv_nodes.specs.Rule.{Rule, Of, See, There}
-use Rattle.ksv_nodes.specs.Turning.{State, fault_at, raised, seen_in, turns}
-use Rattle.ksv_nodes.specs.Truth.{answer_of, plain_answer, asks_of, uses_of, with_given, with_seen, behind_given, behind_seen}
+use Rattle.ksv_nodes.specs.Turning.{State, fault_at, raised, turns}
+use Rattle.ksv_nodes.specs.Truth.{answer_of, plain_answer, asks_of, uses_of}
 use Rattle.ksv_nodes.proofs.Truth.{ends, needs}
 use Rattle.ksv_rule_meaning.specs.Meaning.{rule_of}
 use Rattle.ksv_rule_meaning.specs.FromNothing.{circle, answer_within, from_nothing}
@@ -40,7 +39,7 @@ same_uses us vs e = λ u. (λ h. rw (← e) h, λ h. rw e h)
 -- a beginning comes again
 same_again : (us ws vs : List Use) → AreSameUses ws (us ++ vs) → AreSameUses (us ++ ws) (us ++ vs)
 same_again us ws vs same = λ u. (
-  λ h. elim (Contains-append_cases us ws u h) as (λ _. Contains (us ++ vs) u) [ inl front ↦ Contains-append_left us vs u front | inr back ↦ (same u).0 back ],
+  λ h. elim (Contains-append_cases us ws u h) [ inl front ↦ Contains-append_left us vs u front | inr back ↦ (same u).0 back ],
   λ h. Contains-append_right us ws u ((same u).1 h),
 )
 
@@ -74,11 +73,11 @@ module _ (d : Description) (bytes : List ℕ) (n : Node) (ask : Node → Outcome
   told_at : (j : ℕ) (replies : List (Result Given Fault)) (us : List Use) (p : Rule Given) → GoesOn replies us p
       → told w ask n (suc j) replies ≡ step_told j replies (run turns p (at [] us))
   unfolding told
-  told_at j replies us p goes = ap (step_told j replies) (ap (λ rs. run turns (rule_of d n) (at rs [])) (sym (append-nil replies)) ∙ goes [])
+  told_at j replies us p goes = ap (step_told j replies) (rw append-nil at (goes []))
 
   follow_at : (replies : List (Result Given Fault)) (us : List Use) (p : Rule Given) → GoesOn replies us p
       → w.follow n replies ≡ step_of (run turns p (at [] us))
-  follow_at replies us p goes = ap step_of (ap (λ rs. run turns (rule_of d n) (at rs [])) (sym (append-nil replies)) ∙ goes [])
+  follow_at replies us p goes = ap step_of (rw append-nil at (goes []))
 
   moved : (t u : Told Node (Result Given Fault)) (us : List Use) (p : Rule Given) → t ≡ u → Meets u us p → Meets t us p
   moved t u us p e h = rw e h
@@ -88,27 +87,12 @@ module _ (d : Description) (bytes : List ℕ) (n : Node) (ask : Node → Outcome
       → [] ≡ asks_of met n.path bytes p → us ≡ vs ++ uses_of met n.path bytes p → Meets (record { outcome = Answered a; asked = []; uses = us }) vs p
   ended_meets a us vs p answer asks uses = record { outcome = answer; asked = asks; uses = same_uses us (vs ++ uses_of met n.path bytes p) uses }
 
-  -- the node that is needed has this outcome
-  module _ (m : Node) (k : Given → Rule Given) (o : Outcome Node (Result Given Fault)) (e : ask m ≡ o) where
-    given_answer : with_given (flattened o) (λ g. answer_of met n.path bytes (k g)) ≡ answer_of met n.path bytes (Ask (Of m) k)
-    given_answer = ap (λ x. with_given (flattened x) (λ g. answer_of met n.path bytes (k g))) (sym e)
-
-    given_asks : m ∷ behind_given (flattened o) (λ g. asks_of met n.path bytes (k g)) ≡ asks_of met n.path bytes (Ask (Of m) k)
-    given_asks = ap (λ x. m ∷ behind_given (flattened x) (λ g. asks_of met n.path bytes (k g))) (sym e)
-
-    given_uses : behind_given (flattened o) (λ g. uses_of met n.path bytes (k g)) ≡ uses_of met n.path bytes (Ask (Of m) k)
-    given_uses = ap (λ x. behind_given (flattened x) (λ g. uses_of met n.path bytes (k g))) (sym e)
-
-    given_same : (us ws : List Use) → AreSameUses ws (us ++ behind_given (flattened o) (λ g. uses_of met n.path bytes (k g)))
-        → AreSameUses ws (us ++ uses_of met n.path bytes (Ask (Of m) k))
-    given_same us ws same = rw (← given_uses) same
-
   -- a fault of a node that it asks is its own
   fault_told : (j : ℕ) (replies : List (Result Given Fault)) (us : List Use) (m : Node) (k : Given → Rule Given) (f : Fault) → GoesOn replies us (Ask (Of m) k)
       → told w ask n (suc j) (replies ++ Err f ∷ []) ≡ record { outcome = Answered (Err f); asked = []; uses = us }
   unfolding with_step
   fault_told j replies us m k f goes = told_at j (replies ++ Err f ∷ []) us (Fail (There f.kind f.path))
-      (λ more. ap (λ rs. run turns (rule_of d n) (at rs [])) (append_assoc replies (Err f ∷ []) more) ∙ goes (Err f ∷ more))
+      (λ more. rw (append_assoc replies (Err f ∷ []) more) (goes (Err f ∷ more)))
 
   -- after a reply
   reply_meets : (j : ℕ) (replies : List (Result Given Fault)) (us : List Use) (m : Node) (k : Given → Rule Given) → most_asks d ≤ suc j + length replies
@@ -119,61 +103,41 @@ module _ (d : Description) (bytes : List ℕ) (n : Node) (ask : Node → Outcome
   unfolding with_reply
   reply_meets j replies us m k few goes rest (Answered (Ok g)) e =
       let below = rest g j (replies ++ Ok g ∷ []) (omega (arith, length-append replies (Ok g ∷ [])))
-      (λ more. ap (λ rs. run turns (rule_of d n) (at rs [])) (append_assoc replies (Ok g ∷ []) more) ∙ goes (Ok g ∷ more)) in
+      (λ more. rw (append_assoc replies (Ok g ∷ []) more) (goes (Ok g ∷ more))) in
       record {
-        outcome = below.outcome ∙ given_answer m k (Answered (Ok g)) e;
-        asked = ap (λ ns. m ∷ ns) below.asked ∙ given_asks m k (Answered (Ok g)) e;
-        uses = given_same m k (Answered (Ok g)) e us _ (same_again us _ (uses_of met n.path bytes (k g)) below.uses);
+        outcome = rw e below.outcome;
+        asked = rw e (ap (λ ns. m ∷ ns) below.asked);
+        uses = rw e (same_again us _ (uses_of met n.path bytes (k g)) below.uses);
       }
   reply_meets j replies us m k few goes rest (Answered (Err f)) e =
       let is = fault_told j replies us m k f goes in
       record {
-        outcome = ap (λ (t : Told Node (Result Given Fault)). flattened t.outcome) is ∙ given_answer m k (Answered (Err f)) e;
-        asked = ap (λ (t : Told Node (Result Given Fault)). m ∷ t.asked) is ∙ given_asks m k (Answered (Err f)) e;
-        uses = given_same m k (Answered (Err f)) e us _
-            (same_again us _ [] (same_uses _ _ (ap (λ (t : Told Node (Result Given Fault)). t.uses) is ∙ sym (append-nil us))));
+        outcome = rw (e, is) refl;
+        asked = rw (e, is) refl;
+        uses = rw e (same_again us _ [] (same_uses _ _ (ap (λ (t : Told Node (Result Given Fault)). t.uses) is ∙ sym (append-nil us))));
       }
-  reply_meets j replies us m k few goes rest (Circle c) e = record {
-    outcome = given_answer m k (Circle c) e;
-    asked = given_asks m k (Circle c) e;
-    uses = given_same m k (Circle c) e us _ (same_uses (us ++ []) (us ++ []) refl);
-  }
+  reply_meets j replies us m k few goes rest (Circle c) e =
+      record { outcome = rw e refl; asked = rw e refl; uses = rw e (same_uses (us ++ []) (us ++ []) refl) }
 
   -- after a reading
   module _ (r : Reading) (k : Seen r → Rule Given) where
-    seen_run : (replies : List (Result Given Fault)) (us : List Use) (o : Option (Seen r)) → (look r bytes).seen ≡ o
-        → run turns (Ask (See r) k) (at replies us) ≡ next (seen_in o (at replies (us ++ (look r bytes).uses))) (λ x s. run turns (k x) s)
-    seen_run replies us o e = ap (λ o'. next (seen_in o' (at replies (us ++ (look r bytes).uses))) (λ x s. run turns (k x) s)) e
-
-    seen_answer : (o : Option (Seen r)) → (look r bytes).seen ≡ o
-        → with_seen n.path o (λ x. answer_of met n.path bytes (k x)) ≡ answer_of met n.path bytes (Ask (See r) k)
-    seen_answer o e = ap (λ o'. with_seen n.path o' (λ x. answer_of met n.path bytes (k x))) (sym e)
-
-    seen_asks : (o : Option (Seen r)) → (look r bytes).seen ≡ o → behind_seen o (λ x. asks_of met n.path bytes (k x)) ≡ asks_of met n.path bytes (Ask (See r) k)
-    seen_asks o e = ap (λ o'. behind_seen o' (λ x. asks_of met n.path bytes (k x))) (sym e)
-
-    seen_uses : (us : List Use) (o : Option (Seen r)) → (look r bytes).seen ≡ o
-        → (us ++ (look r bytes).uses) ++ behind_seen o (λ x. uses_of met n.path bytes (k x)) ≡ us ++ uses_of met n.path bytes (Ask (See r) k)
-    seen_uses us o e = append_assoc us (look r bytes).uses (behind_seen o (λ x. uses_of met n.path bytes (k x)))
-        ∙ ap (λ o'. us ++ ((look r bytes).uses ++ behind_seen o' (λ x. uses_of met n.path bytes (k x)))) (sym e)
-
     seen_meets : (j : ℕ) (replies : List (Result Given Fault)) (us : List Use) → GoesOn replies us (Ask (See r) k)
         → ((x : Seen r) → GoesOn replies (us ++ (look r bytes).uses) (k x) → Meets (told w ask n (suc j) replies) (us ++ (look r bytes).uses) (k x))
         → (o : Option (Seen r)) → (look r bytes).seen ≡ o → Meets (told w ask n (suc j) replies) us (Ask (See r) k)
     unfolding with_step
     seen_meets j replies us goes rest (Some x) e =
-        let below = rest x (λ more. goes more ∙ seen_run more us (Some x) e) in
+        let below = rest x (λ more. goes more ∙ rw e refl) in
         record {
-          outcome = below.outcome ∙ seen_answer (Some x) e;
-          asked = below.asked ∙ seen_asks (Some x) e;
-          uses = rw (← seen_uses us (Some x) e) below.uses;
+          outcome = rw e below.outcome;
+          asked = rw e below.asked;
+          uses = rw (e, ← append_assoc us (look r bytes).uses (uses_of met n.path bytes (k x))) below.uses;
         }
     seen_meets j replies us goes rest None e =
-        let told_is = told_at j replies us (Ask (See r) k) goes ∙ ap (step_told j replies) (seen_run [] us None e) in
-        moved _ (record { outcome = Answered (Err (fault_at n.path kinds.EndOfBytes)); asked = []; uses = us ++ (look r bytes).uses }) us (Ask (See r) k)
-        told_is
-        (ended_meets (Err (fault_at n.path kinds.EndOfBytes)) (us ++ (look r bytes).uses) us (Ask (See r) k) (seen_answer None e) (seen_asks None e)
-        (sym (append-nil (us ++ (look r bytes).uses)) ∙ seen_uses us None e))
+        let told_is : told w ask n (suc j) replies
+        ≡ record { outcome = Answered (Err (fault_at n.path kinds.EndOfBytes)); asked = []; uses = us ++ (look r bytes).uses } =
+        told_at j replies us (Ask (See r) k) goes ∙ rw e refl in
+        moved _ _ us (Ask (See r) k) told_is (ended_meets (Err (fault_at n.path kinds.EndOfBytes)) (us ++ (look r bytes).uses) us (Ask (See r) k)
+        (rw e refl) (rw e refl) (rw (e, append-nil) refl))
 
   pub meets : (p : Rule Given) (j : ℕ) (replies : List (Result Given Fault)) (us : List Use) → most_asks d ≤ j + length replies → GoesOn replies us p
       → Meets (told w ask n (suc j) replies) us p
@@ -182,7 +146,7 @@ module _ (d : Description) (bytes : List ℕ) (n : Node) (ask : Node → Outcome
       (told_at j replies us (Answer a) goes) (ended_meets (Ok a) us us (Answer a) refl refl (sym (append-nil us)))
   meets (Fail e) j replies us few goes = moved _ (record { outcome = Answered (Err (raised e n.path)); asked = []; uses = us }) us (Fail e)
       (told_at j replies us (Fail e) goes) (ended_meets (Err (raised e n.path)) us us (Fail e) refl refl (sym (append-nil us)))
-  meets (Ask (Of m) k) zero replies us few goes = absurd (subst IsDone (follow_at replies us (Ask (Of m) k) goes) (settles d bytes n replies (omega arith)))
+  meets (Ask (Of m) k) zero replies us few goes = absurd (rw (follow_at replies us (Ask (Of m) k) goes) at (settles d bytes n replies (omega arith)))
   meets (Ask (Of m) k) (suc j) replies us few goes =
       moved _ (after (m ∷ []) us (with_reply (λ a. told w ask n (suc j) (replies ++ a ∷ [])) (ask m))) us (Ask (Of m) k)
       (told_at (suc j) replies us (Ask (Of m) k) goes) (reply_meets j replies us m k few goes (λ g i rs. meets (k g) i rs us) (ask m) refl)
@@ -234,17 +198,13 @@ module _ (d : Description) (bytes : List ℕ) where
     free_direct =
         let told_so = meets_rule d bytes n asked_then in
         record {
-          asked = ap (λ (t : Told Node (Result Given Fault)). t.asked) told_is ∙ told_so.asked ∙ ap (λ f. asks_of f n.path bytes (rule_of d n)) met_is;
-          uses = subst (λ (t : Told Node (Result Given Fault)). AreSameUses t.uses (uses_of (from_nothing d bytes (n ∷ opened)) n.path bytes (rule_of d n)))
-              (sym told_is)
-              (subst (λ f. AreSameUses (told rules asked_then n (suc rules.replies) []).uses (uses_of f n.path bytes (rule_of d n))) met_is told_so.uses);
+          asked = rw (told_is, ← met_is) told_so.asked;
+          uses = rw (told_is, ← met_is) told_so.uses;
         }
 
     free_follows : from_nothing d bytes opened n ≡ answer_of (from_nothing d bytes (n ∷ opened)) n.path bytes (rule_of d n)
     free_follows =
-        let told_so = meets_rule d bytes n asked_then in
-        sym (answer_direct opened n) ∙ ap (λ (t : Told Node (Result Given Fault)). flattened t.outcome) told_is ∙ told_so.outcome
-        ∙ ap (λ f. answer_of f n.path bytes (rule_of d n)) met_is
+        sym (answer_direct opened n) ∙ rw (told_is, ← met_is) (meets_rule d bytes n asked_then).outcome
 
 pub answers_are_direct : AnswersAreDirect
 answers_are_direct d bytes opened n = answer_direct d bytes opened n
@@ -258,12 +218,10 @@ answers_follow_rules d bytes opened n free = free_follows d bytes opened n free
 -- ---- the next step of a node
 
 ended_step : (a : Result Given Fault) (s : State) → step_of (ended {N = Node} a s) ≡ steps.Done a
-ended_step (Ok g) s = refl
-ended_step (Err f) s = refl
+ended_step a s = grind arith
 
 ended_uses : (a : Result Given Fault) (s : State) → (behind (ended {N = Node} a s)).uses ≡ s.uses
-ended_uses (Ok g) s = refl
-ended_uses (Err f) s = refl
+ended_uses a s = grind arith
 
 module _ (d : Description) (bytes : List ℕ) (met : Node → Result Given Fault) (n : Node) where
   abbrev all_asked : List Node
