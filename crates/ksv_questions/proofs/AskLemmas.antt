@@ -1,6 +1,6 @@
 -- An engine answers what evaluation from nothing gives.
-use Rattle.ksv_questions.proofs.Common.{◌≡◌, ◌∙◌, ◌++◌, ℕ, false, ◌||◌, List, [], ◌∷◌, Option, None, Result, Ok, Err, ap, refl, subst, sym, if◌then◌else◌}
-use Rattle.ksv_questions.proofs.Common.{append-nil, Description, Memo, is_among, IsRight, costs, counted, fresh, Node, answered, bind, Asking, Heard, Runs}
+use Rattle.ksv_questions.proofs.Common.{arith, ◌≡◌, ◌∙◌, ◌++◌, ℕ, false, ◌||◌, List, [], ◌∷◌, Option, None, Result, Ok, Err, ap, refl, sym, if◌then◌else◌}
+use Rattle.ksv_questions.proofs.Common.{append-nil, Description, Memo, IsRight, costs, counted, fresh, Node, answered, bind, Asking, Heard, Runs}
 use Rattle.ksv_questions.proofs.Common.{HasAsked, Ruled, world, Untold}
 use Rattle.ksv_expr_value.specs.declared.fault.Fault.{Fault}
 use Rattle.ksv_memo.specs.Answers.{answer_of, turns_after}
@@ -9,7 +9,6 @@ use Rattle.ksv_memo_rules.specs.Meaning.{on}
 use Rattle.ksv_memo_rules.specs.Right.{AreExactly, nodes_of}
 use Rattle.ksv_memo.specs.declared.engine.Answer.{Answer}
 use Rattle.ksv_memo_rules.specs.declared.rules.Outcome.{Outcome}
-use Rattle.ksv_memo_rules.specs.declared.rules.Outcome.TheVariants.{Answered, Circle}
 use Rattle.ksv_nodes.specs.Numbers.{node_number}
 use Rattle.ksv_nodes.specs.declared.given.Given.{Given}
 use Rattle.ksv_rule_meaning.specs.Described.{described}
@@ -22,9 +21,7 @@ use Rattle.ksv_questions.specs.declared.asking.Untold.TheVariants as untolds
 use Rattle.ksv_questions.proofs.Steps.{runs_ended, runs_failed}
 
 plain : (outcome : Outcome Node Ruled) → plain_answer (answer_of outcome) ≡ flattened outcome
-plain (Answered (Ok given)) = refl
-plain (Answered (Err f)) = refl
-plain (Circle n) = refl
+plain outcome = grind arith
 
 pub asked_is : (d : Description) (bytes : List ℕ) (n : Node) (answer : Answer Node Given Fault)
     → answer ≡ answer_of (tells (on (described d) bytes) [] n).outcome
@@ -33,9 +30,7 @@ asked_is d bytes n answer is = ap plain_answer is ∙ plain (tells (on (describe
 
 counted_by : (E : Type 0) (o : Outcome Node Ruled) (calls : ℕ) (turns : Option ℕ)
     → turns_after {E = E} calls turns (Ok (answer_of o)) ≡ (if is_circle o || false then None else counted calls turns)
-counted_by E (Answered (Ok given)) calls turns = refl
-counted_by E (Answered (Err f)) calls turns = refl
-counted_by E (Circle n) calls turns = refl
+counted_by E o calls turns = grind arith
 
 -- one node was asked
 module _ (d : Description) (b : List ℕ) (n : Node) where
@@ -50,22 +45,19 @@ module _ (d : Description) (b : List ℕ) (n : Node) where
   unfolding turns_with meets_circle
   heard_one E old new answer is right kept turns = record {
     right = right;
-    kept = record { once = kept.once; same = λ x. kept.same x ∙ ap (λ ns. is_among node_number (nodes_of old.kept ++ ns) x) (sym all_done) };
+    kept = record { once = kept.once; same = λ x. rw all_done (kept.same x) };
     turns =
-        turns ∙ ap (λ r. turns_after {E = E} (costs (world d b) (fresh node_number (nodes_of old.kept) (done (world d b) [] n))) old.turns (Ok r)) is
-        ∙ counted_by E (tells (world d b) [] n).outcome (costs (world d b) (fresh node_number (nodes_of old.kept) (done (world d b) [] n))) old.turns
-        ∙ ap (λ ns. if is_circle (tells (world d b) [] n).outcome || false then None else counted (costs (world d b) (fresh node_number (nodes_of old.kept) ns))
-        old.turns) (sym all_done);
+        turns ∙ rw (is, all_done) (counted_by E (tells (world d b) [] n).outcome
+        (costs (world d b) (fresh node_number (nodes_of old.kept) (done (world d b) [] n))) old.turns);
   }
 
 module _ (d : Description) (b : List ℕ) where
   -- what was returned for an engine's answer
   pub hears : (n : Node) (old new : Memo Node Ruled) (h : Heard) (r : Result Given Untold) → h ≡ answered d b n → IsHeard h r
       → HasAsked (world d b) (n ∷ []) old new → Hears d b n old new r
-  hears n old new h (Ok g) same is asked = (sym same ∙ is, asked)
-  hears n old new h (Err (untolds.Fault f)) same is asked = (sym same ∙ is, asked)
   hears n old new h (Err (untolds.Refused r)) same is asked = absurd is
   hears n old new h (Err untolds.NoMemory) same is asked = absurd is
+  hears n old new h r same is asked = (sym same ∙ is, asked)
 
   -- a node was heard, and what comes after asks nothing
   pub heard_settled : {X A : Type 0} (n : Node) (q : Heard → Asking A) (view : X → A) (old new : Memo Node Ruled)
@@ -75,7 +67,7 @@ module _ (d : Description) (b : List ℕ) where
   heard_settled n q view old new (Err (untolds.Fault f)) r h is = runs_ended d b (hear n) q (λ m. m) view old new (Err f) r (ap Ok h.0, h.1) is
   heard_settled n q view old new (Err (untolds.Refused refusal)) r h is = absurd h
   heard_settled n q view old new (Err untolds.NoMemory) r h is =
-      subst (λ s. Runs d b (bind (hear n) q) view old new s) (sym is) (runs_failed d b (hear n) q (λ (m : Heard). m) view old new untolds.NoMemory h)
+      rw is (runs_failed d b (hear n) q (λ (m : Heard). m) view old new untolds.NoMemory h)
 
   -- what was heard is no fault, and is passed on
   hears_runs : (n : Node) (old new : Memo Node Ruled) (r : Result Given Untold) → Hears d b n old new r → Runs d b (ask n) (λ g. g) old new r

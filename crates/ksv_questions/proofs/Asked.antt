@@ -1,5 +1,5 @@
 -- An engine that is asked one list of nodes and then another.
-use Rattle.ksv_questions.proofs.Common.{◌≡◌, ℕ, ◌+◌, Bool, true, false, List, [], ◌∷◌, ◌++◌, Option, None, refl, sym, ◌∙◌, ap, ◌||◌, append_assoc, subst}
+use Rattle.ksv_questions.proofs.Common.{◌≡◌, ℕ, ◌+◌, Bool, true, false, List, [], ◌∷◌, ◌++◌, Option, None, refl, sym, ◌∙◌, ap, ◌||◌, append_assoc}
 use Rattle.ksv_questions.proofs.Common.{if◌then◌else◌, append-nil, Memo, is_among, IsRight, costs, counted, fresh, HasAsked}
 use Rattle.std.proofs.Math.Bool.{or_assoc}
 use Rattle.std.proofs.lemmas.Bool.{or_left}
@@ -102,13 +102,12 @@ module _ {N A : Type 0} (w : Standing N A) where
     where
       in_all : AreExactly w (nodes_of new.kept) (nodes_of old.kept ++ (completed_by w ms ++ completed_by w ns))
           → AreExactly w (nodes_of new.kept) (nodes_of old.kept ++ completed_by w (ms ++ ns))
-      in_all e = subst (λ all. AreExactly w (nodes_of new.kept) (nodes_of old.kept ++ all)) (sym (flat_map-append (done w []) ms ns)) e
+      in_all e = rw (flat_map-append (done w []) ms ns) e
 
   in_all_some : (old new : Memo N A) (ms ns : List N)
       → AreBetween w (nodes_of old.kept) (nodes_of new.kept) (nodes_of old.kept ++ (completed_by w ms ++ completed_by w ns))
       → AreBetween w (nodes_of old.kept) (nodes_of new.kept) (nodes_of old.kept ++ completed_by w (ms ++ ns))
-  in_all_some old new ms ns e = subst (λ all. AreBetween w (nodes_of old.kept) (nodes_of new.kept) (nodes_of old.kept ++ all))
-      (sym (flat_map-append (done w []) ms ns)) e
+  in_all_some old new ms ns e = rw (flat_map-append (done w []) ms ns) e
 
   pub some_then : (old mid new : Memo N A) (ms ns : List N) → HasAsked w ms old mid → HasAskedSome w ns mid new → HasAskedSome w (ms ++ ns) old new
   some_then old mid new ms ns h k = record {

@@ -1,9 +1,8 @@
 -- The steps of a dump.
-use Rattle.ksv_questions.proofs.Common.{◌≡◌, ℕ, zero, suc, ◌+◌, ◌-◌, ◌<◌, ◌≤◌, List, [], ◌∷◌, ◌++◌, drop, length, map, Option, Result, Ok, Err, refl, sym, ◌∙◌}
+use Rattle.ksv_questions.proofs.Common.{◌≡◌, ℕ, zero, suc, ◌+◌, ◌-◌, ◌<◌, ◌≤◌, List, [], ◌∷◌, ◌++◌, map, Option, Result, Ok, Err, refl, sym, ◌∙◌}
 use Rattle.ksv_questions.proofs.Common.{ap, subst, arith, Data, put, view, Answer, bind, Description, Trail, child, Index, Value, Memo, IsRight, Node, Asking}
 use Rattle.ksv_questions.proofs.Common.{Runs, dumped, found_of, Part, begun_part, elements_part, members_part, part, unasked, value_part, written, Ruled, world}
 use Rattle.ksv_questions.proofs.Common.{Untold}
-use Rattle.std.proofs.Common.{get_or}
 use Rattle.serde_json.specs.Data.{Members, array, object}
 use Rattle.serde_json.specs.View.{items_of}
 use Rattle.serde_json.specs.declared.value.Value.{Value as Json}
@@ -23,7 +22,7 @@ module _ (d : Description) (b : List ℕ) where
       → Runs d b (bind p (λ f. or_written inside left f)) dumped old new r
   found_inside p inside left old mid new found x r h is k =
       runs_on d b p (λ f. or_written inside left f) (λ f. found_of f) dumped old mid new (Ok x) r
-      (subst (λ f. Runs d b p (λ g. found_of g) old mid (Ok f)) is h) k
+      (rw is at h) k
 
   -- or its place is taken
   pub found_written : {X : Type 0} (p : Asking (Found X)) (inside : X → Asking Part) (left : ℕ) (old mid : Memo Node Ruled)
@@ -32,7 +31,7 @@ module _ (d : Description) (b : List ℕ) where
       → Runs d b (bind p (λ f. or_written inside left f)) dumped old mid (Ok x)
   found_written p inside left old mid found json x h is same =
       runs_ended d b p (λ f. or_written inside left f) (λ f. found_of f) dumped old mid (Err json) (Ok x)
-      (subst (λ f. Runs d b p (λ g. found_of g) old mid (Ok f)) is h) (ap Answer (sym same))
+      (rw is at h) (ap Answer (sym same))
 
   -- ---- levels
 
@@ -54,7 +53,7 @@ module _ (d : Description) (b : List ℕ) where
       → elements_part d each q left i (count - i) ds ≡ bind (inner d each q left (child q (Index i)))
       (λ x. elements_part d each q x.left (i + 1) (count - (i + 1)) (ds ++ x.json ∷ []))
   unfolding elements_part
-  elements_step each q left i count ds h = let more : count - i ≡ suc (count - (i + 1)) = omega arith in ap (λ n. elements_part d each q left i n ds) more
+  elements_step each q left i count ds h = let more : count - i ≡ suc (count - (i + 1)) = omega arith in rw more refl
 
   pub elements_begin : (each : ℕ → Trail → Asking Part) (q : Trail) (left count : ℕ) (vs : List Json) → vs ≡ []
       → elements_part d each q left 0 count [] ≡ elements_part d each q left 0 (count - 0) (map view vs)
@@ -65,23 +64,23 @@ module _ (d : Description) (b : List ℕ) where
   pub members_step : (each : ℕ → Trail → Asking Part) (q : Trail) (left x : ℕ) (names rest : List ℕ) (ms : Members) → names ≡ x ∷ rest
       → members_part d each q left names ms ≡ bind (inner d each q left (child q (Name x))) (λ y. members_part d each q y.left rest (put (name d x) y.json ms))
   unfolding members_part
-  members_step each q left x names rest ms is = ap (λ ns. members_part d each q left ns ms) is
+  members_step each q left x names rest ms is = rw is refl
 
   pub pending_same : (whole rest : Asking Part) (old : Memo Node Ruled) → whole ≡ rest → IsRight (world d b) old.kept → Pending d b whole old rest old
-  pending_same whole rest old same right = subst (λ q. Pending d b whole old q old) same (pending_start d b whole old right)
+  pending_same whole rest old same right = rw (← same) (pending_start d b whole old right)
 
   pub pending_as : (whole rest next : Asking Part) (old now : Memo Node Ruled) → rest ≡ next → Pending d b whole old rest now → Pending d b whole old next now
-  pending_as whole rest next old now same h = subst (λ q. Pending d b whole old q now) same h
+  pending_as whole rest next old now same h = rw same at h
 
   pub elements_end : (each : ℕ → Trail → Asking Part) (q : Trail) (left i count : ℕ) (ds : List Data) → count ≤ i
       → elements_part d each q left i (count - i) ds ≡ written (array (items_of ds)) left
   unfolding elements_part
-  elements_end each q left i count ds h = let none : count - i ≡ 0 = omega arith in ap (λ n. elements_part d each q left i n ds) none
+  elements_end each q left i count ds h = let none : count - i ≡ 0 = omega arith in rw none refl
 
   pub members_end : (each : ℕ → Trail → Asking Part) (q : Trail) (left : ℕ) (names : List ℕ) (ms : Members) → names ≡ []
       → members_part d each q left names ms ≡ written (object ms) left
   unfolding members_part
-  members_end each q left names ms is = ap (λ ns. members_part d each q left ns ms) is
+  members_end each q left names ms is = rw is refl
 
   -- a loop's next part was written
   pub loop_on : (whole rest p : Asking Part) (f : Part → Asking Part) (old mid new : Memo Node Ruled) (x : Dumped)
@@ -105,57 +104,31 @@ module _ (d : Description) (b : List ℕ) where
         → Pending d b whole old (elements_part d each q left i (count - i) (map view vs)) mid → Runs d b (inner d each q left path) dumped mid new (Ok x)
         → Pending d b whole old (elements_part d each q x.left (i + 1) (count - (i + 1)) (map view vs ++ view x.json ∷ [])) new
     elements_on left i count vs path x more is h k =
-        loop_on whole (elements_part d each q left i (count - i) (map view vs)) (inner d each q left (child q (Index i)))
-        (λ y. elements_part d each q y.left (i + 1) (count - (i + 1)) (map view vs ++ y.json ∷ [])) old mid new x
-        (elements_step each q left i count (map view vs) more) h (subst (λ o. Runs d b (inner d each q left o) dumped mid new (Ok x)) is k)
+        loop_on whole _ _ _ old mid new x (elements_step each q left i count (map view vs) more) h (rw is at k)
 
     pub elements_failed : (left i count : ℕ) (vs : List Json) (path : Option Trail) (e : Untold) → i < count → path ≡ child q (Index i)
         → Pending d b whole old (elements_part d each q left i (count - i) (map view vs)) mid → Runs d b (inner d each q left path) dumped mid new (Err e)
         → Runs d b whole dumped old new (Err e)
     elements_failed left i count vs path e more is h k =
-        loop_failed whole (elements_part d each q left i (count - i) (map view vs)) (inner d each q left (child q (Index i)))
-        (λ y. elements_part d each q y.left (i + 1) (count - (i + 1)) (map view vs ++ y.json ∷ [])) old mid new e
-        (elements_step each q left i count (map view vs) more) h (subst (λ o. Runs d b (inner d each q left o) dumped mid new (Err e)) is k)
+        loop_failed whole _ _ _ old mid new e (elements_step each q left i count (map view vs) more) h
+        (subst (λ o. Runs d b (inner d each q left o) dumped mid new (Err e)) is k)
 
     pub members_on : (left x : ℕ) (names rest : List ℕ) (ms : Members) (path : Option Trail) (y : Dumped) → names ≡ x ∷ rest → path ≡ child q (Name x)
         → Pending d b whole old (members_part d each q left names ms) mid → Runs d b (inner d each q left path) dumped mid new (Ok y)
         → Pending d b whole old (members_part d each q y.left rest (put (name d x) (view y.json) ms)) new
     members_on left x names rest ms path y more is h k =
-        loop_on whole (members_part d each q left names ms) (inner d each q left (child q (Name x)))
-        (λ z. members_part d each q z.left rest (put (name d x) z.json ms)) old mid new y
-        (members_step each q left x names rest ms more) h (subst (λ o. Runs d b (inner d each q left o) dumped mid new (Ok y)) is k)
+        loop_on whole _ _ _ old mid new y (members_step each q left x names rest ms more) h (rw is at k)
 
     pub members_failed : (left x : ℕ) (names rest : List ℕ) (ms : Members) (path : Option Trail) (e : Untold) → names ≡ x ∷ rest → path ≡ child q (Name x)
         → Pending d b whole old (members_part d each q left names ms) mid → Runs d b (inner d each q left path) dumped mid new (Err e)
         → Runs d b whole dumped old new (Err e)
     members_failed left x names rest ms path e more is h k =
-        loop_failed whole (members_part d each q left names ms) (inner d each q left (child q (Name x)))
-        (λ z. members_part d each q z.left rest (put (name d x) z.json ms)) old mid new e
-        (members_step each q left x names rest ms more) h (subst (λ o. Runs d b (inner d each q left o) dumped mid new (Err e)) is k)
+        loop_failed whole _ _ _ old mid new e (members_step each q left x names rest ms more) h
+        (subst (λ o. Runs d b (inner d each q left o) dumped mid new (Err e)) is k)
 
   pub plain_is : (each : ℕ → Trail → Asking Part) (p : Trail) (left : ℕ) (v : Value) → ((q : Trail) → v ≡ values.Object q → ⊥)
       → ((q : Trail) → v ≡ values.List q → ⊥) → value_part d b each p left v ≡ written (plain_part d b p v) left
   unfolding value_part
-  plain_is each p left (values.Int n) h k = refl
-  plain_is each p left (values.Bool t) h k = refl
-  plain_is each p left (values.Text t) h k = refl
-  plain_is each p left (values.Bytes from to) h k = refl
-  plain_is each p left (values.Member e n) h k = refl
-  plain_is each p left (values.Stream w) h k = refl
   plain_is each p left (values.Object q) h k = absurd (h q refl)
   plain_is each p left (values.List q) h k = absurd (k q refl)
-
--- ---- a list from a place on
-
-pub drop_step : (xs : List ℕ) (i x : ℕ) → i < length xs → drop i xs ≡ get_or xs i x ∷ drop (i + 1) xs
-drop_step [] i x h = absurd (omega arith)
-drop_step (y ∷ ys) zero x h = refl
-drop_step (y ∷ ys) (suc i) x h =
-    let next : suc (i + 1) ≡ suc i + 1 = omega arith in
-    drop_step ys i x (omega arith) ∙ ap (λ k. get_or ys i x ∷ drop k (y ∷ ys)) next
-
-pub drop_end : (xs : List ℕ) (i : ℕ) → length xs ≤ i → drop i xs ≡ []
-drop_end [] zero h = refl
-drop_end [] (suc i) h = refl
-drop_end (y ∷ ys) zero h = absurd (omega arith)
-drop_end (y ∷ ys) (suc i) h = drop_end ys i (omega arith)
+  plain_is each p left v h k = refl

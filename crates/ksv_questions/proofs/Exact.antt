@@ -1,8 +1,8 @@
 -- A dump has no float: its integers are written digit for digit.
-use Rattle.ksv_questions.proofs.Common.{◌≡◌, ℕ, zero, suc, ◌+◌, ℤ, Bool, true, false, ◌||◌, ◌&&◌, List, [], ◌∷◌, ◌++◌, Option, None, Ok, Err, refl, ap, subst}
+use Rattle.ksv_questions.proofs.Common.{arith, ◌≡◌, ℕ, zero, suc, ◌+◌, ℤ, Bool, true, false, ◌||◌, ◌&&◌, List, [], ◌∷◌, ◌++◌, Option, None, Ok, Err, refl, ap}
 use Rattle.ksv_questions.proofs.Common.{if◌then◌else◌, Data, no_members, put, Answer, Fail, bind, Description, Trail, child, Index, Value, Node, answered}
 use Rattle.ksv_questions.proofs.Common.{Asking, Heard, Part, begin, begun_part, elements_part, find_list, members_part, part, unasked, value_part}
-use Rattle.std.proofs.Common.{pos, negsuc, Some, Ordering, Less, Equal, Greater}
+use Rattle.std.proofs.Common.{Some, Ordering, Less, Equal, Greater}
 use Rattle.std.proofs.lemmas.Bool.{or_from, or_parts}
 use Rattle.std.specs.Ordering.{match_ordering, nat_cmp}
 use Rattle.std.specs.Cmp.Lexicographic.{slice_cmp}
@@ -39,8 +39,8 @@ gives_bind P Q (Fail e) f h k = tt
 gives_bind P Q (Ask n g) f h k = λ r. gives_bind P Q (g r) f (h r) k
 
 gives_result : {A : Type 0} (P : A → Type 0) (met : Node → Heard) (q : Asking A) (a : A) → Gives P q → result_of met q ≡ Ok a → P a
-gives_result P met (Answer x) a h is = let same : x ≡ a = cc in subst P same h
-gives_result P met (Fail e) a h is = absurd (cc)
+gives_result P met (Answer x) a h is = let same : x ≡ a = cc in rw same at h
+gives_result P met (Fail e) a h is = cc
 gives_result P met (Ask n k) a h is = gives_result P met (k (met n)) a (h (met n)) is
 
 -- ---- data without floats
@@ -56,8 +56,7 @@ IsExactFound (Ok a) = Unit {0}
 IsExactFound (Err json) = IsExact json
 
 integer_exact : (n : ℤ) → is_float (of_integer n) ≡ false
-integer_exact (pos n) = refl
-integer_exact (negsuc n) = refl
+integer_exact n = grind arith
 
 fault_exact : (d : Description) (f : NodeFault) → IsExact (fault_part d f)
 unfolding fault_part
@@ -78,9 +77,7 @@ plain_exact d b p (values.Bool t) = refl
 plain_exact d b p (values.Text t) = refl
 plain_exact d b p (values.Bytes from to) = refl
 plain_exact d b p (values.Member e n) = ap (λ x. x || false) (integer_exact n)
-plain_exact d b p (values.Stream w) = fault_exact d _
-plain_exact d b p (values.Object q) = fault_exact d _
-plain_exact d b p (values.List q) = fault_exact d _
+plain_exact d b p v = fault_exact d _
 
 put_exact : (k : List ℕ) (json : Data) (ms : Members) → IsExact json → members_have_float ms ≡ false → members_have_float (put k json ms) ≡ false
 put_exact k json no_members h m = or_from (has_float json) false h refl
@@ -93,16 +90,16 @@ put_exact k json (member l e ms) h m = by (slice_cmp nat_cmp k l) (put_exact k j
     by Greater more = or_from (has_float e) (members_have_float (put k json ms)) (or_parts (has_float e) (members_have_float ms) m).0 more
 
 items_exact : (ds : List Data) (json : Data) → items_have_float (items_of ds) ≡ false → IsExact json → items_have_float (items_of (ds ++ json ∷ [])) ≡ false
-items_exact [] json h k = or_from (has_float json) false k refl
-items_exact (e ∷ ds) json h k = or_from (has_float e) (items_have_float (items_of (ds ++ json ∷ [])))
-    (or_parts (has_float e) (items_have_float (items_of ds)) h).0 (items_exact ds json (or_parts (has_float e) (items_have_float (items_of ds)) h).1 k)
+items_exact [] json h k = rw k refl
+items_exact (e ∷ ds) json h k =
+    let p = or_parts (has_float e) (items_have_float (items_of ds)) h in
+    or_from (has_float e) (items_have_float (items_of (ds ++ json ∷ []))) p.0 (items_exact ds json p.1 k)
 
 -- ---- parts
 
 module _ (d : Description) (b : List ℕ) where
   begins : (left : ℕ) → Gives (λ _. Unit {0}) (begin left)
-  begins zero = tt
-  begins (suc left) = tt
+  begins left = grind arith
 
   unasked_exact : (p : Trail) (left : ℕ) → Gives IsExactPart (unasked d p left)
   unfolding unasked
@@ -114,25 +111,16 @@ module _ (d : Description) (b : List ℕ) where
     where
       heard : (h : Heard) → IsExactFound (value_in d p h)
       heard (Ok (givens.Value v)) = tt
-      heard (Ok (givens.Head h)) = fault_exact d _
-      heard (Ok (givens.End place last)) = fault_exact d _
-      heard (Ok (givens.Rest count place)) = fault_exact d _
       heard (Err f) = failed_exact d p f
+      heard _ = fault_exact d _
 
   object_found : (q : Trail) → Gives IsExactFound (find_object d q)
   unfolding find_object bind
   object_found q = heard
     where
       heard : (h : Heard) → IsExactFound (object_in d q h)
-      heard (Ok (givens.Value v)) = fault_exact d _
-      heard (Ok (givens.Head (heads.Absent at))) = fault_exact d _
-      heard (Ok (givens.Head (heads.Calc c))) = fault_exact d _
-      heard (Ok (givens.Head (heads.Leaf l))) = fault_exact d _
       heard (Ok (givens.Head (heads.Object o))) = tt
-      heard (Ok (givens.Head (heads.List g))) = fault_exact d _
-      heard (Ok (givens.End place last)) = fault_exact d _
-      heard (Ok (givens.Rest count place)) = fault_exact d _
-      heard (Err f) = fault_exact d f
+      heard _ = fault_exact d _
 
   list_found : (q : Trail) (first : Option Trail) → Gives IsExactFound (find_list d q first)
   unfolding find_list bind
@@ -140,11 +128,8 @@ module _ (d : Description) (b : List ℕ) where
   list_found q (Some first) = heard
     where
       heard : (h : Heard) → IsExactFound (count_in d q h)
-      heard (Ok (givens.Value v)) = fault_exact d _
-      heard (Ok (givens.Head h)) = fault_exact d _
-      heard (Ok (givens.End place last)) = fault_exact d _
       heard (Ok (givens.Rest count place)) = tt
-      heard (Err f) = fault_exact d f
+      heard _ = fault_exact d _
 
   gone_into : {A : Type 0} (inside : A → Asking Part) (left : ℕ) → ((a : A) → Gives IsExactPart (inside a)) → (f : Found A) → IsExactFound f
       → Gives IsExactPart (or_written inside left f)
@@ -160,15 +145,15 @@ module _ (d : Description) (b : List ℕ) where
         → Gives IsExactPart (members_part d each q left names ms)
     unfolding members_part
     members_exact q left [] ms h = h
-    members_exact q left (x ∷ xs) ms h = gives_bind IsExactPart IsExactPart (inner d each q left (child q (Name x))) _ (inner_exact q left (child q (Name x)))
+    members_exact q left (x ∷ xs) ms h = gives_bind IsExactPart IsExactPart _ _ (inner_exact q left (child q (Name x)))
         (λ y k. members_exact q y.left xs (put (name d x) y.json ms) (put_exact (name d x) y.json ms k h))
 
     elements_exact : (q : Trail) (left i n : ℕ) (ds : List Data) → items_have_float (items_of ds) ≡ false
         → Gives IsExactPart (elements_part d each q left i n ds)
     unfolding elements_part
     elements_exact q left i zero ds h = h
-    elements_exact q left i (suc n) ds h = gives_bind IsExactPart IsExactPart (inner d each q left (child q (Index i))) _
-        (inner_exact q left (child q (Index i))) (λ y k. elements_exact q y.left (i + 1) n (ds ++ y.json ∷ []) (items_exact ds y.json h k))
+    elements_exact q left i (suc n) ds h = gives_bind IsExactPart IsExactPart _ _ (inner_exact q left (child q (Index i)))
+        (λ y k. elements_exact q y.left (i + 1) n (ds ++ y.json ∷ []) (items_exact ds y.json h k))
 
     object_exact : (q : Trail) (left : ℕ) → Gives IsExactPart (object_part d each q left)
     unfolding object_part
@@ -184,12 +169,7 @@ module _ (d : Description) (b : List ℕ) where
     unfolding value_part
     value_exact p left (values.Object q) = object_exact q left
     value_exact p left (values.List q) = list_exact q left
-    value_exact p left (values.Int n) = plain_exact d b p (values.Int n)
-    value_exact p left (values.Bool t) = plain_exact d b p (values.Bool t)
-    value_exact p left (values.Text t) = plain_exact d b p (values.Text t)
-    value_exact p left (values.Bytes from to) = plain_exact d b p (values.Bytes from to)
-    value_exact p left (values.Member e n) = plain_exact d b p (values.Member e n)
-    value_exact p left (values.Stream w) = plain_exact d b p (values.Stream w)
+    value_exact p left v = plain_exact d b p v
 
     begun_exact : (left : ℕ) (p : Trail) → Gives IsExactPart (begun_part d b each left p)
     unfolding begun_part asked_part

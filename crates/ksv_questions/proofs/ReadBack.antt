@@ -1,5 +1,5 @@
 -- The bytes of an integer read as that integer.
-use Rattle.ksv_questions.proofs.Common.{◌≡◌, ◌∙◌, ℕ, zero, suc, ◌+◌, ◌-◌, ◌*◌, ◌<◌, ◌≤◌, ℤ, Bool, true, false, ◌&&◌, List, length, ap, refl, sym, arith}
+use Rattle.ksv_questions.proofs.Common.{◌≡◌, ◌∙◌, ℕ, zero, suc, ◌+◌, ◌-◌, ◌*◌, ◌<◌, ◌≤◌, ℤ, Bool, true, false, ◌&&◌, List, length, ap, refl, arith}
 use Rattle.ksv_questions.proofs.Common.{if◌then◌else◌}
 use Rattle.std.proofs.Common.{◌/◌, ◌^◌, pos, negsuc}
 use Rattle.std.specs.Prelude.{nat_le, int_le, int_lt, neg_ℤ, ◌-ℤ◌}
@@ -24,12 +24,8 @@ unfolding little_endian
 digits_sum zero n h = omega arith
 digits_sum (suc k) n h =
     let one : suc k ≡ k + 1 = omega arith in
-    let all : n < 256 ^ k * 256 = subst_lt one in
-    let rest : sum_of_bytes (little_endian k (n / 256)) ≡ n / 256 = digits_sum k (n / 256) (omega (arith, all)) in
-    omega (arith, rest)
-  where
-    subst_lt : suc k ≡ k + 1 → n < 256 ^ k * 256
-    subst_lt e = let p : 256 ^ suc k ≡ 256 ^ k * 256 = ap (λ j. 256 ^ j) e ∙ pow_more 256 k in omega (arith, p, h)
+    let all : n < 256 ^ k * 256 = omega (arith, ap (λ j. 256 ^ j) one ∙ pow_more 256 k, h) in
+    omega (arith, digits_sum k (n / 256) (omega (arith, all)))
 
 -- bytes in either order say the sum of their digits
 in_order_sum : (order : ByteOrder) (bytes : List ℕ) → unsigned_value order (in_order order bytes) ≡ sum_of_bytes bytes
@@ -48,13 +44,9 @@ value_is : (signed : Bool) (order : ByteOrder) (size n : ℕ) → n < 2 ^ (8 * s
     → integer_value signed order (in_order order (little_endian size n)) ≡ integer_by signed (2 ^ (8 * size)) n
 unfolding integer_value integer_by
 value_is signed order size n h =
-    let bound : n < 256 ^ size = below (byte_power size) in
-    let sum : unsigned_value order (in_order order (little_endian size n)) ≡ n = in_order_sum order (little_endian size n) ∙ digits_sum size n bound in
-    let count : length (in_order order (little_endian size n)) ≡ size = in_order_length order (little_endian size n) ∙ digits_length size n in
-    rw (sum, count) refl
-  where
-    below : 2 ^ (8 * size) ≡ 256 ^ size → n < 256 ^ size
-    below e = omega (arith, e, h)
+    let bound : n < 256 ^ size = omega (arith, byte_power size, h) in
+    let sum = in_order_sum order (little_endian size n) ∙ digits_sum size n bound in
+    rw (sum, in_order_length order (little_endian size n) ∙ digits_length size n) refl
 
 -- two's complement among this many values
 abbrev unsigned_in : ℕ → ℤ → ℕ
@@ -66,10 +58,10 @@ halves : (v : ℕ) → v / 2 + v / 2 ≤ v
 halves v = omega arith
 
 if_true : (c : Bool) (x y : ℤ) → c ≡ true → (if c then x else y) ≡ x
-if_true c x y e = ap (λ b. if b then x else y) e
+if_true c x y e = rw e refl
 
 if_false : (c : Bool) (x y : ℤ) → c ≡ false → (if c then x else y) ≡ y
-if_false c x y e = ap (λ b. if b then x else y) e
+if_false c x y e = rw e refl
 
 read_at : (signed : Bool) (v : ℕ) (n : ℤ) → (if signed then int_le (neg_ℤ (pos (v / 2))) n && int_lt n (pos (v / 2)) else int_le (pos 0) n && int_lt n (pos v))
     ≡ true
@@ -95,12 +87,9 @@ read_at false v (pos n) h =
 read_at false v (negsuc n) h =
     let low : int_le (pos 0) (negsuc n) ≡ true = first_so (int_le (pos 0) (negsuc n)) (int_lt (negsuc n) (pos v)) h in
     let never : int_le (pos 0) (negsuc n) ≡ false = grind (arith, ints) in
-    absurd (let no : true ≡ false = sym low ∙ never in cc)
+    cc
 
 pub read_back : (t : IntegerType) (n : ℤ) → holds t n ≡ true → integer_value t.is_signed t.order (integer_bytes t n) ≡ n
 unfolding integer_bytes holds
-read_back t n h = by n h
-  where
-    by : (n : ℤ) → holds t n ≡ true → integer_value t.is_signed t.order (integer_bytes t n) ≡ n
-    by (pos m) k = let p = read_at t.is_signed (value_count t) (pos m) k in value_is t.is_signed t.order t.size m p.0 ∙ p.1
-    by (negsuc m) k = let p = read_at t.is_signed (value_count t) (negsuc m) k in value_is t.is_signed t.order t.size (value_count t - suc m) p.0 ∙ p.1
+read_back t (pos m) h = let p = read_at t.is_signed (value_count t) (pos m) h in value_is t.is_signed t.order t.size m p.0 ∙ p.1
+read_back t (negsuc m) h = let p = read_at t.is_signed (value_count t) (negsuc m) h in value_is t.is_signed t.order t.size (value_count t - suc m) p.0 ∙ p.1

@@ -1,10 +1,10 @@
 -- What running one question after another yields.
-use Rattle.ksv_questions.proofs.Common.{◌≡◌, ℕ, List, [], ◌++◌, Result, Ok, Err, append_assoc, refl, sym, ◌∙◌, ap, subst, append-nil, Fail, bind, Description}
+use Rattle.ksv_questions.proofs.Common.{◌≡◌, ℕ, List, [], ◌++◌, Result, Ok, Err, append_assoc, refl, sym, ◌∙◌, ap, append-nil, Fail, bind, Description}
 use Rattle.ksv_questions.proofs.Common.{Memo, IsRight, Node, answered, Asking, Runs, HasAsked, Ruled, world, Untold}
-use Rattle.ksv_basics.specs.Asking.{and_then, asks_behind}
+use Rattle.ksv_basics.specs.Asking.{asks_behind}
 use Rattle.ksv_nodes.specs.declared.node_fault.NodeFault.{NodeFault}
 use Rattle.ksv_questions.specs.Answers.{asks, outcome}
-use Rattle.ksv_questions.specs.Asking.{Failure, Faulty, Refused}
+use Rattle.ksv_questions.specs.Asking.{Failure, Faulty}
 use Rattle.ksv_questions.specs.Code.{IsFault, Settles}
 use Rattle.ksv_questions.specs.Engines.{HasAskedSome}
 use Rattle.ksv_questions.specs.declared.asking.Untold.TheVariants as untolds
@@ -14,63 +14,46 @@ use Rattle.ksv_questions.proofs.Bound.{asks_bind, bind_fails, result_bind}
 module _ (d : Description) (b : List ℕ) where
   -- the asks of two questions one after the other, where the first has an answer
   asks_on : {A B : Type 0} (p : Asking A) (f : A → Asking B) (a : A) → outcome d b p ≡ Ok a → asks d b p ++ asks d b (f a) ≡ asks d b (bind p f)
-  asks_on p f a is = sym (asks_bind (answered d b) p f ∙ ap (λ r. asks d b p ++ asks_behind r (λ x. asks d b (f x))) is)
+  asks_on p f a is = sym (asks_bind (answered d b) p f ∙ rw is refl)
 
   -- and where it fails
   asks_failed : {A B : Type 0} (p : Asking A) (f : A → Asking B) (e : Failure) → outcome d b p ≡ Err e → asks d b p ≡ asks d b (bind p f)
-  asks_failed p f e is = sym (asks_bind (answered d b) p f ∙ ap (λ r. asks d b p ++ asks_behind r (λ x. asks d b (f x))) is ∙ append-nil (asks d b p))
+  asks_failed p f e is = sym (asks_bind (answered d b) p f ∙ rw is (append-nil (asks d b p)))
 
   outcome_on : {A B : Type 0} (p : Asking A) (f : A → Asking B) (a : A) (r : Result B Failure) → outcome d b p ≡ Ok a → outcome d b (f a) ≡ r
       → outcome d b (bind p f) ≡ r
-  outcome_on p f a r is e = result_bind (answered d b) p f ∙ ap (λ x. and_then x (λ y. outcome d b (f y))) is ∙ e
+  outcome_on p f a r is e = result_bind (answered d b) p f ∙ rw is e
 
   outcome_failed : {A B : Type 0} (p : Asking A) (f : A → Asking B) (e : Failure) → outcome d b p ≡ Err e → outcome d b (bind p f) ≡ Err e
-  outcome_failed p f e is = result_bind (answered d b) p f ∙ ap (λ x. and_then x (λ y. outcome d b (f y))) is
+  outcome_failed p f e is = result_bind (answered d b) p f ∙ rw is refl
 
   -- the first question had an answer, and the second was run with it
+  asked_both : {A B : Type 0} (p : Asking A) (f : A → Asking B) (old mid new : Memo Node Ruled) (a : A) (r : Result B Failure)
+      → (outcome d b p ≡ Ok a) × HasAsked (world d b) (asks d b p) old mid → (outcome d b (f a) ≡ r) × HasAsked (world d b) (asks d b (f a)) mid new
+      → (outcome d b (bind p f) ≡ r) × HasAsked (world d b) (asks d b (bind p f)) old new
+  asked_both p f old mid new a r h k = (
+    outcome_on p f a r h.0 k.0,
+    rw (asks_on p f a h.0) at (asked_then (world d b) old mid new (asks d b p) (asks d b (f a)) h.1 k.1),
+  )
+
   pub runs_on : {X Y A B : Type 0} (p : Asking A) (f : A → Asking B) (view : X → A) (then : Y → B) (old mid new : Memo Node Ruled) (x : X) (r : Result Y Untold)
       → Runs d b p view old mid (Ok x) → Runs d b (f (view x)) then mid new r → Runs d b (bind p f) then old new r
-  runs_on p f view then old mid new x (Ok y) h k = (
-    outcome_on p f (view x) (Ok (then y)) h.0 k.0,
-    subst (λ ns. HasAsked (world d b) ns old new) (asks_on p f (view x) h.0) (asked_then (world d b) old mid new (asks d b p) (asks d b (f (view x))) h.1 k.1),
-  )
-  runs_on p f view then old mid new x (Err (untolds.Fault e)) h k = (
-    outcome_on p f (view x) (Err (Faulty e)) h.0 k.0,
-    subst (λ ns. HasAsked (world d b) ns old new) (asks_on p f (view x) h.0) (asked_then (world d b) old mid new (asks d b p) (asks d b (f (view x))) h.1 k.1),
-  )
-  runs_on p f view then old mid new x (Err (untolds.Refused e)) h k = (
-    outcome_on p f (view x) (Err (Refused e)) h.0 k.0,
-    subst (λ ns. HasAsked (world d b) ns old new) (asks_on p f (view x) h.0) (asked_then (world d b) old mid new (asks d b p) (asks d b (f (view x))) h.1 k.1),
-  )
   runs_on p f view then old mid new x (Err untolds.NoMemory) h k =
-      subst (λ ns. HasAskedSome (world d b) ns old new) (asks_on p f (view x) h.0)
-      (some_then (world d b) old mid new (asks d b p) (asks d b (f (view x))) h.1 k)
+      rw (asks_on p f (view x) h.0) at (some_then (world d b) old mid new (asks d b p) (asks d b (f (view x))) h.1 k)
+  runs_on p f view then old mid new x r h k = asked_both p f old mid new (view x) _ h k
 
   -- the first had none
   pub runs_failed : {X Y A B : Type 0} (p : Asking A) (f : A → Asking B) (view : X → A) (then : Y → B) (old new : Memo Node Ruled) (e : Untold)
       → Runs d b p view old new (Err e) → Runs d b (bind p f) then old new (Err e)
-  runs_failed p f view then old new (untolds.Fault e) h = (
-    outcome_failed p f (Faulty e) h.0,
-    subst (λ ns. HasAsked (world d b) ns old new) (asks_failed p f (Faulty e) h.0) h.1,
-  )
-  runs_failed p f view then old new (untolds.Refused e) h = (
-    outcome_failed p f (Refused e) h.0,
-    subst (λ ns. HasAsked (world d b) ns old new) (asks_failed p f (Refused e) h.0) h.1,
-  )
-  runs_failed p f view then old new untolds.NoMemory h =
-      subst (λ ns. HasAskedSome (world d b) ns old new) (sym (asks_bind (answered d b) p f))
+  runs_failed p f view then old new untolds.NoMemory h = rw (asks_bind (answered d b) p f)
       (some_before (world d b) old new (asks d b p) (asks_behind (outcome d b p) (λ a. asks d b (f a))) h)
+  runs_failed p f view then old new e h = (outcome_failed p f _ h.0, rw (asks_failed p f _ h.0) at h.1)
 
   -- a question that asks nothing
   pub runs_settled : {X A : Type 0} (q : Asking A) (view : X → A) (old : Memo Node Ruled) (r : Result X Untold) → IsRight (world d b) old.kept
       → Settles q view r → Runs d b q view old old r
-  runs_settled q view old (Ok x) right is =
-      (ap (λ p. outcome d b p) is, subst (λ p. HasAsked (world d b) (asks d b p) old old) (sym is) (asked_none (world d b) old right))
-  runs_settled q view old (Err (untolds.Fault e)) right is =
-      (ap (λ p. outcome d b p) is, subst (λ p. HasAsked (world d b) (asks d b p) old old) (sym is) (asked_none (world d b) old right))
-  runs_settled q view old (Err (untolds.Refused e)) right is =
-      (ap (λ p. outcome d b p) is, subst (λ p. HasAsked (world d b) (asks d b p) old old) (sym is) (asked_none (world d b) old right))
   runs_settled q view old (Err untolds.NoMemory) right is = some_none (world d b) old (asks d b q) right
+  runs_settled q view old r right is = (rw is refl, rw is (asked_none (world d b) old right))
 
   -- a fault
   pub settled_fault : {X A : Type 0} (f : NodeFault) (view : X → A) (e : Untold) → IsFault f e → Settles {X = X} {A = A} (Fail (Faulty f)) view (Err e)
@@ -82,8 +65,7 @@ module _ (d : Description) (b : List ℕ) where
   pub settled_failed : {X Y A B : Type 0} (p : Asking A) (f : A → Asking B) (view : X → A) (then : Y → B) (e : Untold) → Settles p view (Err e)
       → Settles (bind p f) then (Err e)
   settled_failed p f view then untolds.NoMemory is = tt
-  settled_failed p f view then (untolds.Fault e) is = bind_fails p f (Faulty e) is
-  settled_failed p f view then (untolds.Refused e) is = bind_fails p f (Refused e) is
+  settled_failed p f view then e is = bind_fails p f _ is
 
   -- the same after another
   pub runs_ended : {X Y A B : Type 0} (p : Asking A) (f : A → Asking B) (view : X → A) (then : Y → B) (old mid : Memo Node Ruled) (x : X) (r : Result Y Untold)
@@ -117,18 +99,13 @@ module _ (d : Description) (b : List ℕ) where
   -- the rest was run
   pub pending_run : {Y B : Type 0} (whole rest : Asking B) (then : Y → B) (old mid new : Memo Node Ruled) (r : Result Y Untold)
       → Pending whole old rest mid → Runs d b rest then mid new r → Runs d b whole then old new r
-  pending_run whole rest then old mid new (Ok y) h k =
-      (h.ends ∙ k.0, subst (λ ns. HasAsked (world d b) ns old new) (sym h.order) (asked_then (world d b) old mid new h.before (asks d b rest) h.went k.1))
-  pending_run whole rest then old mid new (Err (untolds.Fault e)) h k =
-      (h.ends ∙ k.0, subst (λ ns. HasAsked (world d b) ns old new) (sym h.order) (asked_then (world d b) old mid new h.before (asks d b rest) h.went k.1))
-  pending_run whole rest then old mid new (Err (untolds.Refused e)) h k =
-      (h.ends ∙ k.0, subst (λ ns. HasAsked (world d b) ns old new) (sym h.order) (asked_then (world d b) old mid new h.before (asks d b rest) h.went k.1))
   pending_run whole rest then old mid new (Err untolds.NoMemory) h k =
-      subst (λ ns. HasAskedSome (world d b) ns old new) (sym h.order) (some_then (world d b) old mid new h.before (asks d b rest) h.went k)
+      rw h.order (some_then (world d b) old mid new h.before (asks d b rest) h.went k)
+  pending_run whole rest then old mid new r h k =
+      (h.ends ∙ k.0, rw h.order (asked_then (world d b) old mid new h.before (asks d b rest) h.went k.1))
 
   -- memory was refused before the rest asked anything
   pub pending_short : {B : Type 0} (whole rest : Asking B) (old mid : Memo Node Ruled) → Pending whole old rest mid
       → HasAskedSome (world d b) (asks d b whole) old mid
   pending_short whole rest old mid h =
-      subst (λ ns. HasAskedSome (world d b) ns old mid) (sym h.order)
-      (some_before (world d b) old mid h.before (asks d b rest) (some_of (world d b) old mid h.before h.went))
+      rw h.order (some_before (world d b) old mid h.before (asks d b rest) (some_of (world d b) old mid h.before h.went))

@@ -1,26 +1,23 @@
 -- Bits that are written: they are read as their number, and no other bit changes.
-use Rattle.ksv_questions.proofs.Common.{◌≡◌, ◌∙◌, ℕ, zero, suc, ◌+◌, ◌-◌, ◌*◌, ◌<◌, ◌≤◌, ◌&&◌, Bool, true, false, List, [], ◌∷◌, ◌++◌, length, drop, None, Ok}
-use Rattle.ksv_questions.proofs.Common.{Err, ℤ, refl, ap, sym, subst, arith, append_assoc, Answer, Fail, Asking}
-use Rattle.std.proofs.Common.{◌/◌, ◌%◌, ◌^◌, ◌==◌, if◌then◌else◌, take, reverse, Some, length-append}
-use Rattle.std.specs.Prelude.{nat_le, nat_lt, slice_range}
-use Rattle.std.proofs.lemmas.Bool.{leb-true}
+use Rattle.ksv_questions.proofs.Common.{◌≡◌, ◌∙◌, ℕ, zero, suc, ◌+◌, ◌-◌, ◌*◌, ◌<◌, ◌≤◌, List, [], ◌∷◌, ◌++◌, length, drop, Ok}
+use Rattle.ksv_questions.proofs.Common.{ℤ, refl, ap, sym, arith, append_assoc}
+use Rattle.std.proofs.Common.{◌/◌, ◌%◌, ◌^◌, take, reverse, length-append}
+use Rattle.std.specs.Prelude.{slice_range}
+use Rattle.std.proofs.lemmas.Bool.Decides.{nat_tests}
 use Rattle.std.proofs.lemmas.List.{drop-drop, length-drop, length-reverse, length-take, reverse-append, take-append-drop}
 use Rattle.std.proofs.lemmas.Grind.{pow_more}
 use Rattle.std.proofs.Math.Seq.{drop-append-add, drop-append_seam, take-append-add, take-append_seam}
 use Rattle.ksv_bytes.specs.Edits.{overwrite}
-use Rattle.ksv_bytes.specs.declared.edit.EditRefusal.TheVariants.{NothingToDo, Outside}
-use Rattle.ksv_texts.specs.declared.refusal.Refusal.TheVariants.{OutOfRange}
 use Rattle.ksv_expr_value.specs.Bits.{number_of, bits_of_number, bits_of, bits_from}
 use Rattle.ksv_expr_value.specs.Places.{Place, byte_of, byte_in, bit_in, bits_between, bits_left}
 use Rattle.ksv_expr_value.proofs.Binary.{AreBits, are_append, are_back, are_front, are_of, are_of_number, bits_append, byte_power, count_bits, count_of}
 use Rattle.ksv_expr_value.proofs.Binary.{number_append, number_bits, number_one, number_small}
 use Rattle.ksv_expr_value.proofs.Places.{bits_cut, by_byte, bytes_ordered}
 use Rattle.ksv_nodes.specs.declared.given.Leaf.{Leaf}
-use Rattle.ksv_texts.specs.Bits.{bits_hold, magnitude, replaced_bits, with_bits}
+use Rattle.ksv_texts.specs.Bits.{magnitude, replaced_bits, with_bits}
 use Rattle.ksv_texts.specs.Integers.{little_endian}
 use Rattle.ksv_texts.proofs.Among.{held}
-use Rattle.ksv_questions.specs.Asking.{Refused}
-use Rattle.ksv_questions.specs.Writing.{Overwrite, BitsAreWritten, IsWritten, among, met_bytes}
+use Rattle.ksv_questions.specs.Writing.{Overwrite, BitsAreWritten, IsWritten, met_bytes}
 use Rattle.ksv_questions.proofs.ReadBack.{digits_length}
 
 -- how many bytes a range has that is in a file
@@ -99,18 +96,16 @@ with_bits_are from to n bytes met ordered =
 -- ---- lists in parts
 
 front_of : (n : ℕ) (front mid back : List ℕ) → n ≡ length front + length mid → take n (front ++ (mid ++ back)) ≡ front ++ mid
-front_of n front mid back e = ap (λ m. take m (front ++ (mid ++ back))) e ∙ take-append-add front (mid ++ back) (length mid)
-    ∙ ap (λ z. front ++ z) (take-append_seam mid back)
+front_of n front mid back e = rw (e, take-append-add front (mid ++ back) (length mid), take-append_seam mid back) refl
 
 back_of : (n : ℕ) (front mid back : List ℕ) → n ≡ length front + length mid → drop n (front ++ (mid ++ back)) ≡ back
-back_of n front mid back e = ap (λ m. drop m (front ++ (mid ++ back))) e ∙ drop-append-add front (mid ++ back) (length mid) ∙ drop-append_seam mid back
+back_of n front mid back e = rw (e, drop-append-add front (mid ++ back) (length mid), drop-append_seam mid back) refl
 
 mid_of : (k w : ℕ) (front mid back : List ℕ) → k ≡ length front → w ≡ length mid → take w (drop k (front ++ (mid ++ back))) ≡ mid
-mid_of k w front mid back e f = ap (λ m. take w (drop m (front ++ (mid ++ back)))) e ∙ ap (take w) (drop-append_seam front (mid ++ back))
-    ∙ ap (λ m. take m (mid ++ back)) f ∙ take-append_seam mid back
+mid_of k w front mid back e f = rw (e, drop-append_seam front (mid ++ back), f, take-append_seam mid back) refl
 
 four : (a b c d : List ℕ) → (a ++ (b ++ c)) ++ d ≡ a ++ (b ++ (c ++ d))
-four a b c d = append_assoc a (b ++ c) d ∙ ap (λ z. a ++ z) (append_assoc b c d)
+four a b c d = rw (append_assoc a (b ++ c) d, append_assoc b c d) refl
 
 -- ---- the law
 
@@ -222,16 +217,7 @@ module _ (b : List ℕ) (from to : Place) (n : ℕ) (ordered : from.bits ≤ to.
 
 -- the file after an overwrite
 over_is : (b h : List ℕ) (at : ℕ) (after : List ℕ) → overwrite b at h ≡ Ok after → take at b ++ h ++ drop (at + length h) b ≡ after
-over_is b h at after e = by (nat_lt (length b) (at + length h)) (length h == 0) e
-  where
-    by : (x y : Bool) → (if x then Err Outside else if y then Err NothingToDo else Ok (take at b ++ h ++ drop (at + length h) b)) ≡ Ok after
-        → take at b ++ h ++ drop (at + length h) b ≡ after
-    by true y e' = absurd (cc)
-    by false true e' = absurd (cc)
-    by false false e' = cc
-
-one_answer : (x o : Overwrite) → ◌≡◌ {A = Asking Overwrite} (Answer x) (Answer o) → x ≡ o
-one_answer x o e = cc
+over_is b h at after e = grind arith
 
 is_written : (b after : List ℕ) (l : Leaf) (n : ℤ) (o : Overwrite) → l.from.bits ≤ l.to.bits → byte_of l.to ≤ length b
     → magnitude n < 2 ^ bits_between l.from l.to
@@ -240,7 +226,7 @@ is_written : (b after : List ℕ) (l : Leaf) (n : ℤ) (o : Overwrite) → l.fro
 is_written b after l n o ordered inside small is over =
     let there = over_is b (with_bits l.from l.to (magnitude n) (slice_range b (byte_in l.from) (byte_of l.to))) (byte_in l.from) after
     (ap (λ (x : Overwrite). overwrite b x.at x.bytes) is ∙ over) in
-    subst (λ z. IsWritten b z l n) there (record {
+    rw (← there) (record {
       read = read_back b l.from l.to (magnitude n) ordered inside small;
       before = same_before b l.from l.to (magnitude n) ordered inside small;
       behind = same_behind b l.from l.to (magnitude n) ordered inside small;
@@ -248,21 +234,5 @@ is_written b after l n o ordered inside small is over =
 
 pub bits_are_written : BitsAreWritten
 unfolding met_bytes
-bits_are_written b after l n o e over = by (nat_le l.from.bits l.to.bits) (nat_le (byte_of l.to) (length b)) (nat_le (byte_of l.to) (byte_in l.from + 9)) refl
-    refl e
-  where
-    by : (x y z : Bool) → nat_le l.from.bits l.to.bits ≡ x → nat_le (byte_of l.to) (length b) ≡ y
-        → among l n (if x && y && z then Some (slice_range b (byte_in l.from) (byte_of l.to)) else None) ≡ Answer o → IsWritten b after l n
-    by true true true p q e' = by_hold (bits_hold l.from l.to n) refl e'
-      where
-        by_hold : (h : Bool) → bits_hold l.from l.to n ≡ h
-            → ◌≡◌ {A = Asking Overwrite}
-            (if h then Answer (record
-            { at = byte_in l.from; bytes = with_bits l.from l.to (magnitude n) (slice_range b (byte_in l.from) (byte_of l.to)) })
-            else Fail (Refused OutOfRange)) (Answer o) → IsWritten b after l n
-        by_hold true h e'' = is_written b after l n o (leb-true l.from.bits l.to.bits p) (leb-true (byte_of l.to) (length b) q) (held l.from l.to n h)
-            (one_answer _ o e'') over
-        by_hold false h e'' = absurd (cc)
-    by false y z p q e' = absurd (cc)
-    by true false z p q e' = absurd (cc)
-    by true true false p q e' = absurd (cc)
+bits_are_written b after l n o e over = is_written b after l n o (grind (arith, nat_tests)) (grind (arith, nat_tests)) (held l.from l.to n (grind arith))
+    (grind arith) over

@@ -1,12 +1,13 @@
 -- What each exit of a dump's functions gives.
-use Rattle.ksv_questions.proofs.Common.{◌∙◌, ◌+◌, ◌-◌, drop, map, Err, Ok, ap, refl, subst, sym, err_from_is_err_and, no_members, put, view, Runs, bytes_of}
+use Rattle.ksv_questions.proofs.Common.{◌∙◌, ◌+◌, ◌-◌, drop, map, Err, Ok, ap, refl, subst, sym, err_from_is_err_and, put, view, Runs, bytes_of}
 use Rattle.ksv_questions.proofs.Common.{desc_of, dumped, found_of, begin, begun_part, elements_part, members_part, part, unasked, value_part, written}
 use Rattle.std.proofs.Common.{get_or}
+use Rattle.std.proofs.lemmas.List.{drop_all, drop_more}
 use Rattle.serde_json.specs.View.{members_view}
 use Rattle.serde_json.specs.declared.value.Value.{Array, Object}
 use Rattle.ksv_texts.proofs.Json.{array_view, object_view}
 use Rattle.ksv_questions.specs.Dumps.{asked_part, list_part, object_part}
-use Rattle.ksv_questions.proofs.Dumping.{at_bottom, at_level, drop_end, drop_step, elements_begin, elements_end, found_inside, found_written, is_deeper}
+use Rattle.ksv_questions.proofs.Dumping.{at_bottom, at_level, elements_begin, elements_end, found_inside, found_written, is_deeper}
 use Rattle.ksv_questions.proofs.Dumping.{members_end, pending_as, pending_same, plain_is, elements_failed, elements_on, loop_done, members_failed, members_on}
 use Rattle.ksv_questions.proofs.Steps.{pending_short, runs_failed, runs_first, runs_settled, settled_failed}
 use Rattle.ksv_questions.proofs.dump.+dump.Goals as goal
@@ -38,8 +39,7 @@ object_part-returns-in-Ok g t c =
     let d = desc_of c.args.file.now in
     let b = bytes_of c.args.file.now in
     found_inside _ _ _ _ c.args.left _ c.find_object.new.engine _ _ c.in-Ok.type_number _ c.in_ok-type_number.ensures c.in-Ok.is
-    (subst (λ names. Runs d b (members_part d (part d b c.args.depth) c.args.object.now c.args.left names no_members) dumped c.find_object.new.engine
-    c.members_part.new.engine c.members_part.result) c.fields-names.ensures c.members_part.ensures)
+    (rw (← c.fields-names.ensures) c.members_part.ensures)
 
 pub object_part-returns-in-Err : goal.object_part-returns-in-Err
 unfolding object_part
@@ -64,9 +64,8 @@ pub dump_part-returns-then-depth-eq0 : goal.dump_part-returns-then-depth-eq0
 dump_part-returns-then-depth-eq0 g t c =
     let d = desc_of c.args.file.now in
     let b = bytes_of c.args.file.now in
-    subst (λ n. Runs d b (part d b n c.args.left c.args.path.now) dumped c.args.engine.now c.args.engine.now c.unasked.result) (sym c.if-depth-eq0.true)
-    (subst (λ q. Runs d b q dumped c.args.engine.now c.args.engine.now c.unasked.result) (sym (at_bottom d b c.args.left c.args.path.now))
-    (runs_settled d b (unasked d c.args.path.now c.args.left) dumped c.args.engine.now c.unasked.result c.requires c.unasked.ensures))
+    rw c.if-depth-eq0.true (rw (at_bottom d b c.args.left c.args.path.now) (runs_settled d b (unasked d c.args.path.now c.args.left)
+    dumped c.args.engine.now c.unasked.result c.requires c.unasked.ensures))
 
 pub dump_part-returns-in_err-left : goal.dump_part-returns-in_err-left
 unfolding begun_part
@@ -86,8 +85,7 @@ unfolding begun_part
 dump_part-returns g t c =
     let d = desc_of c.args.file.now in
     let b = bytes_of c.args.file.now in
-    subst (λ q. Runs d b q dumped c.args.engine.now c.asked_part.new.engine c.asked_part.result)
-    (sym (at_level d b c.args.depth c.args.left c.args.path.now (is_deeper d b c.args.depth c.if-depth-eq0.false)))
+    rw (at_level d b c.args.depth c.args.left c.args.path.now (is_deeper d b c.args.depth c.if-depth-eq0.false))
     (runs_first d b _ _ (λ n. n) dumped _ _ c.in_ok-left.left _ c.requires c.in_ok-left.ensures c.asked_part.ensures)
 
 pub inner_part-returns-in-None : goal.inner_part-returns-in-None
@@ -173,7 +171,7 @@ members_part-returns-in_err-written g t c =
     let e = err_from_is_err_and c.from_residual-in_err-written.result c.from_residual-in_err-written.ensures.1 in
     rw (e.1, e.2) (
     members_failed _ _ _ _ _ _ c.loop-name.engine _ c.loop-name.left (get_or c.args.names.now i 0) (drop i c.args.names.now) (drop (i + 1) c.args.names.now)
-    _ _ c.in_err-written.field-0.0 (drop_step c.args.names.now i 0 c.loop-name-test.true) c.in_ok-path.ensures c.loop-name.invariant c.in_err-written.ensures)
+    _ _ c.in_err-written.field-0.0 (drop_more c.args.names.now i 0 c.loop-name-test.true) c.in_ok-path.ensures c.loop-name.invariant c.in_err-written.ensures)
 
 pub members_part-returns-in_err-put_member : goal.members_part-returns-in_err-put_member
 members_part-returns-in_err-put_member g t c =
@@ -182,7 +180,7 @@ members_part-returns-in_err-put_member g t c =
     rw (e.1, e.2) (
     pending_short _ _ _ _ _ _ (
     members_on _ _ _ _ _ _ c.loop-name.engine _ c.loop-name.left (get_or c.args.names.now i 0) (drop i c.args.names.now) (drop (i + 1) c.args.names.now)
-    _ _ c.in_ok-written.written (drop_step c.args.names.now i 0 c.loop-name-test.true) c.in_ok-path.ensures c.loop-name.invariant c.in_ok-written.ensures))
+    _ _ c.in_ok-written.written (drop_more c.args.names.now i 0 c.loop-name-test.true) c.in_ok-path.ensures c.loop-name.invariant c.in_ok-written.ensures))
 
 pub members_part-loop-name-preserved : goal.members_part-loop-name-preserved
 members_part-loop-name-preserved g t c =
@@ -194,7 +192,7 @@ members_part-loop-name-preserved g t c =
     (ap (λ after. members_part d each c.args.object.now c.in_ok-written.written.left (drop (i + 1) c.args.names.now) after)
     (sym (c.in_ok-put_member.ensures ∙ ap (λ key. put key (view c.in_ok-written.written.json) ms) c.name.ensures))) (
     members_on _ _ _ _ _ _ c.loop-name.engine _ c.loop-name.left (get_or c.args.names.now i 0) (drop i c.args.names.now) (drop (i + 1) c.args.names.now)
-    ms _ c.in_ok-written.written (drop_step c.args.names.now i 0 c.loop-name-test.true) c.in_ok-path.ensures c.loop-name.invariant c.in_ok-written.ensures)
+    ms _ c.in_ok-written.written (drop_more c.args.names.now i 0 c.loop-name-test.true) c.in_ok-path.ensures c.loop-name.invariant c.in_ok-written.ensures)
 
 pub members_part-returns : goal.members_part-returns
 members_part-returns g t c =
@@ -204,6 +202,6 @@ members_part-returns g t c =
     let left = c.loop-name.left in
     loop_done d b _ _ _ c.loop-name.engine (record { json = Object c.loop-name.members; left = left })
     (members_end d b (part d b c.args.depth) c.args.object.now left names (members_view c.loop-name.members.entries)
-    (drop_end c.args.names.now c.loop-name.name-index c.loop-name-test.false)
+    (drop_all c.loop-name.name-index c.args.names.now c.loop-name-test.false)
     ∙ ap (λ json. written json left) (sym (object_view c.loop-name.members)))
     c.loop-name.invariant

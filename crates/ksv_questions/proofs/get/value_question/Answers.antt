@@ -1,21 +1,17 @@
-use Rattle.ksv_questions.proofs.Common.{String, Global, string_bytes, err_from_is_err_and, desc_of, bytes_of, ask_value}
-use Rattle.ksv_questions.specs.Questions.{of_value, value_question}
+use Rattle.ksv_questions.proofs.Common.{String, Global, string_bytes, err_from_is_err_and}
+use Rattle.ksv_questions.specs.Questions.{value_question}
 use Rattle.ksv_questions.proofs.Steps.{runs_on, runs_failed}
 use Rattle.ksv_questions.proofs.get.value_question.Goals as goal
 
 pub returns-in_err-value : goal.returns-in_err-value
 unfolding value_question
 returns-in_err-value g c =
-    let d = desc_of c.args.file.now in
-    let b = bytes_of c.args.file.now in
     let e = err_from_is_err_and c.from_residual.result c.from_residual.ensures.1 in
-    rw (e.1, e.2) (runs_failed d b (ask_value c.args.path.now) (λ v. of_value d b c.args.path.now v) (λ v. v) (λ (text : String Global). string_bytes text)
-    c.args.engine.now c.ask_value.new.engine c.in_err-value.field-0.0 c.in_err-value.ensures)
+    rw (e.1, e.2) (runs_failed _ _ _ _ (λ v. v) (λ (text : String Global). string_bytes text)
+    _ c.ask_value.new.engine c.in_err-value.field-0.0 c.in_err-value.ensures)
 
 pub returns : goal.returns
 unfolding value_question
 returns g c =
-    let d = desc_of c.args.file.now in
-    let b = bytes_of c.args.file.now in
-    runs_on d b (ask_value c.args.path.now) (λ v. of_value d b c.args.path.now v) (λ v. v) (λ (text : String Global). string_bytes text)
-    c.args.engine.now c.ask_value.new.engine c.of_value.new.engine c.in_ok-value.value c.of_value.result c.in_ok-value.ensures c.of_value.ensures
+    runs_on _ _ _ _ (λ v. v) (λ (text : String Global). string_bytes text) _ c.ask_value.new.engine c.of_value.new.engine c.in_ok-value.value
+    c.of_value.result c.in_ok-value.ensures c.of_value.ensures

@@ -1,8 +1,7 @@
 use Rattle.ksv_questions.proofs.Common.{◌∙◌, Err, None, subst, sym, err_from_is_err_and, Runs, bytes_of, desc_of}
 use Rattle.ksv_expr_value.specs.declared.fault.FaultKind.TheVariants.{PathTooLong}
-use Rattle.ksv_nodes.specs.Rule.{rest_node}
 use Rattle.ksv_nodes.specs.NodeFaults.{raised_at}
-use Rattle.ksv_questions.specs.Questions.{first_asked, in_rest}
+use Rattle.ksv_questions.specs.Questions.{first_asked}
 use Rattle.ksv_questions.proofs.AskLemmas.{asked_ended, asked_failed}
 use Rattle.ksv_questions.proofs.Steps.{runs_settled, settled_fault}
 use Rattle.ksv_questions.proofs.parts.first_asked.Goals as goal
@@ -26,8 +25,7 @@ returns-in_err-given g c =
     rw (e.1, e.2) (subst
     (λ o. Runs d b (first_asked c.args.path.now c.args.list.now o) (λ n. n) c.args.engine.now c.ask.new.engine (Err c.in_err-given.field-0.0))
     (sym c.in-Some.is ∙ c.in_ok-first.ensures)
-    (asked_failed d b (rest_node c.in-Some.first) (λ g. in_rest c.args.path.now g) (λ n. n)
-    c.args.engine.now c.ask.new.engine c.in_err-given.field-0.0 c.in_err-given.ensures))
+    (asked_failed _ _ _ _ (λ n. n) _ c.ask.new.engine c.in_err-given.field-0.0 c.in_err-given.ensures))
 
 pub returns : goal.returns
 unfolding first_asked
@@ -36,5 +34,4 @@ returns g c =
     let b = bytes_of c.args.file.now in
     subst (λ o. Runs d b (first_asked c.args.path.now c.args.list.now o) (λ n. n) c.args.engine.now c.ask.new.engine c.in_rest.result)
     (sym c.in-Some.is ∙ c.in_ok-first.ensures)
-    (asked_ended d b (rest_node c.in-Some.first) (λ g. in_rest c.args.path.now g) (λ n. n)
-    c.args.engine.now c.ask.new.engine c.in_ok-given.given c.in_rest.result c.in_ok-given.ensures c.in_rest.ensures)
+    (asked_ended _ _ _ _ (λ n. n) _ c.ask.new.engine c.in_ok-given.given c.in_rest.result c.in_ok-given.ensures c.in_rest.ensures)
