@@ -49,7 +49,7 @@ module _ (met : Node → Result Given NodeFault) where
   }
     where
       one : EndsAsOf met l i (i + 1) place
-      one = record { path = p; is = is; ends = place; ended = ended ∙ ap (λ b. Ok (givens.End place b)) (sym (is_same (i + 1))); last_ends = λ e. refl }
+      one = record { path = p; is = is; ends = place; ended = rw (is_same (i + 1)) ended; last_ends = λ e. refl }
 
   one_more : (l p : Trail) (i : ℕ) (ends : Place) (c : ℕ) (place : Place) → child l (steps.Index i) ≡ Some p → met (end_node p) ≡ Ok (givens.End ends false)
       → AreElements met l (i + 1) c place → AreElements met l i c place
@@ -69,8 +69,7 @@ module _ (met : Node → Result Given NodeFault) where
         path = p;
         is = is;
         ends = ends;
-        ended = ended
-            ∙ ap (λ b. Ok (givens.End ends b)) (sym (is_other (i + 1) c some));
+        ended = rw (is_other (i + 1) c some) ended;
         last_ends = λ e. absurd (omega arith);
       }
 
@@ -108,10 +107,8 @@ module _ (d : Description) (bytes : List ℕ) (met all : Node → Result Given N
   answer_counts nodes.Rest (givens.Rest c place) is = λ i step. rest_counts i c place step (rw step at is)
   answer_counts k g is = grind arith
 
-first_counts : (d : Description) (bytes : List ℕ) (opened : List Node) (p : Trail) (c : ℕ) (place : Place) → last p ≡ Some (steps.Index 0)
-    → from_nothing d bytes opened (rest_node p) ≡ Ok (givens.Rest c place)
-    → IsEmptyList (from_nothing d bytes opened) (parent p) c place ⊎ AreElements (from_nothing d bytes opened) (parent p) 0 c place
-first_counts d bytes opened p c place is e =
+pub rests_count : RestsCount
+rests_count d bytes opened p c place is e =
     let all = from_nothing d bytes opened in
     let so : IsCounted all p (givens.Rest c place) = by_shapes d bytes opened (λ n g. IsCounted all n.path g)
     (λ met same lies n g z. answer_counts d bytes met all same lies n.path n.kind g z) (rest_node p) (givens.Rest c place) e in
@@ -119,9 +116,6 @@ first_counts d bytes opened p c place is e =
       | inl empty ↦ inl empty.1
       | inr elements ↦ inr elements
     ]
-
-pub rests_count : RestsCount
-rests_count d bytes opened p c place is e = first_counts d bytes opened p c place is e
 
 -- ---- counts that are told
 
@@ -168,7 +162,7 @@ told_counts d bytes opened p c place g n is answered holder count =
         omega arith
 
     by_repeat : (f : Field) → IsFieldOf d g.origin.member f → (r : Repeat) → f.repeat ≡ r → IsCountedBy r g → c ≡ n
-    by_repeat f own (Expr e) repeat so = elim (first_counts d bytes opened p c place is answered) [
+    by_repeat f own (Expr e) repeat so = elim (rests_count d bytes opened p c place is answered) [
       | inl empty ↦ by_empty so.0 so.1 so.2 empty
       | inr elements ↦ by_last f e own repeat elements c refl
     ]

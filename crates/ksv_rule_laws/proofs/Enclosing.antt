@@ -1,5 +1,5 @@
 -- What is read lies in the stream of the object or list that holds it.
-use Rattle.ksv_rule_laws.proofs.Common.{◌≡◌, ◌∙◌, ℕ, ◌+◌, ◌==◌, ◌≤◌, Bool, true, false, List, [], ◌∷◌, Option, Some, None, Result, Ok, refl, sym}
+use Rattle.ksv_rule_laws.proofs.Common.{◌≡◌, ℕ, ◌+◌, ◌==◌, ◌≤◌, Bool, true, false, List, [], ◌∷◌, Option, Some, None, Result, Ok, refl, sym}
 use Rattle.ksv_rule_laws.proofs.Common.{ap, arith, inl, inr, ◌⊎◌, AllByRecursion, nat_tests, Tree, Place, at_byte, byte_of, of_aligned, Trail}
 use Rattle.ksv_rule_laws.proofs.Common.{parent, last, Step, Stream, Choice, Description, MemberOfType, MemberKind, Parameter, Attribute, ParseInstance}
 use Rattle.ksv_rule_laws.proofs.Common.{ValueInstance, Field, Node, NodeFault, NodeKind, Given, Origin, ObjectEnd, Object, Head, end_in, head_node, end_node}
@@ -36,9 +36,7 @@ IsBeside d (heads.Object o) (steps.Name x) = (s : Sought) → sought x 0 None (m
 IsBeside d _ step = Unit {0}
 
 same_stream : (k : Head) (w w' : Stream) → IsStreamOf k w → IsStreamOf k w' → w ≡ w'
-same_stream (heads.Object o) w w' a b = sym a ∙ b
-same_stream (heads.List g) w w' a b = sym a ∙ b
-same_stream _ w w' a b = absurd a
+same_stream k w w' a b = grind arith
 
 -- ---- the parts of an object that rules ask for
 
@@ -144,9 +142,7 @@ module _ (bytes : List ℕ) where
   begins_in : (w : Stream) (h : Head) → LiesIn bytes w h → BeginsIn h
   begins_in w (heads.Object o) is = is.3
   begins_in w (heads.List g) is = rw is.1 is.0
-  begins_in w (heads.Absent at) is = tt
-  begins_in w (heads.Calc c) is = tt
-  begins_in w (heads.Leaf l) is = tt
+  begins_in w _ is = tt
 
 module _ (d : Description) (bytes : List ℕ) where
   -- what a head, an end and a rest are in the stream of what holds them; nothing holds the root
@@ -183,9 +179,8 @@ module _ (d : Description) (distinct : HasDistinctNames d) (bytes : List ℕ) (m
       → IsBeside d k step → all (head_node q) ≡ Ok (givens.Head k) → IsStreamOf k w → IsHeld d bytes all r P → P w
   held_at P r q step k w up apart asked own held =
       let one : held.holder ≡ k = cc (held.answered, asked, ap (λ p. all (head_node p)) up.0) in
-      let read : IsReadIn d all bytes r k (Some step) held.stream =
-      rw (← one) (rw (← up.1) held.read) in
-      rw (← (same_stream k held.stream w (read_own d all bytes r k step held.stream apart read) own)) held.lies
+      let read : IsReadIn d all bytes r k (Some step) held.stream = rw (← one) (rw (← up.1) held.read) in
+      rw (same_stream k held.stream w (read_own d all bytes r k step held.stream apart read) own) at held.lies
 
   ends_in : (q : Trail) (step : Step) (e : Place) (k : Head) (w : Stream) → IsBeside d k step → all (head_node q) ≡ Ok (givens.Head k)
       → IsStreamOf k w → EndsAt met q step e → Between w (byte_of e)
@@ -226,7 +221,7 @@ module _ (d : Description) (distinct : HasDistinctNames d) (bytes : List ℕ) (m
   start_in o None c s apart asked begins is = rw (← is) begins
   start_in o (Some y) c s apart asked begins is =
       let ends = ends_in (parent here) (steps.Name y) is.0 (heads.Object o) o.stream apart asked refl is.1 in
-      rw (← is.2) (rw (of_start is.0 c) ends)
+      rw (← is.2, of_start is.0 c) ends
 
   -- what lies in the stream in which a member at a path is read, unless it lies nowhere
   abbrev LiesFor : Object → MemberKind → Head → Type 0
@@ -243,12 +238,9 @@ module _ (d : Description) (distinct : HasDistinctNames d) (bytes : List ℕ) (m
   own_or_io o e None f = refl
   own_or_io o e (Some io) f = known all here bytes _ (expression (instance_setting here (parent here) o) io) _ (λ v is. grind arith)
 
-  calc_in : (o : Object) (m : Sought) (h : Head) → calc o m ≡ h → LiesIn bytes o.stream h
-  calc_in o m h is = rw (← is) tt
-
   member_in : (o : Object) (m : Sought) (k : MemberKind) (h : Head) → IsHere d o m.before → all (head_node (parent here)) ≡ Ok (givens.Head (heads.Object o))
       → Between o.stream (byte_of o.start) → IsMember d met here bytes o m k h → LiesFor o k h
-  member_in o m Parameter h apart asked begins is = inr (o.stream, refl, calc_in o m h is)
+  member_in o m Parameter h apart asked begins is = inr (o.stream, refl, rw (← is) tt)
   member_in o m (Attribute f) h apart asked begins is =
       inr (o.stream, refl, at_in (origin_of o m) o.stream is.0 f h (start_in o m.before f.choice is.0 apart asked begins is.1) is.2)
   member_in o m (ParseInstance e io f) h apart asked begins is = elim is [
@@ -265,7 +257,7 @@ module _ (d : Description) (distinct : HasDistinctNames d) (bytes : List ℕ) (m
   ]
   member_in o m (ValueInstance v) h apart asked begins is = elim is [
     | inl out ↦ inl (unmet o v.condition h out)
-    | inr calc ↦ inr (o.stream, refl, calc_in o m h calc)
+    | inr calc ↦ inr (o.stream, refl, rw (← calc) tt)
   ]
 
   -- what holds the node's path begins in its own stream
@@ -335,15 +327,14 @@ module _ (d : Description) (distinct : HasDistinctNames d) (bytes : List ℕ) (m
 
   place_in : (h : Head) (w : Stream) (e : Place) → all (head_node here) ≡ Ok (givens.Head h) → LiesIn bytes w h → IsEnd d met here bytes h e
       → Between w (byte_of e)
-  place_in (heads.Absent None) w e asked within is = absurd is
   place_in (heads.Absent (Some s)) w e asked within is = rw (← is) within
-  place_in (heads.Calc c) w e asked within is = absurd is
   place_in (heads.Leaf l) w e asked within is = rw (← is) within.2
   place_in (heads.Object o) w e asked within is = object_end_in o o.ending w e asked within is
   place_in (heads.List g) w e asked within is =
       let r = is.1 in
       held_at (λ v. Between v (byte_of e)) r.path here (steps.Index 0) (heads.List g) w (part_of here r.path (steps.Index 0) r.is) tt asked within.1
       (lies (rest_node r.path) (givens.Rest is.0 e) r.rested)
+  place_in _ w e asked within is = absurd is
 
   end_of_in : (e : Place) (so : Bool) → IsEndOf d met here bytes e so → EndLies d bytes all here (last here) e
   end_of_in e so is = by_step (last here) (lies (head_node here) (givens.Head is.head) is.asked)
@@ -367,9 +358,9 @@ module _ (d : Description) (distinct : HasDistinctNames d) (bytes : List ℕ) (m
   rest_of_part i j count place is r =
       let up = part_of (parent here) r.path (steps.Index i) r.is in
       let a : IsHeld d bytes all r.path (λ w. Between w (byte_of place)) = lies (rest_node r.path) (givens.Rest count place) r.rested in
-      let read : IsReadIn d all bytes here a.holder (last here) a.stream =
-      rw is (read_beside d all bytes r.path here a.holder i j a.stream (rw (← up.1) a.read)) in
-      record { holder = a.holder; answered = ap (λ q. all (head_node q)) (sym up.0) ∙ a.answered; stream = a.stream; read = read; lies = a.lies }
+      let read : IsReadIn d all bytes here a.holder (last here) a.stream = rw is (read_beside d all bytes r.path here a.holder i j a.stream
+      (rw (← up.1) a.read)) in
+      record { holder = a.holder; answered = rw up.0 at a.answered; stream = a.stream; read = read; lies = a.lies }
 
   rest_in : (o : Option Step) (count : ℕ) (place : Place) → last here ≡ o → IsRest d met here bytes o count place
       → IsHeld d bytes all here (λ w. Between w (byte_of place))
@@ -388,8 +379,7 @@ module _ (d : Description) (distinct : HasDistinctNames d) (bytes : List ℕ) (m
       | inr more ↦ rest_of_part (i + 1) i count place step more.2
     ]
   ]
-  rest_in None count place step is = absurd is
-  rest_in (Some (steps.Name x)) count place step is = absurd is
+  rest_in _ count place step is = absurd is
 
   -- ---- answers
 

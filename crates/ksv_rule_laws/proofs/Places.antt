@@ -5,7 +5,6 @@ use Rattle.ksv_rule_laws.proofs.Common.{ParseInstance, ValueInstance, Field, Nod
 use Rattle.ksv_rule_laws.proofs.Common.{end_in, head_node, end_node, rest_node, members_of, Sought, last_attribute, origin_of, instance_setting, from_nothing}
 use Rattle.ksv_rule_laws.proofs.Common.{IsOfLeaf, EndsAt}
 use Rattle.ksv_expr_value.specs.declared.step.Step.TheVariants as steps
-use Rattle.ksv_expr_value.specs.declared.value.Value.TheVariants as values
 use Rattle.ksv_nodes.specs.declared.node.NodeKind.TheVariants as nodes
 use Rattle.ksv_nodes.specs.declared.given.Given.TheVariants as givens
 use Rattle.ksv_nodes.specs.declared.given.ObjectEnd.TheVariants as endings
@@ -28,12 +27,10 @@ module _ (d : Description) (bytes : List ℕ) (opened : List Node) (met : Node �
 
   -- where a stream ends
   end_is_in : (to : Option ℕ) → IsEndIn size to → end_in bytes to ≤ size
-  end_is_in None h = omega arith
-  end_is_in (Some end) h = h
+  end_is_in to h = grind arith
 
   is_end_in : (to : Option ℕ) → end_in bytes to ≤ size → IsEndIn size to
-  is_end_in None h = tt
-  is_end_in (Some end) h = h
+  is_end_in to h = grind arith
 
   -- ---- heads
 
@@ -72,7 +69,7 @@ module _ (d : Description) (bytes : List ℕ) (opened : List Node) (met : Node �
 
   start_in : (o : Object) (before : Option ℕ) (c : Choice) (s : Place) → IsObjectIn o → IsStart d met here bytes o before c s → byte_of s ≤ size
   start_in o None c s within is = rw (← is) within.0
-  start_in o (Some y) c s within is = rw (← is.2) (rw (of_start is.0 c) (ends_in (parent here) (steps.Name y) is.0 is.1))
+  start_in o (Some y) c s within is = rw (← is.2, of_start is.0 c) (ends_in (parent here) (steps.Name y) is.0 is.1)
 
   member_in : (o : Object) (m : Sought) (k : MemberKind) (h : Head) → IsObjectIn o → IsMember d met here bytes o m k h → IsHeadIn size h
   member_in o m Parameter h within is = rw (← is) within
@@ -108,19 +105,18 @@ module _ (d : Description) (bytes : List ℕ) (opened : List Node) (met : Node �
 
   fields_end_in : (start : Place) (z : Option ℕ) (e : Place) → byte_of start ≤ size → IsFieldsEnd d met here bytes start z e → byte_of e ≤ size
   fields_end_in start None e begins is = rw (← is) begins
-  fields_end_in start (Some z) e begins is = rw (← is.2) (rw (of_aligned is.0) (ends_in here (steps.Name z) is.0 is.1))
+  fields_end_in start (Some z) e begins is = rw (← is.2, of_aligned is.0) (ends_in here (steps.Name z) is.0 is.1)
 
   object_end_in : (o : Object) (x : ObjectEnd) (e : Place) → IsObjectIn o → IsObjectEnd d met here bytes o x e → byte_of e ≤ size
   object_end_in o endings.OfStream e within is = rw (← is) (at_most (end_in bytes o.stream.to) size (end_is_in o.stream.to within.1.1))
   object_end_in o endings.ByFields e within is = fields_end_in o.start (last_attribute None (members_of d o.type_number)) e within.0 is
 
   end_in_file : (h : Head) (e : Place) → IsHeadIn size h → IsEnd d met here bytes h e → byte_of e ≤ size
-  end_in_file (heads.Absent None) e within is = absurd is
   end_in_file (heads.Absent (Some s)) e within is = rw (← is) within
-  end_in_file (heads.Calc c) e within is = absurd is
   end_in_file (heads.Leaf l) e within is = rw (← is) within.2
   end_in_file (heads.Object o) e within is = object_end_in o o.ending e within is
   end_in_file (heads.List g) e within is = lies (rest_node is.1.path) (givens.Rest is.0 e) is.1.rested
+  end_in_file _ e within is = absurd is
 
   -- ---- rests
 
@@ -145,8 +141,7 @@ module _ (d : Description) (bytes : List ℕ) (opened : List Node) (met : Node �
   ]
     where
       by_value : (u : Value) → IsRanged (length bytes) u → IsValueIn (length bytes) u
-      by_value (values.Bytes from to) k = k
-      by_value _ k = tt
+      by_value u k = grind arith
 
   calculated_in : (o : Holder) (v : Value) → IsHolderIn size o → IsCalculatedIn d met here bytes o v → IsValueIn size v
   calculated_in o v within is =
@@ -157,8 +152,7 @@ module _ (d : Description) (bytes : List ℕ) (opened : List Node) (met : Node �
       plain_in is.first v (expression_in met here bytes lies is.setting is.tree is.first (stream, rw is.element tt) is.was) is.plain
 
   leaf_value_in : (l : Leaf) (v : Value) → IsHeadIn size (heads.Leaf l) → IsOfLeaf l v → IsValueIn size v
-  leaf_value_in l (values.Bytes from to) within fits = let f = fits.0 in let t = fits.1 in let a = within.0 in let b = within.1 in (omega arith, omega arith)
-  leaf_value_in l _ within fits = tt
+  leaf_value_in l v within fits = grind arith
 
   value_in : (v : Value) → IsMadeOf d met here bytes v → IsKnown size (givens.Value v)
   value_in v is =
@@ -183,9 +177,7 @@ module _ (d : Description) (bytes : List ℕ) (opened : List Node) (met : Node �
 
 known_is_in : (n : ℕ) (g : Given) → IsKnown n g → IsIn n g
 known_is_in n (givens.Value v) known = known.0
-known_is_in n (givens.Head h) known = known
-known_is_in n (givens.End place last) known = known
-known_is_in n (givens.Rest count place) known = known
+known_is_in n g known = known
 
 pub places_are_in_file : PlacesAreInFile
 places_are_in_file d bytes opened n g h =

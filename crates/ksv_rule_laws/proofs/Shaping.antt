@@ -1,10 +1,10 @@
 -- What rules answer has a shape: one lemma a rule.
-use Rattle.ksv_rule_laws.proofs.Common.{◌≡◌, ◌∙◌, ℕ, ◌+◌, ◌-◌, ◌==◌, ◌≤◌, ◌<◌, Bool, true, false, if◌then◌else◌, List, ◌∷◌, length, Option, Some, None, Result}
+use Rattle.ksv_rule_laws.proofs.Common.{◌≡◌, ℕ, ◌+◌, ◌-◌, ◌==◌, ◌≤◌, ◌<◌, Bool, true, false, if◌then◌else◌, List, ◌∷◌, length, Option, Some, None, Result}
 use Rattle.ksv_rule_laws.proofs.Common.{Ok, refl, sym, ap, arith, inl, inr, ◌⊎◌, nat_tests, bind, Tree, Place, at_byte, byte_of, further, Setting, Trail}
 use Rattle.ksv_rule_laws.proofs.Common.{child, parent, last, Step, Stream, Choice, Description, MemberKind, Parameter, Attribute, ParseInstance}
 use Rattle.ksv_rule_laws.proofs.Common.{ValueInstance, Field, Content, Repeat, Once, Eos, Expr, Until, Node, NodeFault, NodeKind, Given, Leaf, Origin}
-use Rattle.ksv_rule_laws.proofs.Common.{ObjectEnd, Object, Head, end_in, Rule, ask_rest, head_node, end_node, answer_of, truth_of, holds, stream_for}
-use Rattle.ksv_rule_laws.proofs.Common.{members_of, Sought, sought, last_attribute, origin_of, instance_setting, is_last, start_of, from_nothing}
+use Rattle.ksv_rule_laws.proofs.Common.{ObjectEnd, Object, Head, end_in, Rule, ask_rest, head_node, end_node, answer_of, truth_of, stream_for}
+use Rattle.ksv_rule_laws.proofs.Common.{members_of, Sought, sought, last_attribute, origin_of, instance_setting, is_last, from_nothing}
 use Rattle.ksv_rule_laws.proofs.Common.{IsContentOf, IsLeafOf, IsCountedBy, EndsAt}
 use Rattle.std.proofs.Common.{◌||◌, drop}
 use Rattle.std.specs.Prelude.{slice_range}
@@ -30,15 +30,15 @@ use Rattle.ksv_nodes.specs.Reading.{reach_file, reach_within, finish_of, peek_at
 use Rattle.ksv_nodes.specs.Rule.{ask_end, reach, finish, done, find}
 use Rattle.ksv_nodes.proofs.First.{first_at_below}
 use Rattle.ksv_rule_meaning.specs.Choosing.{Chosen, choose}
-use Rattle.ksv_rule_meaning.specs.Wanted.{in_object, size_of}
+use Rattle.ksv_rule_meaning.specs.Wanted.{in_object}
 use Rattle.ksv_rule_meaning.specs.Fields.{member_named}
 use Rattle.ksv_rule_meaning.specs.Heads.{leaf, bits_leaf, leaf_to_end, terminated_at, terminated, run_of, sized_leaf, bytes_at, sized_object, object_at}
-use Rattle.ksv_rule_meaning.specs.Heads.{content_at, unchosen_at, chosen_at, shape_at, count_of, counted, until_eos, repeated, attribute_at, part_end}
+use Rattle.ksv_rule_meaning.specs.Heads.{content_at, unchosen_at, chosen_at, shape_at, counted, until_eos, repeated, attribute_at, part_end}
 use Rattle.ksv_rule_meaning.specs.Heads.{attribute_start, attribute_setting, element_setting, attribute_head, positioned_in, positioned, instance_head}
-use Rattle.ksv_rule_meaning.specs.Heads.{value_head, member_at, member_head, in_list, is_past, in_next, next_start, element_start, element_head, head_at}
+use Rattle.ksv_rule_meaning.specs.Heads.{value_head, member_at, member_head, in_list, is_past, next_start, element_start, element_head, head_at}
 use Rattle.ksv_rule_meaning.specs.Heads.{head_of}
-use Rattle.ksv_rule_meaning.specs.Ends.{stream_end, fields_end, object_end, part_rest, list_end, place_of, not_empty, element_end, end_at, end_of, next_rest}
-use Rattle.ksv_rule_meaning.specs.Ends.{rest_behind, rest_from, in_whole_list, whole_rest, rest_at, rest_of, behind_element}
+use Rattle.ksv_rule_meaning.specs.Ends.{stream_end, fields_end, object_end, part_rest, list_end, place_of, element_end, end_at, end_of, next_rest}
+use Rattle.ksv_rule_meaning.specs.Ends.{rest_from, in_whole_list, whole_rest, rest_at, rest_of, behind_element}
 use Rattle.ksv_rule_meaning.specs.Meaning.{meaning_of}
 use Rattle.ksv_rule_laws.proofs.Answering.{by_rule, by_rules}
 use Rattle.ksv_rule_laws.proofs.Rules.{Answers, join, either, so, answered, asked_head, asked_end, asked_rest, path_is, exact}
@@ -137,7 +137,7 @@ module _ (met : Node → Result Given NodeFault) (here : Trail) (bytes : List �
 
         sized_are : (at : Setting) (e : Tree) → Says Shaped (sized_leaf at by w s e)
         unfolding sized_leaf
-        sized_are at e = known _ (size_of at e) _ (λ n was. some_are n)
+        sized_are at e = known _ _ _ (λ n was. some_are n)
 
         up_to : (e : ℕ) → e ≡ end_in bytes w.to → Shaped (heads.Leaf (leaf_to (at_byte e) (at_byte e)))
         up_to e is =
@@ -173,7 +173,7 @@ module _ (met : Node → Result Given NodeFault) (here : Trail) (bytes : List �
       object_is : (at : Setting) (t : ℕ) (given : Arguments) (x : Extent) → IsContentOf f.choice case (contents.Object t given)
           → Says Shaped (object_at at by t w s x)
       unfolding object_at sized_object
-      object_is at t given (Sized e) own = known _ (size_of at e) _
+      object_is at t given (Sized e) own = known _ _ _
           (λ n was. after _ _ _ _ (reached w (byte_of s + n)) (λ x low.
           record {
             start = refl;
@@ -235,13 +235,13 @@ module _ (met : Node → Result Given NodeFault) (here : Trail) (bytes : List �
     repeated_is : (at : Setting) (r : Repeat) → f.repeat ≡ r → Says Shaped (repeated at origin w s f r)
     unfolding repeated counted until_eos
     repeated_is at Once is = shape_is at
-    repeated_is at (Expr e) is = known _ (count_of at e) _ (λ n any. list_is (Expr e) _ is refl refl refl (n, refl, refl))
-    repeated_is at Eos is = known _ (done w s) _ (λ b was. list_is Eos _ is refl refl refl refl)
+    repeated_is at (Expr e) is = known _ _ _ (λ n any. list_is (Expr e) _ is refl refl refl (n, refl, refl))
+    repeated_is at Eos is = known _ _ _ (λ b was. list_is Eos _ is refl refl refl refl)
     repeated_is at (Until c) is = list_is (Until c) _ is refl refl refl refl
 
     attribute_is : (at : Setting) → Says Shaped (attribute_at at origin w s f)
     unfolding attribute_at
-    attribute_is at = known _ (holds at f.condition) _
+    attribute_is at = known _ _ _
         (λ there was. test _ there _ _ (λ e. repeated_is at f.repeat refl) (λ e. refl))
 
   -- ---- what was asked for
@@ -282,18 +282,13 @@ module _ (met : Node → Result Given NodeFault) (here : Trail) (bytes : List �
     start_is o (Some y) c = after _ _ _ _ (part_ends (parent here) (steps.Name y))
         (λ x is. (x.place, ends_at (parent here) (steps.Name y) x is, refl))
 
-    -- a condition that is false
-    unmet : (at : Setting) (condition : Option Tree) (there : Bool) → answer_of met here bytes (holds at condition) ≡ Ok there → there ≡ false
-        → answer_of met here bytes (holds at condition) ≡ Ok false
-    unmet at condition there was false_is = was ∙ ap (λ b. Ok b) false_is
-
     placed_is : (o : Object) (m : Sought) (e : Tree) (io : Option Tree) (f : Field)
         → Says (IsPlaced d met here bytes o m io f) (positioned (instance_setting here (parent here) o) (origin_of o m) e io f)
     unfolding positioned positioned_in
     placed_is o m e io f =
         let at = instance_setting here (parent here) o in
         known _ (stream_for at io) (λ x. positioned_in at (origin_of o m) x e f) (λ w named.
-        known _ (size_of at e) _ (λ n was.
+        known _ _ _ (λ n was.
         after _ _ _ _ (reached w (w.from + n)) (λ x low.
         hence _ _ (repeated (record at { place = at_byte (w.from + n) }) (origin_of o m) w (at_byte (w.from + n)) f f.repeat)
         (repeated_is (origin_of o m) w (at_byte (w.from + n)) f (record at { place = at_byte (w.from + n) }) f.repeat refl)
@@ -308,13 +303,13 @@ module _ (met : Node → Result Given NodeFault) (here : Trail) (bytes : List �
         (attribute_is (origin_of o m) o.stream s f (attribute_setting here (parent here) (origin_of o m) s)) (λ h is. (s, starts, is)))
     member_is o m (ParseInstance e io f) =
         let at = instance_setting here (parent here) o in
-        known _ (holds at f.condition) _ (λ there was.
+        known _ _ _ (λ there was.
         test _ there _ _ (λ yes. hence _ _ (positioned at (origin_of o m) e io f) (placed_is o m e io f) (λ h is. inr is))
-        (λ no. inl (unmet at f.condition there was no, refl)))
+        (λ no. inl (rw no at was, refl)))
     member_is o m (ValueInstance v) =
         let at = instance_setting here (parent here) o in
-        known _ (holds at v.condition) _
-        (λ there was. test _ there _ _ (λ yes. inr refl) (λ no. inl (unmet at v.condition there was no, refl)))
+        known _ _ _
+        (λ there was. test _ there _ _ (λ yes. inr refl) (λ no. inl (rw no at was, refl)))
 
     member_head_is : (x : ℕ) → Says (IsMemberOf d met here bytes x) (member_head d here (parent here) x)
     unfolding member_head member_named
@@ -329,17 +324,9 @@ module _ (met : Node → Result Given NodeFault) (here : Trail) (bytes : List �
     element_start_is : (g : lists.List) (i : ℕ) → Says (λ s. ((i ≡ 0) × (g.start ≡ s)) ⊎ EndsBefore d met here bytes i s) (element_start (parent here) g i)
     unfolding element_start next_start
     element_start_is g i =
-        test _ (g.is_empty || is_past g.count i) _ _ (λ e. tt) (λ e. test _ (i == 0) _ _ (λ is. inl (first is, refl)) (λ is.
-        after _ _ _ _ (part_ends (parent here) (steps.Index (i - 1))) (λ x r. by_last x.place x.last is r)))
-      where
-        first : (i == 0) ≡ true → i ≡ 0
-        first is = grind (arith, nat_tests)
-
-        by_last : (place : Place) (last : Bool) → (i == 0) ≡ false → (r : Trail) × (child (parent here) (steps.Index (i - 1)) ≡ Some r)
-            × (met (end_node r) ≡ Ok (givens.End place last))
-            → Answers met here bytes (λ s. ((i ≡ 0) × (g.start ≡ s)) ⊎ EndsBefore d met here bytes i s) (in_next (record { place = place; last = last }))
-        by_last place true is r = tt
-        by_last place false is r = inr (record { before = i - 1; next = grind (arith, nat_tests); path = r.0; is = r.1; ended = r.2 })
+        test _ (g.is_empty || is_past g.count i) _ _ (λ e. tt) (λ e. test _ (i == 0) _ _ (λ is. inl (grind (arith, nat_tests), refl)) (λ is.
+        after _ _ _ _ (part_ends (parent here) (steps.Index (i - 1))) (λ x r. test _ x.last _ _ (λ l. tt)
+        (λ l. inr (record { before = i - 1; next = grind (arith, nat_tests); path = r.0; is = r.1; ended = rw l at r.2 })))))
 
     element_is : (i : ℕ) → Says (IsElementOf d met here bytes i) (element_head d here (parent here) (parent (parent here)) i)
     unfolding element_head
@@ -394,7 +381,7 @@ module _ (met : Node → Result Given NodeFault) (here : Trail) (bytes : List �
         after _ _ _ _ (asked_head met here bytes (parent here)) (λ k asked.
         after _ _ _ _ (list_asked (parent here) k asked) (λ g now.
         after _ _ _ _ (field_found met here bytes d g.origin.member) (λ f read.
-        known _ (not_empty f.repeat (start_of h) e) _ (λ u any.
+        known _ _ _ (λ u any.
         after _ _ _ _ (last_is g i e f.repeat)
         (λ b says. (refl, record { list = g; asked = now; field = f; read = read; says = says }))))))
     end_at_is _ h e = (refl, refl)
@@ -417,15 +404,9 @@ module _ (met : Node → Result Given NodeFault) (here : Trail) (bytes : List �
 
     rest_from_is : (i : ℕ) → Says (λ (x : Rested). IsRestFrom d met here bytes i x.count x.place) (rest_from here (parent here) i)
     unfolding rest_from next_rest
-    rest_from_is i = after _ _ _ _ (asked_end met here bytes here) (λ e ended. by_last e.last e.place ended)
-      where
-        by_last : (b : Bool) (place : Place) → met (end_node here) ≡ Ok (givens.End place b)
-            → Answers met here bytes (λ (x : Rested). IsRestFrom d met here bytes i x.count x.place)
-            (rest_behind (parent here) i (record { place = place; last = b }))
-        by_last true place ended = inl (refl, ended)
-        by_last false place ended = either met here bytes _ (i + 1 == element_limit) _ _ (λ many. tt) (λ few.
-            so met here bytes _ _ (part_rest (parent here) (steps.Index (i + 1))) (part_rests (parent here) (steps.Index (i + 1)))
-            (λ x r. inr (place, ended, r)))
+    rest_from_is i = after _ _ _ _ (asked_end met here bytes here) (λ e ended. test _ e.last _ _ (λ l. inl (refl, rw l at ended)) (λ l.
+        test _ (i + 1 == element_limit) _ _ (λ many. tt) (λ few.
+        hence _ _ (part_rest (parent here) (steps.Index (i + 1))) (part_rests (parent here) (steps.Index (i + 1))) (λ x r. inr (e.place, rw l at ended, r)))))
 
     whole_rest_is : Says (λ (x : Rested). IsRest d met here bytes (Some (steps.Index 0)) x.count x.place) (whole_rest here (parent here))
     unfolding whole_rest
@@ -437,15 +418,9 @@ module _ (met : Node → Result Given NodeFault) (here : Trail) (bytes : List �
 
     rest_is : (o : Option Step) → Says (λ (x : Rested). IsRest d met here bytes o x.count x.place) (rest_at here o)
     rest_is (Some (steps.Index i)) =
-        test _ (i == 0) _ _ (λ is. hence _ _ (whole_rest here (parent here)) whole_rest_is (λ x from. by_zero i x (first is) from))
+        test _ (i == 0) _ _ (λ is. let zero : i ≡ 0 = grind (arith, nat_tests) in hence _ _ (whole_rest here (parent here)) whole_rest_is
+        (λ x from. rw zero from))
         (λ is. hence _ _ (rest_from here (parent here) i) (rest_from_is i) (λ x from. inr from))
-      where
-        first : (i == 0) ≡ true → i ≡ 0
-        first is = grind (arith, nat_tests)
-
-        by_zero : (j : ℕ) (x : Rested) → j ≡ 0 → IsRest d met here bytes (Some (steps.Index 0)) x.count x.place
-            → IsRest d met here bytes (Some (steps.Index j)) x.count x.place
-        by_zero j x none is = rw none is
     rest_is _ = tt
 
     -- ---- answers
