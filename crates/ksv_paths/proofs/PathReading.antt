@@ -1,7 +1,7 @@
 -- The text of a path whose names are those of members, read, gives the path again.
-use Rattle.std.proofs.Common.{◌≡◌, ◌∙◌, ℕ, ◌^◌, ◌<◌, ◌≤◌, true, false, cond, if◌then◌else◌, List, [], ◌∷◌, ◌++◌, length, get_or, map}
-use Rattle.std.proofs.Common.{reverse, Option, Some, None, refl, sym, ap, subst, arith, inl, inr, append-nil, length-append}
-use Rattle.std.specs.Prelude.{◌==◌, ◌||◌, not, decimal, slice_get, slice_index, option_map, option_and_then}
+use Rattle.std.proofs.Common.{◌≡◌, ◌∙◌, ℕ, ◌^◌, ◌<◌, ◌≤◌, true, false, List, [], ◌∷◌, ◌++◌, length, get_or, map}
+use Rattle.std.proofs.Common.{reverse, Option, Some, None, refl, sym, ap, arith, inl, inr, append-nil, length-append}
+use Rattle.std.specs.Prelude.{◌==◌, ◌||◌, not, decimal, slice_get, slice_index}
 use Rattle.std.specs.Char.{is_ascii_digit}
 use Rattle.std.specs.Cmp.{first_so, second_so}
 use Rattle.std.specs.List.{All, AllByRecursion, list_all, slice_split}
@@ -22,8 +22,8 @@ use Rattle.ksv_expr_value.specs.declared.step.Step.TheVariants.{Index, Name}
 use Rattle.ksv_desc.specs.Names.{number_in}
 use Rattle.ksv_desc.specs.Description.{Description, as_text, name, number_of_name}
 use Rattle.ksv_desc.proofs.Readers.{found_in_front}
-use Rattle.ksv_paths.specs.PathTexts.{step_text, steps_text, or_slash, decimal_of, below_limit, index_of, name_of, name_or_index, step_of, in_front}
-use Rattle.ksv_paths.specs.PathTexts.{behind_step, steps_of, is_slash, path_of_steps, path_named}
+use Rattle.ksv_paths.specs.PathTexts.{step_text, steps_text, or_slash, decimal_of, index_of, name_of, step_of}
+use Rattle.ksv_paths.specs.PathTexts.{steps_of, is_slash, path_named}
 use Rattle.ksv_paths.specs.Laws.{is_id_byte, is_id, HasIds, IsKnown, PathsAreRead}
 use Rattle.ksv_paths.proofs.Digits.{digits}
 use Rattle.ksv_paths.proofs.PathTexts.{path_is}
@@ -88,13 +88,13 @@ module _ (d : Description) (table : HasIds d) where
 
   name_is_read : (n : ℕ) → n < d.known → name_of d (name d n) ≡ Some n
   unfolding as_text
-  name_is_read n lt = ap (λ b. option_and_then (number_of_name d) (cond b (Some (name d n)) None)) (id_is_text (name d n) (table.ids n lt)) ∙ number_is n lt
+  name_is_read n lt = rw (id_is_text (name d n) (table.ids n lt)) (number_is n lt)
 
   name_piece : (n : ℕ) → n < d.known → IsPiece d (Name n)
   name_piece n lt = record {
     some = id_some (name d n) (table.ids n lt);
     whole = id_whole (name d n) (table.ids n lt);
-    named = ap (λ o. name_or_index o (name d n)) (name_is_read n lt);
+    named = rw (name_is_read n lt) refl;
   }
 
   -- ---- an index
@@ -127,7 +127,7 @@ index_is_read i fit =
     let small = index_small i fit in
     let is : decimal_of (decimal i) ≡ Some i = decimal_is (decimal i) i (digits_decimal digits i small) (decimal_nonempty i small)
     (digits_value-decimal digits i small) small in
-    ap (λ b. if b then below_limit (decimal_of (decimal i)) else None) (plain i small) ∙ ap below_limit is ∙ ap (λ b. if b then Some i else None) fit
+    rw (plain i small, is, fit) refl
 
 index_piece : (d : Description) → HasIds d → (i : ℕ) → step_fits (Index i) ≡ true → IsPiece d (Index i)
 index_piece d table i fit =
@@ -136,7 +136,7 @@ index_piece d table i fit =
     record {
       some = decimal_nonempty i small;
       whole = λ k e h. not_slash (get_or (decimal i) k e) (digit_byte (get_or (decimal i) k e) (AllPass-from_list_all is_ascii_digit (decimal i) all k e h));
-      named = ap (λ o. name_or_index o (decimal i)) (no_name d table (decimal i) all) ∙ ap (option_map Index) (index_is_read i fit);
+      named = rw (no_name d table (decimal i) all, index_is_read i fit) refl;
     }
 
 -- ---- the pieces of a path
@@ -160,20 +160,18 @@ all_push P (y ∷ ys) x h p = (h.0, all_push P ys x h.1 p)
 
 all_reverse : {A : Type 0} (P : A → Type 0) (xs : List A) → AllByRecursion P xs → AllByRecursion P (reverse xs)
 all_reverse P [] h = tt
-all_reverse P (x ∷ xs) h = subst (AllByRecursion P) (sym (reverse-append (x ∷ []) xs)) (all_push P (reverse xs) x (all_reverse P xs h.1) h.0)
+all_reverse P (x ∷ xs) h = rw (reverse-append (x ∷ []) xs) (all_push P (reverse xs) x (all_reverse P xs h.1) h.0)
 
 -- the text is cut where it was joined
 split_steps : (d : Description) (step : Step) (steps : List Step) → AllByRecursion (IsPiece d) (step ∷ steps)
     → slice_split is_slash (piece d step ++ steps_text d steps) ≡ map (piece d) (step ∷ steps)
-split_steps d step [] h = ap (slice_split is_slash) (append-nil (piece d step)) ∙ slice_split_none is_slash (piece d step) h.0.whole
+split_steps d step [] h = rw (append-nil (piece d step)) (slice_split_none is_slash (piece d step) h.0.whole)
 split_steps d step (next ∷ rest) h =
-    ap (λ t. slice_split is_slash (piece d step ++ (t ++ steps_text d rest))) (step_text_is d next)
-    ∙ slice_split_at is_slash (piece d step) 47 (piece d next ++ steps_text d rest) h.0.whole refl
-    ∙ ap (λ ps. piece d step ∷ ps) (split_steps d next rest h.1)
+    rw (step_text_is d next, slice_split_at is_slash (piece d step) 47 (piece d next ++ steps_text d rest) h.0.whole refl, split_steps d next rest h.1) refl
 
 steps_named : (d : Description) (steps : List Step) → AllByRecursion (IsPiece d) steps → steps_of d (map (piece d) steps) ≡ Some steps
 steps_named d [] h = refl
-steps_named d (step ∷ steps) h = ap (λ o. behind_step o (steps_of d (map (piece d) steps))) h.0.named ∙ ap (in_front step) (steps_named d steps h.1)
+steps_named d (step ∷ steps) h = rw (h.0.named, steps_named d steps h.1) refl
 
 -- ---- a path
 
@@ -181,7 +179,7 @@ pub paths_are_read : PathsAreRead
 paths_are_read d table path known = by_steps (reverse path.upward) refl (all_reverse (IsPiece d) path.upward (pieces d table path.upward known (all_fit path)))
   where
     upward_is : (steps : List Step) → reverse path.upward ≡ steps → path.upward ≡ reverse steps
-    upward_is steps e = sym (reverse-reverse path.upward) ∙ ap reverse e
+    upward_is steps e = rw (← e, reverse-reverse path.upward) refl
 
     by_steps : (steps : List Step) → reverse path.upward ≡ steps → AllByRecursion (IsPiece d) steps → path_named d (or_slash (steps_text d steps)) ≡ Some path
     by_steps [] e h = ap Some (same_trail root path (sym (upward_is [] e)))
@@ -189,11 +187,7 @@ paths_are_read d table path known = by_steps (reverse path.upward) refl (all_rev
         let text = piece d step ++ steps_text d steps in
         let one : 0 < length (piece d step) = h.0.some in
         let some : (length text == 0) ≡ false = not_zero (length text) (omega (arith, length-append (piece d step) (steps_text d steps))) in
-        ap (λ t. path_named d (or_slash (t ++ steps_text d steps))) (step_text_is d step)
-        ∙ ap (λ b. if b then Some root else path_of_steps (steps_of d (slice_split is_slash text))) some
-        ∙ ap (λ ps. path_of_steps (steps_of d ps)) (split_steps d step steps h)
-        ∙ ap path_of_steps (steps_named d (step ∷ steps) h)
-        ∙ path_is (step ∷ steps) path (upward_is (step ∷ steps) e)
+        rw (step_text_is d step, some, split_steps d step steps h, steps_named d (step ∷ steps) h) (path_is (step ∷ steps) path (upward_is (step ∷ steps) e))
       where
         not_zero : (n : ℕ) → 0 < n → (n == 0) ≡ false
         not_zero n lt = grind (arith, nat_tests)

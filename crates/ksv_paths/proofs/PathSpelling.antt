@@ -18,7 +18,7 @@ use Rattle.ksv_expr_value.specs.Trail.{Trail, trail_of-steps, root}
 use Rattle.ksv_expr_value.specs.declared.step.Step.{Step}
 use Rattle.ksv_expr_value.specs.declared.step.Step.TheVariants.{Index}
 use Rattle.ksv_desc.specs.Description.{Description, as_text, name, number_of_name}
-use Rattle.ksv_paths.specs.PathTexts.{step_text, steps_text, or_slash, path_text, decimal_of, below_limit, index_of, name_of, name_or_index, step_of}
+use Rattle.ksv_paths.specs.PathTexts.{step_text, steps_text, path_text, decimal_of, below_limit, index_of, name_of, name_or_index, step_of}
 use Rattle.ksv_paths.specs.PathTexts.{behind_step, steps_of, is_slash, path_of_steps, path_behind, TextsAreWritten}
 use Rattle.std.proofs.lemmas.Option.{same_Some, unwrap_or-slice_get}
 use Rattle.ksv_paths.proofs.Digits.{digits}
@@ -122,7 +122,7 @@ behind_is_written d text p h = by_steps (steps_of d (slice_split is_slash text))
     by_steps (Some steps) are e =
         let whole : steps_text d steps ≡ 47 ∷ text = steps_are d (slice_split is_slash text) steps are ∙ split_joined text in
         let order : reverse p.upward ≡ steps = ap reverse (sym (trail_of-steps (reverse steps) p e)) ∙ reverse-reverse steps in
-        sym (ap (λ ss. or_slash (steps_text d ss)) order ∙ ap or_slash whole)
+        rw (order, whole) refl
     by_steps None are e = cc
 
 pub texts_are_written : TextsAreWritten

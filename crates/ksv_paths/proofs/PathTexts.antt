@@ -5,7 +5,7 @@ use Rattle.std.proofs.lemmas.Bool.{false_from_ne_true}
 use Rattle.std.specs.Borrow.{Bor}
 use Rattle.std.specs.List.{slice_split}
 use Rattle.std.proofs.lemmas.List.{append_assoc, length-append, length-reverse}
-use Rattle.ksv_expr_value.specs.Trail.{Trail, fits, step_fits, trail_of, trail_of-true, trail_of-false, length-fits, fits-more}
+use Rattle.ksv_expr_value.specs.Trail.{Trail, fits, step_fits, trail_of-true, trail_of-false, length-fits, fits-more}
 use Rattle.ksv_expr_value.specs.declared.step.Step.{Step}
 use Rattle.ksv_expr_value.proofs.Paths.{fits-push}
 use Rattle.ksv_desc.specs.Description.{Description}
@@ -56,7 +56,7 @@ fits_pushed steps step h in_range few = fits-push steps step (steps ++ step ∷ 
 
 -- the path of steps that fit
 pub path_is : (steps : List Step) (p : Trail) → p.upward ≡ reverse steps → path_of_steps (Some steps) ≡ Some p
-path_is steps p e = ap trail_of (sym e) ∙ trail_of-true p
+path_is steps p e = rw (← e) (trail_of-true p)
 
 -- what a text after a slash names
 pub behind_is : (d : Description) (text : List ℕ) (steps : List Step) (p : Trail) → (length text == 0) ≡ false
