@@ -46,7 +46,7 @@ unfolding read pick_on
 read_whole d ts p =
     let n = room Whole ts in
     same_reads n (suc n) Whole d ts p (omega arith) (omega arith)
-    ∙ bind_same _ _ (λ a. picks n a.tree d a.rest a.left) (λ a. picks (wide a.rest) a.tree d a.rest a.left)
+    ∙ bind_same _ _ _ _
     (same_reads n (room (Joined tier.Or) ts) (Joined tier.Or) d ts p (omega arith) (omega arith))
     (λ a e. let s = shrinks n (Joined tier.Or) d ts p a e in same_picks n (wide a.rest) a.tree d a.rest a.left (omega arith) (omega arith))
 
@@ -55,7 +55,7 @@ unfolding pick_on arm_on
 pick_on_is e d ts p =
     let n = wide ts in
     same_picks n (suc n) e d ts p (omega arith) (omega arith)
-    ∙ choose_same (after tok.Question ts) _ _ (λ us. arms n e d us p) (λ us. arms (wide us) e d us p) refl
+    ∙ choose_same (after tok.Question ts) _ _ _ _ refl
     (λ us i. let s = after_shrinks tok.Question ts us i in same_arms n (wide us) e d us p (omega arith) (omega arith))
 
 pub arm_on_is : (e : Tree) (d : ℕ) (ts : List Lexeme) (p : ℕ)
@@ -67,14 +67,13 @@ arm_on_is e d ts p =
     let n = wide ts in
     same_arms n (suc n) e d ts p (omega arith) (omega arith)
     ∙ spend_same d _ _ (λ d. spend_same p _ _ (λ p.
-    bind_same _ _ (λ a. after tok.Colon a.rest >>= λ us. reads n Whole d us a.left >>= λ b. found (choice e a.tree b.tree) b.rest b.left)
-    (λ a. after tok.Colon a.rest >>= λ us. reads (room Whole us) Whole d us a.left >>= λ b. found (choice e a.tree b.tree) b.rest b.left)
+    bind_same _ _ _
+    _
     (same_reads n (room Whole ts) Whole d ts p (omega arith) (omega arith))
     (λ a i. let s = shrinks n Whole d ts p a i in
-    bind_same (after tok.Colon a.rest) _ (λ us. reads n Whole d us a.left >>= λ b. found (choice e a.tree b.tree) b.rest b.left)
-    (λ us. reads (room Whole us) Whole d us a.left >>= λ b. found (choice e a.tree b.tree) b.rest b.left) refl
-    (λ us j. let t = after_shrinks tok.Colon a.rest us j in ap (λ (o : Option Found). o >>= λ b. found (choice e a.tree b.tree) b.rest b.left)
-    (same_reads n (room Whole us) Whole d us a.left (omega arith) (omega arith))))))
+    bind_same (after tok.Colon a.rest) _ _
+    _ refl
+    (λ us j. let t = after_shrinks tok.Colon a.rest us j in rw (same_reads n (room Whole us) Whole d us a.left (omega arith) (omega arith))))))
 
 pub read_joined : (k : Precedence) (d : ℕ) (ts : List Lexeme) (p : ℕ)
     → read (Joined k) d ts p ≡ (read (tighter k) d ts p >>= λ a. join_on k a.tree d a.rest a.left)
@@ -82,7 +81,7 @@ unfolding read join_on
 read_joined k d ts p =
     let n = room (Joined k) ts in let r = room_tighter k ts in let least = room_least (Joined k) ts in
     same_reads n (suc n) (Joined k) d ts p (omega arith) (omega arith)
-    ∙ bind_same _ _ (λ a. joins n k a.tree d a.rest a.left) (λ a. joins (wide a.rest) k a.tree d a.rest a.left)
+    ∙ bind_same _ _ _ _
     (same_reads n (room (tighter k) ts) (tighter k) d ts p (omega arith) (omega arith))
     (λ a e. let s = shrinks n (tighter k) d ts p a e in same_joins n (wide a.rest) k a.tree d a.rest a.left (omega arith) (omega arith))
 
@@ -93,12 +92,11 @@ unfolding read join_on
 join_on_is k e d ts p =
     let n = wide ts in
     same_joins n (suc n) k e d ts p (omega arith) (omega arith)
-    ∙ choose_same (operator_at k ts) _ _ (λ x. spend p (λ p. reads n (tighter k) d x.behind p >>= λ a. joins n k (join_tree x.what e a.tree) d a.rest a.left))
-    (λ x. spend p (λ p. reads (room (tighter k) x.behind) (tighter k) d x.behind p >>= λ a. joins (wide a.rest) k (join_tree x.what e a.tree) d a.rest
-    a.left)) refl
+    ∙ choose_same (operator_at k ts) _ _ _
+    _ refl
     (λ x i. let s = operator_shrinks k ts x i in let r = room_most (tighter k) x.behind in
-    spend_same p _ _ (λ p. bind_same _ _ (λ a. joins n k (join_tree x.what e a.tree) d a.rest a.left)
-    (λ a. joins (wide a.rest) k (join_tree x.what e a.tree) d a.rest a.left)
+    spend_same p _ _ (λ p. bind_same _ _ _
+    _
     (same_reads n (room (tighter k) x.behind) (tighter k) d x.behind p (omega arith) (omega arith))
     (λ a j. let u = shrinks n (tighter k) d x.behind p a j in same_joins n (wide a.rest) k (join_tree x.what e a.tree) d a.rest a.left (omega arith)
     (omega arith))))
@@ -108,7 +106,7 @@ unfolding read negate_on
 read_negation d ts p =
     let n = room Negation ts in
     same_reads n (suc n) Negation d ts p (omega arith) (omega arith)
-    ∙ choose_same (after tok.Not ts) _ _ (λ us. negates n d us p) (λ us. negates (wide us) d us p)
+    ∙ choose_same (after tok.Not ts) _ _ _ _
     (same_reads n (room Comparison ts) Comparison d ts p (omega arith) (omega arith))
     (λ us e. let s = after_shrinks tok.Not ts us e in same_negates n (wide us) d us p (omega arith) (omega arith))
 
@@ -119,15 +117,14 @@ negate_on_is d ts p =
     let n = wide ts in
     same_negates n (suc n) d ts p (omega arith) (omega arith)
     ∙ spend_same d _ _ (λ d. spend_same p _ _
-    (λ p. ap (λ (o : Option Found). o >>= λ a. found (unary unaries.Not a.tree) a.rest a.left)
-    (same_reads n (room Negation ts) Negation d ts p (omega arith) (omega arith))))
+    (λ p. rw (same_reads n (room Negation ts) Negation d ts p (omega arith) (omega arith))))
 
 pub read_comparison : (d : ℕ) (ts : List Lexeme) (p : ℕ) → read Comparison d ts p ≡ (read (Joined tier.BitOr) d ts p >>= λ a. compare_on a.tree d a.rest a.left)
 unfolding read compare_on
 read_comparison d ts p =
     let n = room Comparison ts in
     same_reads n (suc n) Comparison d ts p (omega arith) (omega arith)
-    ∙ bind_same _ _ (λ a. compares n a.tree d a.rest a.left) (λ a. compares (wide a.rest) a.tree d a.rest a.left)
+    ∙ bind_same _ _ _ _
     (same_reads n (room (Joined tier.BitOr) ts) (Joined tier.BitOr) d ts p (omega arith) (omega arith))
     (λ a e. let s = shrinks n (Joined tier.BitOr) d ts p a e in same_compares n (wide a.rest) a.tree d a.rest a.left (omega arith) (omega arith))
 
@@ -138,19 +135,18 @@ unfolding read compare_on
 compare_on_is e d ts p =
     let n = wide ts in
     same_compares n (suc n) e d ts p (omega arith) (omega arith)
-    ∙ choose_same (comparison_at ts) _ _ (λ x. spend p (λ p. reads n (Joined tier.BitOr) d x.behind p >>= λ a. found (binary x.what e a.tree) a.rest a.left))
-    (λ x. spend p (λ p. reads (room (Joined tier.BitOr) x.behind) (Joined tier.BitOr) d x.behind p >>= λ a. found (binary x.what e a.tree) a.rest a.left))
+    ∙ choose_same (comparison_at ts) _ _ _
+    _
     refl
     (λ x i. let s = comparison_shrinks ts x i in
-    spend_same p _ _ (λ p. ap (λ (o : Option Found). o >>= λ a. found (binary x.what e a.tree) a.rest a.left)
-    (same_reads n (room (Joined tier.BitOr) x.behind) (Joined tier.BitOr) d x.behind p (omega arith) (omega arith))))
+    spend_same p _ _ (λ p. rw (same_reads n (room (Joined tier.BitOr) x.behind) (Joined tier.BitOr) d x.behind p (omega arith) (omega arith))))
 
 pub read_prefix : (d : ℕ) (ts : List Lexeme) (p : ℕ) → read Prefix d ts p ≡ choose (prefix_at ts) (read Postfix d ts p) (λ x. prefix_on x.what d x.behind p)
 unfolding read prefix_on
 read_prefix d ts p =
     let n = room Prefix ts in
     same_reads n (suc n) Prefix d ts p (omega arith) (omega arith)
-    ∙ choose_same (prefix_at ts) _ _ (λ x. prefixes n x.what d x.behind p) (λ x. prefixes (wide x.behind) x.what d x.behind p)
+    ∙ choose_same (prefix_at ts) _ _ _ _
     (same_reads n (room Postfix ts) Postfix d ts p (omega arith) (omega arith))
     (λ x e. let s = prefix_shrinks ts x e in same_prefixes n (wide x.behind) x.what d x.behind p (omega arith) (omega arith))
 
@@ -161,15 +157,14 @@ prefix_on_is op d ts p =
     let n = wide ts in
     same_prefixes n (suc n) op d ts p (omega arith) (omega arith)
     ∙ spend_same d _ _ (λ d. spend_same p _ _
-    (λ p. ap (λ (o : Option Found). o >>= λ a. found (unary op a.tree) a.rest a.left)
-    (same_reads n (room Prefix ts) Prefix d ts p (omega arith) (omega arith))))
+    (λ p. rw (same_reads n (room Prefix ts) Prefix d ts p (omega arith) (omega arith))))
 
 pub read_postfix : (d : ℕ) (ts : List Lexeme) (p : ℕ) → read Postfix d ts p ≡ (read Primary d ts p >>= λ a. suffix_on a.tree d a.rest a.left)
 unfolding read suffix_on
 read_postfix d ts p =
     let n = room Postfix ts in
     same_reads n (suc n) Postfix d ts p (omega arith) (omega arith)
-    ∙ bind_same _ _ (λ a. goes_on n a.tree d a.rest a.left) (λ a. goes_on (wide a.rest) a.tree d a.rest a.left)
+    ∙ bind_same _ _ _ _
     (same_reads n (room Primary ts) Primary d ts p (omega arith) (omega arith))
     (λ a e. let s = shrinks n Primary d ts p a e in same_goes_on n (wide a.rest) a.tree d a.rest a.left (omega arith) (omega arith))
 
@@ -181,16 +176,16 @@ unfolding suffix_on place_on select_on
 suffix_on_is e d ts p =
     let n = wide ts in
     same_goes_on n (suc n) e d ts p (omega arith) (omega arith)
-    ∙ choose_same (after tok.Dot ts) _ _ (λ us. selects n e d us p >>= λ a. goes_on n a.tree d a.rest a.left)
-    (λ us. selects (wide us) e d us p >>= λ a. goes_on (wide a.rest) a.tree d a.rest a.left)
-    (choose_same (after tok.OpenBracket ts) _ _ (λ us. places n e d us p >>= λ a. goes_on n a.tree d a.rest a.left)
-    (λ us. places (wide us) e d us p >>= λ a. goes_on (wide a.rest) a.tree d a.rest a.left) refl
+    ∙ choose_same (after tok.Dot ts) _ _ _
+    _
+    (choose_same (after tok.OpenBracket ts) _ _ _
+    _ refl
     (λ us i. let s = after_shrinks tok.OpenBracket ts us i in
-    bind_same _ _ (λ a. goes_on n a.tree d a.rest a.left) (λ a. goes_on (wide a.rest) a.tree d a.rest a.left)
+    bind_same _ _ _ _
     (same_places n (wide us) e d us p (omega arith) (omega arith))
     (λ a j. let t = places_shrinks n e d us p a j in same_goes_on n (wide a.rest) a.tree d a.rest a.left (omega arith) (omega arith))))
     (λ us i. let s = after_shrinks tok.Dot ts us i in
-    bind_same _ _ (λ a. goes_on n a.tree d a.rest a.left) (λ a. goes_on (wide a.rest) a.tree d a.rest a.left)
+    bind_same _ _ _ _
     (same_selects n (wide us) e d us p (omega arith) (omega arith))
     (λ a j. let t = selects_shrinks n e d us p a j in same_goes_on n (wide a.rest) a.tree d a.rest a.left (omega arith) (omega arith)))
 
@@ -201,8 +196,7 @@ place_on_is e d ts p =
     let n = wide ts in
     same_places n (suc n) e d ts p (omega arith) (omega arith)
     ∙ spend_same d _ _ (λ d. spend_same p _ _
-    (λ p. ap (λ (o : Option Found). o >>= λ a. after tok.CloseBracket a.rest >>= λ us. found (index e a.tree) us a.left)
-    (same_reads n (room Whole ts) Whole d ts p (omega arith) (omega arith))))
+    (λ p. rw (same_reads n (room Whole ts) Whole d ts p (omega arith) (omega arith))))
 
 pub select_word : (e : Tree) (d : ℕ) (w : List ℕ) (ts : List Lexeme) (p : ℕ)
     → select_on e d (word w ∷ ts) p
@@ -213,11 +207,10 @@ select_word e d w ts p =
     let n = wide (word w ∷ ts) in
     same_selects n (suc n) e d (word w ∷ ts) p (omega arith) (omega arith)
     ∙ spend_same p _ _ (λ p. choose_same (after tok.OpenParenthesis ts) _ _
-    (λ us. spend d (λ d. reads_list n d us p >>= λ a. found (call e w a.arguments) a.rest a.left))
-    (λ us. spend d (λ d. reads_list (wide us) d us p >>= λ a. found (call e w a.arguments) a.rest a.left)) refl
+    _
+    _ refl
     (λ us i. let s = after_shrinks tok.OpenParenthesis ts us i in spend_same d _ _
-    (λ d. ap (λ (o : Option FoundList). o >>= λ a. found (call e w a.arguments) a.rest a.left)
-    (same_list n (wide us) d us p (omega arith) (omega arith)))))
+    (λ d. rw (same_list n (wide us) d us p (omega arith) (omega arith)))))
 
 pub select_symbol : (e : Tree) (d : ℕ) (s : Symbol) (ts : List Lexeme) (p : ℕ)
     → select_on e d (symbol s ∷ ts) p
@@ -253,7 +246,7 @@ unfolding read group_on
 primary_symbol d s ts p =
     let n = room Primary (symbol s ∷ ts) in
     same_reads n (suc n) Primary d (symbol s ∷ ts) p (omega arith) (omega arith)
-    ∙ bind_same (after tok.OpenParenthesis (symbol s ∷ ts)) _ (λ us. groups n d us p) (λ us. groups (wide us) d us p) refl
+    ∙ bind_same (after tok.OpenParenthesis (symbol s ∷ ts)) _ _ _ refl
     (λ us e. let t = after_shrinks tok.OpenParenthesis (symbol s ∷ ts) us e in same_groups n (wide us) d us p (omega arith) (omega arith))
 
 pub group_on_is : (d : ℕ) (ts : List Lexeme) (p : ℕ)
@@ -262,8 +255,7 @@ unfolding read group_on
 group_on_is d ts p =
     let n = wide ts in
     same_groups n (suc n) d ts p (omega arith) (omega arith)
-    ∙ spend_same d _ _ (λ d. ap (λ (o : Option Found). o >>= λ a. after tok.CloseParenthesis a.rest >>= λ us. found a.tree us a.left)
-    (same_reads n (room Whole ts) Whole d ts p (omega arith) (omega arith)))
+    ∙ spend_same d _ _ (λ d. rw (same_reads n (room Whole ts) Whole d ts p (omega arith) (omega arith)))
 
 pub read_list_is : (d : ℕ) (ts : List Lexeme) (p : ℕ)
     → read_list d ts p ≡ choose (after tok.CloseParenthesis ts) (more_on d ts p) (λ us. found_list no_arguments us p)
@@ -271,7 +263,7 @@ unfolding read_list more_on
 read_list_is d ts p =
     let n = wide ts in
     same_list n (suc n) d ts p (omega arith) (omega arith)
-    ∙ choose_same (after tok.CloseParenthesis ts) _ _ (λ us. found_list no_arguments us p) (λ us. found_list no_arguments us p)
+    ∙ choose_same (after tok.CloseParenthesis ts) _ _ _ _
     (same_more n (32 * length ts + 19) d ts p (omega arith) (omega arith)) (λ us i. refl)
 
 pub more_on_is : (d : ℕ) (ts : List Lexeme) (p : ℕ)
@@ -282,13 +274,10 @@ unfolding read more_on
 more_on_is d ts p =
     let n = 32 * length ts + 19 in
     same_more n (suc n) d ts p (omega arith) (omega arith)
-    ∙ bind_same _ _ (λ a. choose (after tok.Comma a.rest) (after tok.CloseParenthesis a.rest >>= λ us. found_list (argument a.tree no_arguments) us a.left)
-    (λ us. reads_more n d us a.left >>= λ b. found_list (argument a.tree b.arguments) b.rest b.left))
-    (λ a. choose (after tok.Comma a.rest) (after tok.CloseParenthesis a.rest >>= λ us. found_list (argument a.tree no_arguments) us a.left)
-    (λ us. reads_more (32 * length us + 19) d us a.left >>= λ b. found_list (argument a.tree b.arguments) b.rest b.left))
+    ∙ bind_same _ _ _
+    _
     (same_reads n (room Whole ts) Whole d ts p (omega arith) (omega arith))
     (λ a i. let s = shrinks n Whole d ts p a i in
-    choose_same (after tok.Comma a.rest) _ _ (λ us. reads_more n d us a.left >>= λ b. found_list (argument a.tree b.arguments) b.rest b.left)
-    (λ us. reads_more (32 * length us + 19) d us a.left >>= λ b. found_list (argument a.tree b.arguments) b.rest b.left) refl
-    (λ us j. let t = after_shrinks tok.Comma a.rest us j in ap (λ (o : Option FoundList). o >>= λ b. found_list (argument a.tree b.arguments) b.rest b.left)
-    (same_more n (32 * length us + 19) d us a.left (omega arith) (omega arith))))
+    choose_same (after tok.Comma a.rest) _ _ _
+    _ refl
+    (λ us j. let t = after_shrinks tok.Comma a.rest us j in rw (same_more n (32 * length us + 19) d us a.left (omega arith) (omega arith))))

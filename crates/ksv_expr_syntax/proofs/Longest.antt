@@ -15,7 +15,7 @@ use Rattle.std.proofs.lemmas.List.{take-append-drop, drop_more, take_at, drop_at
 use Rattle.std.proofs.lemmas.List.Elements.{All-push}
 use Rattle.std.proofs.lemmas.List.Sums.{take_while-cons}
 use Rattle.std.proofs.lemmas.List.Quantifiers.{position-Some}
-use Rattle.std.proofs.lemmas.Bool.{ne_eqb, eqb-true, eq-eqb, false_from_ne_true, or_cases, or_parts}
+use Rattle.std.proofs.lemmas.Bool.{ne_eqb, eqb-true, eqb-false, eq-eqb, false_from_ne_true, or_cases, or_parts}
 use Rattle.std.proofs.lemmas.Bool.Decides.{nat_tests}
 use Rattle.ksv_expr_syntax.specs.declared.token.Symbol.TheVariants as tok
 use Rattle.ksv_expr_syntax.specs.declared.lexer.Radix.{Radix}
@@ -28,18 +28,15 @@ use Rattle.ksv_expr_syntax.specs.Tokens.{plain_byte, letter_escape, digits_escap
 use Rattle.ksv_expr_syntax.specs.Tokens.{like_float, like_format, IsToken, name, number, single, double, sign, IsLongest, skip, less_follows}
 use Rattle.ksv_expr_syntax.specs.Cutting.{cut_name, radix_of, prefix_size, run, run_behind, goes_on_as_float, is_left_out_number, number_of, cut_number}
 use Rattle.ksv_expr_syntax.specs.Cutting.{text_of, cut_single, Quoted, escaped, unicode, cut_double, cut_symbol}
-use Rattle.ksv_expr_syntax.proofs.Steps.{bind_some, if_some}
+use Rattle.ksv_expr_syntax.proofs.Steps.{bind_some, if_some, by_test, by_option}
 use Rattle.ksv_expr_syntax.proofs.Symbols.{TwoBytes, OneByte, two_found, one_found, IsFound, by_one, by_two, is_found}
 use Rattle.ksv_expr_syntax.proofs.Lexing.{take_run, all_cons, all_of_run, text_is}
 
 -- ---- tests
 
-none_or : {A : Type 0} (b : Bool) (x y : A) → (if b then None else Some x) ≡ Some y → (b ≡ false) × (x ≡ y)
-none_or true x y h = absurd cc
-none_or false x y h = (refl, cc)
-
-head_of : (P : ℕ → Type 0) (c : ℕ) (cs : List ℕ) → All P (c ∷ cs) → P c
-head_of P c cs h = h 0 c (omega arith)
+not_none : {A : Type 0} (b : Bool) (o : Option A) (y : A) → (if b then None else o) ≡ Some y → (b ≡ false) × (o ≡ Some y)
+not_none true o y h = absurd cc
+not_none false o y h = (refl, h)
 
 tail_of : (P : ℕ → Type 0) (c : ℕ) (cs : List ℕ) → All P (c ∷ cs) → All P cs
 tail_of P c cs h = λ k d l. h (suc k) d (omega arith)
@@ -47,74 +44,51 @@ tail_of P c cs h = λ k d l. h (suc k) d (omega arith)
 -- ---- the first byte tells the class
 
 digit_no_name : (c : ℕ) → is_ascii_digit c ≡ true → is_name_start c ≡ false
-digit_no_name c h = false_from_ne_true (is_name_start c) (λ e. absurd (grind (arith, nat_tests, h, e)))
+digit_no_name c h = grind (arith, nat_tests, h)
 
 at_name : (c : ℕ) (cs : List ℕ) → is_name_start c ≡ true → cut (c ∷ cs) ≡ cut_name (c ∷ cs)
-at_name c cs h = ap (λ b. if b then cut_name (c ∷ cs) else if is_ascii_digit c then cut_number (c ∷ cs) else if c == 39 then cut_single cs else if c == 34
-    then cut_double cs else cut_symbol (c ∷ cs)) h
+at_name c cs h = rw h
 
 at_digit : (c : ℕ) (cs : List ℕ) → is_ascii_digit c ≡ true → cut (c ∷ cs) ≡ cut_number (c ∷ cs)
-at_digit c cs h =
-    ap (λ b. if b then cut_name (c ∷ cs) else if is_ascii_digit c then cut_number (c ∷ cs) else if c == 39 then cut_single cs else if c == 34 then cut_double cs
-    else cut_symbol (c ∷ cs)) (digit_no_name c h)
-    ∙ ap (λ b. if b then cut_number (c ∷ cs) else if c == 39 then cut_single cs else if c == 34 then cut_double cs else cut_symbol (c ∷ cs)) h
+at_digit c cs h = rw (digit_no_name c h, h)
 
 -- ---- names
 
 name_start_byte : (c : ℕ) → is_name_start c ≡ true → is_name_byte c ≡ true
-name_start_byte c h =
-    elim (is_ascii_lowercase c) as (λ b. (b || c == 95) ≡ true → (b || is_ascii_digit c || c == 95) ≡ true) [
-      | true ↦ λ h. refl
-      | false ↦ λ h. elim (is_ascii_digit c) as (λ b. (b || c == 95) ≡ true) [ true ↦ refl | false ↦ h ]
-    ] h
+name_start_byte c h = grind (arith, nat_tests, h)
 
 name_bytes : (w : List ℕ) → IsName w → All (λ b. is_name_byte b ≡ true) w
 name_bytes w (begun {c} {cs} h k) = all_cons (λ b. is_name_byte b ≡ true) c cs (name_start_byte c h) k
 
 name_run : (w r : List ℕ) → All (λ b. is_name_byte b ≡ true) w → take_while is_name_byte (w ++ r) ≡ w ++ take_while is_name_byte r
 name_run [] r h = refl
-name_run (c ∷ cs) r h =
-    take_while-cons is_name_byte c (cs ++ r)
-    ∙ ap (λ b. cond b (c ∷ take_while is_name_byte (cs ++ r)) []) (head_of (λ b. is_name_byte b ≡ true) c cs h)
-    ∙ ap (λ ws. c ∷ ws) (name_run cs r (tail_of (λ b. is_name_byte b ≡ true) c cs h))
+name_run (c ∷ cs) r h = rw (take_while-cons, h 0 c (omega arith), name_run cs r (tail_of (λ b. is_name_byte b ≡ true) c cs h))
 
 name_cut : (bs : List ℕ) (x : Cut) → cut_name bs ≡ Some x
     → record { lexeme = word_lexeme (take_while is_name_byte bs); rest = drop (length (take_while is_name_byte bs)) bs } ≡ x
 name_cut bs x h =
     let w = take_while is_name_byte bs in
-    (none_or (bytes_eq w (codes "f") && slice_index (drop (length w) bs) 0 == 34) (record { lexeme = word_lexeme w; rest = drop (length w) bs }) x h).1
+    let k = (not_none (bytes_eq w (codes "f") && slice_index (drop (length w) bs) 0 == 34) (cut_at (word_lexeme w) (drop (length w) bs)) x h).1 in cc
 
 name_longer : (w r : List ℕ) (x : Cut) → IsName w → cut (w ++ r) ≡ Some x → length x.rest ≤ length r
 name_longer w r x (begun {c} {cs} h k) e =
-    let w = c ∷ cs in
-    let all = name_bytes w (begun h k) in
-    let i = name_cut (w ++ r) x (sym (at_name c (cs ++ r) h) ∙ e) in
-    let j : length (drop (length (take_while is_name_byte (w ++ r))) (w ++ r)) ≡ length x.rest = ap (λ (x : Cut). length x.rest) i in
-    omega (
-      arith,
-      j,
-      length-drop (length (take_while is_name_byte (w ++ r))) (w ++ r),
-      ap length (name_run w r all),
-      length-append w
-          (take_while is_name_byte r),
-      length-append w r,
-    )
+    rw (← (name_cut (w ++ r) x (sym (at_name c (cs ++ r) h) ∙ e)), name_run w r (name_bytes w (begun h k)))
+    (omega (arith, length-drop {A = ℕ}, length-append cs (take_while is_name_byte r), length-append cs r))
 
 -- ---- numbers
 
 line_no_digit : (r : Radix) → is_digit r 95 ≡ false
 line_no_digit radices.Binary = refl
-line_no_digit radices.Decimal = refl
-line_no_digit radices.Hexadecimal = refl
+line_no_digit _ = refl
 
 run_digit : (r : Radix) (c : ℕ) (us : List ℕ) → is_digit r c ≡ true → run r (c ∷ us) ≡ suc (run r us)
-run_digit r c us h = ap (λ b. if b then suc (run r us) else if c == 95 then run_behind r us else 0) h
+run_digit r c us h = rw h
 
 run_line : (r : Radix) (us : List ℕ) → run r (95 ∷ us) ≡ run_behind r us
-run_line r us = ap (λ b. if b then suc (run r us) else run_behind r us) (line_no_digit r)
+run_line r us = rw (line_no_digit r)
 
 behind_digit : (r : Radix) (c : ℕ) (us : List ℕ) → is_digit r c ≡ true → run_behind r (c ∷ us) ≡ suc (suc (run r us))
-behind_digit r c us h = ap (λ b. if b then suc (suc (run r us)) else 0) h
+behind_digit r c us h = rw h
 
 pub first_digit : (r : Radix) (ds : List ℕ) → IsDigits r ds → (c : ℕ) × (us : List ℕ) × (ds ≡ c ∷ us) × (is_digit r c ≡ true)
 first_digit r ds (last_digit {c = c} h) = (c, [], refl, h)
@@ -122,23 +96,13 @@ first_digit r ds (one_digit {c = c} {cs} h k) = (c, cs, refl, h)
 first_digit r ds (digit_and_line {c = c} {cs} h k) = (c, 95 ∷ cs, refl, h)
 
 behind_run : (r : Radix) (ds rest : List ℕ) → IsDigits r ds → run_behind r (ds ++ rest) ≡ suc (run r (ds ++ rest))
-behind_run r ds rest k =
-    let f = first_digit r ds k in
-    subst (λ ds. run_behind r (ds ++ rest) ≡ suc (run r (ds ++ rest))) (sym f.2)
-    (behind_digit r f.0 (f.1 ++ rest) f.3 ∙ ap suc (sym (run_digit r f.0 (f.1 ++ rest) f.3)))
+behind_run r ds rest k = let f = first_digit r ds k in rw (f.2, f.3)
 
 digits_run : (r : Radix) (ds rest : List ℕ) → IsDigits r ds → run r (ds ++ rest) ≡ length ds + run r rest
 digits_run r ds rest (last_digit {c = c} h) = run_digit r c rest h ∙ omega arith
-digits_run r ds rest (one_digit {c = c} {cs} h k) =
-    let e = run_digit r c (cs ++ rest) h in
-    let i = digits_run r cs rest k in
-    omega (arith, e, i)
+digits_run r ds rest (one_digit {c = c} {cs} h k) = omega (arith, run_digit r c (cs ++ rest) h, digits_run r cs rest k)
 digits_run r ds rest (digit_and_line {c = c} {cs} h k) =
-    let e = run_digit r c (95 ∷ (cs ++ rest)) h in
-    let f = run_line r (cs ++ rest) in
-    let g = behind_run r cs rest k in
-    let i = digits_run r cs rest k in
-    omega (arith, e, f, g, i)
+    omega (arith, run_digit r c (95 ∷ (cs ++ rest)) h, run_line r (cs ++ rest), behind_run r cs rest k, digits_run r cs rest k)
 
 -- a number of these digits in this base, its prefix aside
 abbrev number_at : Radix → List ℕ → Option Cut
@@ -155,15 +119,9 @@ record NumberCut (r : Radix) (ds rest : List ℕ) (x : Cut) : Type 0 where
 
 number_cut : (r : Radix) (ds rest : List ℕ) (x : Cut) → number_of r ds rest ≡ Some x → NumberCut r ds rest x
 number_cut r ds rest x h =
-    elim (is_left_out_number r ds rest) as
-    (λ b. is_left_out_number r ds rest ≡ b
-    → (if b then None else if nat_lt (natural r 0 ds) (2 ^ 64) then cut_at (constant (integer (natural r 0 ds))) rest else None) ≡ Some x
-    → NumberCut r ds rest x) [
-      | true ↦ λ e h. absurd cc
-      | false ↦ λ e h.
-          let s = if_some (nat_lt (natural r 0 ds) (2 ^ 64)) (record { lexeme = constant (integer (natural r 0 ds)); rest = rest }) x h in
-          record { kept = e; bound = ltb-true _ _ s.0; is = s.1 }
-    ] refl h
+    let n = not_none (is_left_out_number r ds rest) (if nat_lt (natural r 0 ds) (2 ^ 64) then cut_at (constant (integer (natural r 0 ds))) rest else None) x h in
+    let s = if_some (nat_lt (natural r 0 ds) (2 ^ 64)) _ x n.1 in
+    record { kept = n.0; bound = ltb-true _ _ s.0; is = s.1 }
 
 number_rest : (r : Radix) (ds : List ℕ) (x : Cut) → number_at r ds ≡ Some x → length x.rest ≡ length ds - run r ds
 number_rest r ds x h = ap (λ (x : Cut). length x.rest) (sym (number_cut r (take (run r ds) ds) (drop (run r ds) ds) x h).is) ∙ length-drop (run r ds) ds
@@ -172,48 +130,37 @@ digits_rest : (r : Radix) (ds rest : List ℕ) (x : Cut) → IsDigits r ds → n
 digits_rest r ds rest x k h = omega (arith, number_rest r (ds ++ rest) x h, digits_run r ds rest k, length-append ds rest)
 
 hex_radix : (c : ℕ) (us : List ℕ) → is_digit radices.Hexadecimal c ≡ true → radix_of (48 ∷ 120 ∷ c ∷ us) ≡ radices.Hexadecimal
-hex_radix c us h = ap (λ b. if b then radices.Hexadecimal else radices.Decimal) h
+hex_radix c us h = rw h
 
 binary_radix : (c : ℕ) (us : List ℕ) → is_digit radices.Binary c ≡ true → radix_of (48 ∷ 98 ∷ c ∷ us) ≡ radices.Binary
-binary_radix c us h = ap (λ b. if b then radices.Binary else radices.Decimal) h
+binary_radix c us h = rw h
 
 plain_radix : (c d : ℕ) (us : List ℕ) → (d == 120) ≡ false → (d == 98) ≡ false → radix_of (c ∷ d ∷ us) ≡ radices.Decimal
-plain_radix c d us h k =
-    ap (λ b. if c == 48 && b && is_digit radices.Hexadecimal (slice_index (c ∷ d ∷ us) 2) then radices.Hexadecimal else if c == 48 && d == 98
-    && is_digit radices.Binary (slice_index (c ∷ d ∷ us) 2) then radices.Binary else radices.Decimal) h
-    ∙ ap (λ b. if c == 48 && false && is_digit radices.Hexadecimal (slice_index (c ∷ d ∷ us) 2) then radices.Hexadecimal else if c == 48 && b
-    && is_digit radices.Binary (slice_index (c ∷ d ∷ us) 2) then radices.Binary else radices.Decimal) k
-    ∙ elim (c == 48) as (λ b.
-    (if b && false && is_digit radices.Hexadecimal (slice_index (c ∷ d ∷ us) 2) then radices.Hexadecimal else if b && false
-    && is_digit radices.Binary (slice_index (c ∷ d ∷ us) 2) then radices.Binary else radices.Decimal) ≡ radices.Decimal)
-    [ true ↦ refl | false ↦ refl ]
+plain_radix c d us h k = rw (h, k) (elim (c == 48) as (λ b. (if b && false && is_digit radices.Hexadecimal (slice_index (c ∷ d ∷ us) 2)
+    then radices.Hexadecimal else if b && false && is_digit radices.Binary (slice_index (c ∷ d ∷ us) 2) then radices.Binary else radices.Decimal)
+    ≡ radices.Decimal) [ true ↦ refl | false ↦ refl ])
 
 cut_hex : (ds rest : List ℕ) → IsDigits radices.Hexadecimal ds → cut (48 ∷ 120 ∷ (ds ++ rest)) ≡ number_at radices.Hexadecimal (ds ++ rest)
 cut_hex ds rest k =
     let f = first_digit radices.Hexadecimal ds k in
-    let e : radix_of (48 ∷ 120 ∷ (ds ++ rest)) ≡ radices.Hexadecimal =
-    subst (λ ds. radix_of (48 ∷ 120 ∷ (ds ++ rest)) ≡ radices.Hexadecimal) (sym f.2) (hex_radix f.0 (f.1 ++ rest) f.3) in
-    as_radix radices.Hexadecimal (48 ∷ 120 ∷ (ds ++ rest)) e
+    as_radix radices.Hexadecimal (48 ∷ 120 ∷ (ds ++ rest)) (rw f.2 (hex_radix f.0 (f.1 ++ rest) f.3))
 
 cut_binary : (ds rest : List ℕ) → IsDigits radices.Binary ds → cut (48 ∷ 98 ∷ (ds ++ rest)) ≡ number_at radices.Binary (ds ++ rest)
 cut_binary ds rest k =
     let f = first_digit radices.Binary ds k in
-    let e : radix_of (48 ∷ 98 ∷ (ds ++ rest)) ≡ radices.Binary =
-    subst (λ ds. radix_of (48 ∷ 98 ∷ (ds ++ rest)) ≡ radices.Binary) (sym f.2) (binary_radix f.0 (f.1 ++ rest) f.3) in
-    as_radix radices.Binary (48 ∷ 98 ∷ (ds ++ rest)) e
+    as_radix radices.Binary (48 ∷ 98 ∷ (ds ++ rest)) (rw f.2 (binary_radix f.0 (f.1 ++ rest) f.3))
 
 digit_no_x : (d : ℕ) → is_ascii_digit d ≡ true → (d == 120) ≡ false
-digit_no_x d h = false_from_ne_true (d == 120) (λ e. absurd (grind (arith, nat_tests, h, e)))
+digit_no_x d h = grind (arith, nat_tests, h)
 
 digit_no_b : (d : ℕ) → is_ascii_digit d ≡ true → (d == 98) ≡ false
-digit_no_b d h = false_from_ne_true (d == 98) (λ e. absurd (grind (arith, nat_tests, h, e)))
+digit_no_b d h = grind (arith, nat_tests, h)
 
 -- a decimal of more than one byte has no other base
 decimal_radix : (ds rest : List ℕ) → IsDigits radices.Decimal ds → 1 < length ds → radix_of (ds ++ rest) ≡ radices.Decimal
 decimal_radix ds rest (last_digit {c = c} h) l = absurd (omega arith)
 decimal_radix ds rest (one_digit {c = c} {cs} h k) l =
-    let f = first_digit radices.Decimal cs k in
-    subst (λ cs. radix_of (c ∷ (cs ++ rest)) ≡ radices.Decimal) (sym f.2) (plain_radix c f.0 (f.1 ++ rest) (digit_no_x f.0 f.3) (digit_no_b f.0 f.3))
+    let f = first_digit radices.Decimal cs k in rw f.2 (plain_radix c f.0 (f.1 ++ rest) (digit_no_x f.0 f.3) (digit_no_b f.0 f.3))
 decimal_radix ds rest (digit_and_line {c = c} {cs} h k) l = plain_radix c 95 (cs ++ rest) refl refl
 
 cut_decimal : (ds rest : List ℕ) → IsDigits radices.Decimal ds → radix_of (ds ++ rest) ≡ radices.Decimal
@@ -254,8 +201,7 @@ number_longer radices.Hexadecimal ds rest x k e = digits_rest radices.Hexadecima
 number_whole : (r : Radix) (ds rest : List ℕ) → IsDigits r ds → run r rest ≡ 0 → number_at r (ds ++ rest) ≡ number_of r ds rest
 number_whole r ds rest k z =
     let e : length ds ≡ run r (ds ++ rest) = omega (arith, digits_run r ds rest k, z) in
-    ap (λ us. number_of r us (drop (run r (ds ++ rest)) (ds ++ rest))) (take_at ds rest (run r (ds ++ rest)) e)
-    ∙ ap (number_of r ds) (drop_at ds rest (run r (ds ++ rest)) e)
+    rw (take_at ds rest (run r (ds ++ rest)) e, drop_at ds rest (run r (ds ++ rest)) e)
 
 -- ---- floats
 
@@ -275,30 +221,18 @@ float_head fs (exponent {e} {d} h k) = (e, d ∷ [], refl, exponent_is ends_digi
 float_head fs (signed_exponent {e} {s} {d} h j k) = (e, s ∷ d ∷ [], refl, exponent_is ends_digits e h (refl, refl, refl, refl) (refl, refl, refl, refl))
 
 float_run : (fs rest : List ℕ) → BeginsFloat fs → run radices.Decimal (fs ++ rest) ≡ 0
-float_run fs rest b =
-    let f = float_head fs b in
-    let c = f.0 in
-    subst (λ fs. run radices.Decimal (fs ++ rest) ≡ 0) (sym f.2)
-    (ap (λ b. if b then suc (run radices.Decimal (f.1 ++ rest)) else if c == 95 then run_behind radices.Decimal (f.1 ++ rest) else 0) f.3.0
-    ∙ ap (λ b. if b then run_behind radices.Decimal (f.1 ++ rest) else 0) f.3.1)
+float_run fs rest b = let f = float_head fs b in rw (f.2, f.3.0, f.3.1)
 
 float_goes : (fs rest : List ℕ) → BeginsFloat fs → goes_on_as_float (fs ++ rest) ≡ true
-float_goes fs rest (fraction {d} h) = ap (λ b. b || false) h
-float_goes fs rest (exponent {e} {d} h k) =
-    exponent_is (λ e. goes_on_as_float (e ∷ d ∷ rest) ≡ true) e h
-    (ap (λ b. b || ((d == 43 || d == 45) && is_ascii_digit (slice_index (101 ∷ d ∷ rest) 2))) k)
-    (ap (λ b. b || ((d == 43 || d == 45) && is_ascii_digit (slice_index (69 ∷ d ∷ rest) 2))) k)
+float_goes fs rest (fraction {d} h) = rw h
+float_goes fs rest (exponent {e} {d} h k) = exponent_is (λ e. goes_on_as_float (e ∷ d ∷ rest) ≡ true) e h (rw k) (rw k)
 float_goes fs rest (signed_exponent {e} {s} {d} h j k) =
     let t : (is_ascii_digit s || ((s == 43 || s == 45) && is_ascii_digit d)) ≡ true =
-    ap (λ b. is_ascii_digit s || (b && is_ascii_digit d)) j
-    ∙ ap (λ b. is_ascii_digit s || b) k
-    ∙ elim (is_ascii_digit s) as (λ b. (b || true) ≡ true) [ true ↦ refl | false ↦ refl ] in
+    rw (j, k) (elim (is_ascii_digit s) as (λ b. (b || true) ≡ true) [ true ↦ refl | false ↦ refl ]) in
     exponent_is (λ e. goes_on_as_float (e ∷ s ∷ d ∷ rest) ≡ true) e h t t
 
 float_radix : (ds fs rest : List ℕ) → IsDigits radices.Decimal ds → BeginsFloat fs → radix_of (ds ++ (fs ++ rest)) ≡ radices.Decimal
-float_radix ds fs rest (last_digit {c = c} h) b =
-    let f = float_head fs b in
-    subst (λ fs. radix_of (c ∷ (fs ++ rest)) ≡ radices.Decimal) (sym f.2) (plain_radix c f.0 (f.1 ++ rest) f.3.2 f.3.3)
+float_radix ds fs rest (last_digit {c = c} h) b = let f = float_head fs b in rw f.2 (plain_radix c f.0 (f.1 ++ rest) f.3.2 f.3.3)
 float_radix ds fs rest (one_digit {c = c} {cs} h k) b =
     let f = first_digit radices.Decimal cs k in
     decimal_radix (c ∷ cs) (fs ++ rest) (one_digit h k) (omega (arith, ap length f.2))
@@ -316,64 +250,44 @@ float_longer ds fs rest x k b e =
 no_quote_place : (bs r : List ℕ) → All (λ b. b ≢ 39) bs → position_or_len (λ c. c == 39) (bs ++ 39 ∷ r) ≡ length bs
 no_quote_place [] r h = refl
 no_quote_place (c ∷ cs) r h =
-    let e : position_or_len (λ c. c == 39) (c ∷ (cs ++ 39 ∷ r)) ≡ 1 + position_or_len (λ c. c == 39) (cs ++ 39 ∷ r) =
-    ap (λ b. cond (not b) (1 + position_or_len (λ c. c == 39) (cs ++ 39 ∷ r)) 0) (ne_eqb c 39 (head_of (λ b. b ≢ 39) c cs h)) in
-    omega (arith, e, no_quote_place cs r (tail_of (λ b. b ≢ 39) c cs h))
+    rw (ne_eqb c 39 (h 0 c (omega arith))) (omega (arith, no_quote_place cs r (tail_of (λ b. b ≢ 39) c cs h)))
 
 quote_place : (bs r : List ℕ) → All (λ b. b ≢ 39) bs → position (λ c. c == 39) (bs ++ 39 ∷ r) ≡ Some (length bs)
-quote_place bs r h =
-    ap (λ n. cond (nat_lt n (length (bs ++ 39 ∷ r))) (Some n) None) (no_quote_place bs r h)
-    ∙ ap (λ b. cond b (Some (length bs)) None) (lt-ltb (length bs) (length (bs ++ 39 ∷ r)) (omega (arith, length-append bs (39 ∷ r))))
+quote_place bs r h = rw (no_quote_place bs r h, lt-ltb (length bs) (length (bs ++ 39 ∷ r)) (omega (arith, length-append bs (39 ∷ r))))
 
 single_is : (bs r : List ℕ) → All (λ b. b ≢ 39) bs → cut_single (bs ++ 39 ∷ r) ≡ text_of bs r
-single_is bs r h =
-    ap (λ o. o >>= λ n. text_of (take n (bs ++ 39 ∷ r)) (drop 1 (drop n (bs ++ 39 ∷ r)))) (quote_place bs r h)
-    ∙ ap (λ us. text_of us (drop 1 (drop (length bs) (bs ++ 39 ∷ r)))) (take_at bs (39 ∷ r) (length bs) refl)
-    ∙ ap (λ us. text_of bs (drop 1 us)) (drop_at bs (39 ∷ r) (length bs) refl)
+single_is bs r h = rw (quote_place bs r h, take_at bs (39 ∷ r) (length bs) refl, drop_at bs (39 ∷ r) (length bs) refl)
 
 escape_no_u : (c u : ℕ) → escape_of c ≡ Some u → (c == 117) ≡ false
 escape_no_u c u h = false_from_ne_true (c == 117) (λ e. let k : escape_of 117 ≡ Some u = sym (ap escape_of (eqb-true c 117 e)) ∙ h in absurd cc)
 
 quoted_is : (bs cs r : List ℕ) → IsQuoted bs cs → quoted (bs ++ 34 ∷ r) ≡ Some (record { bytes = cs; rest = r })
 quoted_is bs cs r nothing = refl
-quoted_is bs cs r (plain_byte {c = c} {cs = xs} {ds = ys} h k q) =
-    ap (λ b. if b then Some (record { bytes = []; rest = xs ++ 34 ∷ r }) else if c == 92 then escaped (xs ++ 34 ∷ r) else put (c ∷ []) (quoted (xs ++ 34 ∷ r)))
-    (ne_eqb c 34 h)
-    ∙ ap (λ b. if b then escaped (xs ++ 34 ∷ r) else put (c ∷ []) (quoted (xs ++ 34 ∷ r))) (ne_eqb c 92 k)
-    ∙ ap (put (c ∷ [])) (quoted_is xs ys r q)
-quoted_is bs cs r (letter_escape {c = c} {u = u} {cs = xs} {ds = ys} h q) =
-    ap (λ b. if b then unicode (xs ++ 34 ∷ r) else (escape_of c >>= λ u. put (encode_utf8 u) (quoted (xs ++ 34 ∷ r)))) (escape_no_u c u h)
-    ∙ ap (λ o. o >>= λ u. put (encode_utf8 u) (quoted (xs ++ 34 ∷ r))) h
-    ∙ ap (put (encode_utf8 u)) (quoted_is xs ys r q)
-quoted_is bs cs r (digits_escape {a = a} {b = b} {c = c} {d = d} {u = u} {cs = xs} {ds = ys} h q) =
-    ap (λ o. o >>= λ u. put (encode_utf8 u) (quoted (xs ++ 34 ∷ r))) h
-    ∙ ap (put (encode_utf8 u)) (quoted_is xs ys r q)
+quoted_is bs cs r (plain_byte {c = c} {cs = xs} {ds = ys} h k q) = rw (ne_eqb c 34 h, ne_eqb c 92 k, quoted_is xs ys r q)
+quoted_is bs cs r (letter_escape {c = c} {u = u} {cs = xs} {ds = ys} h q) = rw (escape_no_u c u h, h, quoted_is xs ys r q)
+quoted_is bs cs r (digits_escape {cs = xs} {ds = ys} h q) = rw (h, quoted_is xs ys r q)
 
 double_is : (bs cs r : List ℕ) → IsQuoted bs cs → cut_double (bs ++ 34 ∷ r) ≡ text_of cs r
-double_is bs cs r h = ap (λ o. o >>= λ (q : Quoted). text_of q.bytes q.rest) (quoted_is bs cs r h)
+double_is bs cs r h = rw (quoted_is bs cs r h)
 
 text_cut : (bs r : List ℕ) (x : Cut) → text_of bs r ≡ Some x → (is_utf8 bs ≡ true) × (record { lexeme = constant (string bs); rest = r } ≡ x)
 text_cut bs r x h = if_some (is_utf8 bs) (record { lexeme = constant (string bs); rest = r }) x h
 
 text_longer : (bs r : List ℕ) (x : Cut) → text_of bs r ≡ Some x → length x.rest ≤ length r
-text_longer bs r x h = omega (arith, ap (λ (x : Cut). length x.rest) (text_cut bs r x h).1)
+text_longer bs r x h = rw (← (text_cut bs r x h).1) (omega arith)
 
 -- ---- symbols
 
-symbol_rest : (c : ℕ) (r : List ℕ) (x : Cut) → cut_symbol (c ∷ r) ≡ Some x → length x.rest ≤ length r
-symbol_rest c r x h =
-    elim (two_bytes c (slice_index (c ∷ r) 1)) as
-    (λ o. (elim o [ Some s ↦ cut_at (symbol s) (drop 2 (c ∷ r)) | None ↦ one_byte c >>= λ s. cut_at (symbol s) (drop 1 (c ∷ r)) ]) ≡ Some x
-    → length x.rest ≤ length r) [
-      | Some s ↦ λ h. let e : record { lexeme = symbol s; rest = drop 2 (c ∷ r) } ≡ x =
-          cc in omega (arith, ap (λ (x : Cut). length x.rest) e, length-drop 2 (c ∷ r))
-      | None ↦ λ h. let b = bind_some (one_byte c) (λ s. cut_at (symbol s) (drop 1 (c ∷ r))) x h in
-          let e : record { lexeme = symbol b.0; rest = drop 1 (c ∷ r) } ≡ x = (let k = b.2 in cc) in
-          omega (arith, ap (λ (x : Cut). length x.rest) e, length-drop 1 (c ∷ r))
-    ] h
+cut_is : (t : Lexeme) (r : List ℕ) (x : Cut) → cut_at t r ≡ Some x → record { lexeme = t; rest = r } ≡ x
+cut_is t r x h = cc
 
 pair_rest : (s : Symbol) (r : List ℕ) (x : Cut) → cut_at (symbol s) r ≡ Some x → length x.rest ≤ length r
-pair_rest s r x h = let e : record { lexeme = symbol s; rest = r } ≡ x = cc in omega (arith, ap (λ (x : Cut). length x.rest) e)
+pair_rest s r x h = rw (← (cut_is (symbol s) r x h)) (omega arith)
+
+symbol_rest : (c : ℕ) (r : List ℕ) (x : Cut) → cut_symbol (c ∷ r) ≡ Some x → length x.rest ≤ length r
+symbol_rest c r x h = by_option (two_bytes c (slice_index (c ∷ r) 1))
+    (λ e. let b = bind_some (one_byte c) (λ s. cut_at (symbol s) r) x (rw (e, cut_symbol) at h) in pair_rest b.0 r x b.2)
+    (λ s e. let l = pair_rest s (drop 2 (c ∷ r)) x (rw (e, cut_symbol) at h) in omega (arith, length-drop 2 (c ∷ r)))
 
 symbol_longer : (s : Symbol) (bs r : List ℕ) (x : Cut) → IsFound s bs → cut (bs ++ r) ≡ Some x → length x.rest ≤ length r
 symbol_longer s bs r x (by_one c b k) h = symbol_rest c r x (sym (k r) ∙ h)
@@ -382,13 +296,11 @@ symbol_longer s bs r x (by_two c d k) h = pair_rest s r x (sym (k r) ∙ h)
 -- whatever begins a text with a shape, a token that is cut there takes as much
 no_longer : (ts r : List ℕ) (x : Cut) → HasShape ts → cut (ts ++ r) ≡ Some x → length x.rest ≤ length r
 no_longer ts r x (like_name k) h = name_longer ts r x k h
-no_longer ts r x (like_number q ds k e) h = number_longer q ds r x k (ap cut (sym (ap (λ ts. ts ++ r) e ∙ append_assoc (number_prefix q) ds r)) ∙ h)
-no_longer ts r x (like_single bs k e) h = text_longer bs r x
-    (sym (single_is bs r k) ∙ ap cut (sym (ap (λ ts. ts ++ r) e ∙ append_assoc (39 ∷ bs) (39 ∷ []) r)) ∙ h)
-no_longer ts r x (like_double bs cs k e) h = text_longer cs r x
-    (sym (double_is bs cs r k) ∙ ap cut (sym (ap (λ ts. ts ++ r) e ∙ append_assoc (34 ∷ bs) (34 ∷ []) r)) ∙ h)
+no_longer ts r x (like_number q ds k e) h = number_longer q ds r x k (rw (e, append_assoc) at h)
+no_longer ts r x (like_single bs k e) h = text_longer bs r x (sym (single_is bs r k) ∙ (rw (e, append_assoc) at h))
+no_longer ts r x (like_double bs cs k e) h = text_longer cs r x (sym (double_is bs cs r k) ∙ (rw (e, append_assoc) at h))
 no_longer ts r x (like_symbol s w) h = symbol_longer s (spelling s) r x (is_found s w) h
-no_longer ts r x (like_float ds fs k b e) h = absurd (float_longer ds fs r x k b (ap cut (sym (ap (λ ts. ts ++ r) e ∙ append_assoc ds fs r)) ∙ h))
+no_longer ts r x (like_float ds fs k b e) h = absurd (float_longer ds fs r x k b (rw (e, append_assoc) at h))
 no_longer ts r x like_format h = absurd (let k : None ≡ Some x = h in cc)
 
 -- ---- what is cut is a token
@@ -404,80 +316,43 @@ token_at text piece rest t x e s k = let P : Cut → Type 0 = λ x. TokenAt text
 name_at : (c : ℕ) (cs : List ℕ) (x : Cut) → is_name_start c ≡ true → cut_name (c ∷ cs) ≡ Some x → TokenAt (c ∷ cs) x
 name_at c cs x h e =
     let w = take_while is_name_byte (c ∷ cs) in
-    let i : w ≡ c ∷ take_while is_name_byte cs = take_while-cons is_name_byte c cs
-    ∙ ap (λ b. cond b (c ∷ take_while is_name_byte cs) []) (name_start_byte c h) in
-    let k : IsName (c ∷ take_while is_name_byte cs) = begun h (all_of_run (λ b. is_name_byte b ≡ true) is_name_byte (λ c h. h) cs) in
-    let P : List ℕ → Type 0 = λ w. IsToken w (word_lexeme w) in
+    let i : w ≡ c ∷ take_while is_name_byte cs = rw (take_while-cons, name_start_byte c h) in
     token_at (c ∷ cs) w (drop (length w) (c ∷ cs)) (word_lexeme w) x (name_cut (c ∷ cs) x e)
     (sym (take-append-drop (length w) (c ∷ cs)) ∙ ap (λ us. us ++ drop (length w) (c ∷ cs)) (take_run is_name_byte (c ∷ cs)))
-    (subst P (sym i) (name k))
+    (name (rw i (begun h (all_of_run (λ b. is_name_byte b ≡ true) is_name_byte (λ c h. h) cs))))
 
-take_digit : (r : Radix) (c : ℕ) (us : List ℕ) → is_digit r c ≡ true → take (run r (c ∷ us)) (c ∷ us) ≡ c ∷ take (run r us) us
-take_digit r c us h = ap (λ n. take n (c ∷ us)) (run_digit r c us h)
+-- the longest run of digits at the front is digits
+abbrev Run : Radix → List ℕ → Type 0
+Run r us = IsDigits r (take (run r us) us)
 
 no_digits : (r : Radix) (c : ℕ) (us : List ℕ) → is_digit r c ≡ false → (c == 95) ≡ false → run r (c ∷ us) ≡ 0
-no_digits r c us h k = ap (λ b. if b then suc (run r us) else if c == 95 then run_behind r us else 0) h ∙ ap (λ b. if b then run_behind r us else 0) k
+no_digits r c us h k = rw (h, k)
 
-just_one : (r : Radix) (c : ℕ) (us : List ℕ) → is_digit r c ≡ true → run r us ≡ 0 → IsDigits r (take (run r (c ∷ us)) (c ∷ us))
-just_one r c us h z = subst (λ ds. IsDigits r ds) (sym (take_digit r c us h ∙ ap (λ n. c ∷ take n us) z)) (last_digit h)
-
-one_more_digit : (r : Radix) (c d : ℕ) (us : List ℕ) → is_digit r c ≡ true → IsDigits r (take (run r (d ∷ us)) (d ∷ us))
-    → IsDigits r (take (run r (c ∷ d ∷ us)) (c ∷ d ∷ us))
-one_more_digit r c d us h k = subst (λ ds. IsDigits r ds) (sym (take_digit r c (d ∷ us) h)) (one_digit h k)
-
-line_run : (r : Radix) (d e : ℕ) (us : List ℕ) → (d == 95) ≡ true → is_digit r d ≡ false → is_digit r e ≡ true → run r (d ∷ e ∷ us) ≡ suc (suc (run r us))
-line_run r d e us h n k =
-    ap (λ b. if b then suc (run r (e ∷ us)) else if d == 95 then run_behind r (e ∷ us) else 0) n
-    ∙ ap (λ b. if b then run_behind r (e ∷ us) else 0) h
-    ∙ behind_digit r e us k
+just_one : (r : Radix) (c : ℕ) (us : List ℕ) → is_digit r c ≡ true → run r us ≡ 0 → Run r (c ∷ us)
+just_one r c us h z = rw (h, z) (last_digit h)
 
 line_stop : (r : Radix) (d : ℕ) (us : List ℕ) → (d == 95) ≡ true → is_digit r d ≡ false → run_behind r us ≡ 0 → run r (d ∷ us) ≡ 0
-line_stop r d us h n z =
-    ap (λ b. if b then suc (run r us) else if d == 95 then run_behind r us else 0) n
-    ∙ ap (λ b. if b then run_behind r us else 0) h
-    ∙ z
+line_stop r d us h n z = rw (n, h, z)
 
 line_and_digit : (r : Radix) (c d e : ℕ) (us : List ℕ) → is_digit r c ≡ true → (d == 95) ≡ true → is_digit r d ≡ false → is_digit r e ≡ true
-    → IsDigits r (take (run r (e ∷ us)) (e ∷ us)) → IsDigits r (take (run r (c ∷ d ∷ e ∷ us)) (c ∷ d ∷ e ∷ us))
-line_and_digit r c d e us h l n k t =
-    let i : take (run r (c ∷ d ∷ e ∷ us)) (c ∷ d ∷ e ∷ us) ≡ c ∷ 95 ∷ take (run r (e ∷ us)) (e ∷ us) =
-    take_digit r c (d ∷ e ∷ us) h
-    ∙ ap (λ n. c ∷ take n (d ∷ e ∷ us)) (line_run r d e us l n k)
-    ∙ ap (λ d. c ∷ d ∷ e ∷ take (run r us) us) (eqb-true d 95 l)
-    ∙ ap (λ us. c ∷ 95 ∷ us) (sym (take_digit r e us k)) in
-    subst (λ ds. IsDigits r ds) (sym i) (digit_and_line h t)
+    → Run r (e ∷ us) → Run r (c ∷ d ∷ e ∷ us)
+line_and_digit r c d e us h l n k t = rw (h, n, l, k, eqb-true d 95 l) (digit_and_line h (rw k at t))
 
-take_digits : (r : Radix) (c : ℕ) (us : List ℕ) → is_digit r c ≡ true → IsDigits r (take (run r (c ∷ us)) (c ∷ us))
+take_digits : (r : Radix) (c : ℕ) (us : List ℕ) → is_digit r c ≡ true → Run r (c ∷ us)
 take_digits r c [] h = just_one r c [] h refl
 take_digits r c (d ∷ []) h =
-    elim (is_digit r d) as (λ b. is_digit r d ≡ b → IsDigits r (take (run r (c ∷ d ∷ [])) (c ∷ d ∷ []))) [
-      | true ↦ λ k. one_more_digit r c d [] h (just_one r d [] k refl)
-      | false ↦ λ k. elim (d == 95) as (λ b. (d == 95) ≡ b → IsDigits r (take (run r (c ∷ d ∷ [])) (c ∷ d ∷ []))) [
-        | true ↦ λ l. just_one r c (d ∷ []) h (line_stop r d [] l k refl)
-        | false ↦ λ l. just_one r c (d ∷ []) h (no_digits r d [] k l)
-      ] refl
-    ] refl
+    by_test (is_digit r d) (λ k. rw h (one_digit h (just_one r d [] k refl)))
+    (λ k. by_test (d == 95) (λ l. just_one r c (d ∷ []) h (line_stop r d [] l k refl)) (λ l. just_one r c (d ∷ []) h (no_digits r d [] k l)))
 take_digits r c (d ∷ e ∷ us) h =
-    elim (is_digit r d) as (λ b. is_digit r d ≡ b → IsDigits r (take (run r (c ∷ d ∷ e ∷ us)) (c ∷ d ∷ e ∷ us))) [
-      | true ↦ λ k. one_more_digit r c d (e ∷ us) h (take_digits r d (e ∷ us) k)
-      | false ↦ λ k. elim (d == 95) as (λ b. (d == 95) ≡ b → IsDigits r (take (run r (c ∷ d ∷ e ∷ us)) (c ∷ d ∷ e ∷ us))) [
-        | true ↦ λ l. elim (is_digit r e) as (λ b. is_digit r e ≡ b → IsDigits r (take (run r (c ∷ d ∷ e ∷ us)) (c ∷ d ∷ e ∷ us))) [
-          | true ↦ λ j. line_and_digit r c d e us h l k j (take_digits r e us j)
-          | false ↦ λ j. just_one r c (d ∷ e ∷ us) h (line_stop r d (e ∷ us) l k (ap (λ b. if b then suc (suc (run r us)) else 0) j))
-        ] refl
-        | false ↦ λ l. just_one r c (d ∷ e ∷ us) h (no_digits r d (e ∷ us) k l)
-      ] refl
-    ] refl
+    by_test (is_digit r d) (λ k. rw h (one_digit h (take_digits r d (e ∷ us) k)))
+    (λ k. by_test (d == 95) (λ l. by_test (is_digit r e) (λ j. line_and_digit r c d e us h l k j (take_digits r e us j))
+    (λ j. just_one r c (d ∷ e ∷ us) h (line_stop r d (e ∷ us) l k (rw j)))) (λ l. just_one r c (d ∷ e ∷ us) h (no_digits r d (e ∷ us) k l)))
 
 not_padded : (r : Radix) (ds rest : List ℕ) → is_left_out_number r ds rest ≡ false → is_padded r ds ≡ false
-not_padded radices.Binary ds rest h = refl
-not_padded radices.Hexadecimal ds rest h = refl
-not_padded radices.Decimal [] rest h = refl
-not_padded radices.Decimal (c ∷ []) rest h = refl
 not_padded radices.Decimal (c ∷ d ∷ ds) rest h =
     let o = or_parts (goes_on_as_float rest) (c == 48 && nat_lt 1 (length (c ∷ d ∷ ds))) h in
-    false_from_ne_true (c == 48) (λ e.
-    let z : true ≡ false = sym (ap (λ b. b && nat_lt 1 (length (c ∷ d ∷ ds))) e ∙ lt-ltb 1 (length (c ∷ d ∷ ds)) (omega arith)) ∙ o.1 in cc)
+    false_from_ne_true (c == 48) (λ e. let z : false ≡ true = sym o.1 ∙ rw e (lt-ltb 1 (length (c ∷ d ∷ ds)) (omega arith)) in cc)
+not_padded _ _ rest h = refl
 
 number_token : (r : Radix) (text us : List ℕ) (c : ℕ) (cs : List ℕ) (x : Cut) → text ≡ number_prefix r ++ us → us ≡ c ∷ cs → is_digit r c ≡ true
     → number_at r us ≡ Some x → TokenAt text x
@@ -498,11 +373,9 @@ record Prefixed (p : ℕ) (r : Radix) (bs : List ℕ) : Type 0 where
 
 prefixed : (p : ℕ) (r : Radix) (bs : List ℕ) → 0 < p → is_digit r 0 ≡ false → (slice_index bs 0 == 48) ≡ true → (slice_index bs 1 == p) ≡ true
     → is_digit r (slice_index bs 2) ≡ true → Prefixed p r bs
-prefixed p r [] l z h j k = absurd (let e : 0 ≡ 48 = eqb-true 0 48 h in omega (arith, e))
-prefixed p r (a ∷ []) l z h j k = absurd (let e : 0 ≡ p = eqb-true 0 p j in omega (arith, e))
+prefixed p r (a ∷ b ∷ d ∷ us) l z h j k = record { digit = d; others = us; is = rw (eqb-true a 48 h, eqb-true b p j); tested = k }
 prefixed p r (a ∷ b ∷ []) l z h j k = absurd (let e : false ≡ true = sym z ∙ k in cc)
-prefixed p r (a ∷ b ∷ d ∷ us) l z h j k =
-    record { digit = d; others = us; is = ap (λ a. a ∷ b ∷ d ∷ us) (eqb-true a 48 h) ∙ ap (λ b. 48 ∷ b ∷ d ∷ us) (eqb-true b p j); tested = k }
+prefixed p r _ l z h j k = absurd (let e : 0 ≡ p = eqb-true 0 p j in omega (arith, e))
 
 prefix_tested : (p : ℕ) (r : Radix) (bs : List ℕ) → 0 < p → is_digit r 0 ≡ false
     → (slice_index bs 0 == 48 && slice_index bs 1 == p && is_digit r (slice_index bs 2)) ≡ true → Prefixed p r bs
@@ -511,38 +384,25 @@ prefix_tested p r bs l z h =
     let f = and_parts (slice_index bs 0 == 48) (slice_index bs 1 == p) e.0 in
     prefixed p r bs l z f.0 f.1 e.1
 
--- how the number at the front is written tells its prefix
-is_prefixed : (r : Radix) (bs : List ℕ) → radix_of bs ≡ r
-    → (r ≡ radices.Decimal) ⊎ (((r ≡ radices.Binary) × Prefixed 98 radices.Binary bs) ⊎ ((r ≡ radices.Hexadecimal) × Prefixed 120 radices.Hexadecimal bs))
-is_prefixed r bs h =
-    let A = slice_index bs 0 == 48 && slice_index bs 1 == 120 && is_digit radices.Hexadecimal (slice_index bs 2) in
-    let B = slice_index bs 0 == 48 && slice_index bs 1 == 98 && is_digit radices.Binary (slice_index bs 2) in
-    elim A as (λ a. A ≡ a → (if a then radices.Hexadecimal else if B then radices.Binary else radices.Decimal) ≡ r
-    → (r ≡ radices.Decimal) ⊎
-    (((r ≡ radices.Binary) × Prefixed 98 radices.Binary bs) ⊎ ((r ≡ radices.Hexadecimal) × Prefixed 120 radices.Hexadecimal bs))) [
-      | true ↦ λ e h. inr (inr (sym h, prefix_tested 120 radices.Hexadecimal bs (omega arith) refl e))
-      | false ↦ λ e h. elim B as
-          (λ b. B ≡ b → (if b then radices.Binary else radices.Decimal) ≡ r
-          → (r ≡ radices.Decimal) ⊎
-          (((r ≡ radices.Binary) × Prefixed 98 radices.Binary bs) ⊎ ((r ≡ radices.Hexadecimal) × Prefixed 120 radices.Hexadecimal bs))) [
-            | true ↦ λ f h. inr (inl (sym h, prefix_tested 98 radices.Binary bs (omega arith) refl f))
-            | false ↦ λ f h. inl (sym h)
-          ] refl h
-    ] refl h
+-- by how the number at the front is written
+by_prefix : {P : Type 0} (bs : List ℕ) → (radix_of bs ≡ radices.Decimal → P) → (radix_of bs ≡ radices.Binary → Prefixed 98 radices.Binary bs → P)
+    → (radix_of bs ≡ radices.Hexadecimal → Prefixed 120 radices.Hexadecimal bs → P) → P
+by_prefix bs f g k =
+    by_test (slice_index bs 0 == 48 && slice_index bs 1 == 120 && is_digit radices.Hexadecimal (slice_index bs 2))
+    (λ e. k (rw e) (prefix_tested 120 radices.Hexadecimal bs (omega arith) refl e))
+    (λ e. by_test (slice_index bs 0 == 48 && slice_index bs 1 == 98 && is_digit radices.Binary (slice_index bs 2))
+    (λ i. g (rw (e, i)) (prefix_tested 98 radices.Binary bs (omega arith) refl i)) (λ i. f (rw (e, i))))
+
+prefixed_token : (p : ℕ) (r : Radix) (bs : List ℕ) (x : Cut) → number_prefix r ≡ 48 ∷ p ∷ [] → Prefixed p r bs → number_at r (drop 2 bs) ≡ Some x
+    → TokenAt bs x
+prefixed_token p r bs x z f e = number_token r bs (drop 2 bs) f.digit f.others x (rw (f.is, z)) (rw f.is) f.tested e
 
 number_found : (c : ℕ) (cs : List ℕ) (x : Cut) → is_ascii_digit c ≡ true → cut_number (c ∷ cs) ≡ Some x → TokenAt (c ∷ cs) x
 number_found c cs x h e =
     let bs = c ∷ cs in
-    elim (is_prefixed (radix_of bs) bs refl) [
-      | inl q ↦ number_token radices.Decimal bs bs c cs x refl refl h (sym (as_radix radices.Decimal bs q) ∙ e)
-      | inr p ↦ elim p [
-        | inl b ↦ let f = b.1 in number_token radices.Binary bs (drop 2 bs) f.digit f.others x
-            (f.is ∙ ap (λ us. 48 ∷ 98 ∷ us) (sym (ap (λ us. drop 2 us) f.is))) (ap (λ us. drop 2 us) f.is) f.tested (sym (as_radix radices.Binary bs b.0) ∙ e)
-        | inr b ↦ let f = b.1 in number_token radices.Hexadecimal bs (drop 2 bs) f.digit f.others x
-            (f.is ∙ ap (λ us. 48 ∷ 120 ∷ us) (sym (ap (λ us. drop 2 us) f.is))) (ap (λ us. drop 2 us) f.is) f.tested
-            (sym (as_radix radices.Hexadecimal bs b.0) ∙ e)
-      ]
-    ]
+    by_prefix bs (λ q. number_token radices.Decimal bs bs c cs x refl refl h (sym (as_radix radices.Decimal bs q) ∙ e))
+    (λ q f. prefixed_token 98 radices.Binary bs x refl f (sym (as_radix radices.Binary bs q) ∙ e))
+    (λ q f. prefixed_token 120 radices.Hexadecimal bs x refl f (sym (as_radix radices.Hexadecimal bs q) ∙ e))
 
 at_place : (n : ℕ) (cs : List ℕ) → n < length cs → (slice_index cs n == 39) ≡ true → cs ≡ take n cs ++ 39 ∷ drop 1 (drop n cs)
 at_place n cs l h =
@@ -592,40 +452,26 @@ mutual
   quoted_found : (bs : List ℕ) (q : Quoted) → quoted bs ≡ Some q → QuotedAt bs q
   quoted_found [] q h = absurd cc
   quoted_found (c ∷ cs) q h =
-      elim (c == 34) as (λ b. (c == 34) ≡ b → (if b then Some (record { bytes = []; rest = cs }) else if c == 92 then escaped cs else put (c ∷ []) (quoted cs))
-      ≡ Some q → QuotedAt (c ∷ cs) q) [
-        | true ↦ λ e h.
-            let k : record { bytes = []; rest = cs } ≡ q = cc in
-            let P : Quoted → Type 0 = λ q. QuotedAt (c ∷ cs) q in
-            subst P k (record { front = []; split = ap (λ c. c ∷ cs) (eqb-true c 34 e); spelled = nothing })
-        | false ↦ λ e h. elim (c == 92) as (λ b. (c == 92) ≡ b → (if b then escaped cs else put (c ∷ []) (quoted cs)) ≡ Some q → QuotedAt (c ∷ cs) q) [
-          | true ↦ λ k h. let P : ℕ → Type 0 = λ c. QuotedAt (c ∷ cs) q in subst P (sym (eqb-true c 92 k)) (escaped_found cs q h)
-          | false ↦ λ k h. quoted_more (c ∷ []) (c ∷ []) (c ∷ cs) cs q
-              (λ front ds i. plain_byte (λ z. let y : true ≡ false = sym (eq-eqb c 34 z) ∙ e in absurd cc)
-              (λ z. let y : true ≡ false = sym (eq-eqb c 92 z) ∙ k in absurd cc) i) refl h (λ p g. quoted_found cs p g)
-        ] refl h
-      ] refl h
+      by_test (c == 34) (λ e.
+      let k : record { bytes = []; rest = cs } ≡ q = (let i = rw e at h in cc) in
+      rw (← k) (record { front = []; split = ap (λ c. c ∷ cs) (eqb-true c 34 e); spelled = nothing }))
+      (λ e. by_test (c == 92) (λ k. rw (eqb-true c 92 k) (escaped_found cs q (rw (e, k) at h)))
+      (λ k. quoted_more (c ∷ []) (c ∷ []) (c ∷ cs) cs q (λ front ds i. plain_byte (eqb-false c 34 e) (eqb-false c 92 k) i) refl (rw (e, k) at h)
+      (λ p g. quoted_found cs p g)))
 
   escaped_found : (cs : List ℕ) (q : Quoted) → escaped cs ≡ Some q → QuotedAt (92 ∷ cs) q
   escaped_found [] q h = absurd cc
   escaped_found (e ∷ es) q h =
-      elim (e == 117) as (λ b. (e == 117) ≡ b → (if b then unicode es else (escape_of e >>= λ u. put (encode_utf8 u) (quoted es))) ≡ Some q
-      → QuotedAt (92 ∷ e ∷ es) q) [
-        | true ↦ λ k h. let P : ℕ → Type 0 = λ e. QuotedAt (92 ∷ e ∷ es) q in subst P (sym (eqb-true e 117 k)) (unicode_found es q h)
-        | false ↦ λ k h.
-            let b = bind_some (escape_of e) (λ u. put (encode_utf8 u) (quoted es)) q h in
-            quoted_more (92 ∷ e ∷ []) (encode_utf8 b.0) (92 ∷ e ∷ es) es q (λ front ds i. letter_escape b.1 i) refl b.2 (λ p g. quoted_found es p g)
-      ] refl h
+      by_test (e == 117) (λ k. rw (eqb-true e 117 k) (unicode_found es q (rw k at h))) (λ k.
+      let b = bind_some (escape_of e) (λ u. put (encode_utf8 u) (quoted es)) q (rw k at h) in
+      quoted_more (92 ∷ e ∷ []) (encode_utf8 b.0) (92 ∷ e ∷ es) es q (λ front ds i. letter_escape b.1 i) refl b.2 (λ p g. quoted_found es p g))
 
   unicode_found : (cs : List ℕ) (q : Quoted) → unicode cs ≡ Some q → QuotedAt (92 ∷ 117 ∷ cs) q
-  unicode_found [] q h = absurd cc
-  unicode_found (a ∷ []) q h = absurd cc
-  unicode_found (a ∷ b ∷ []) q h = absurd cc
-  unicode_found (a ∷ b ∷ c ∷ []) q h = absurd cc
   unicode_found (a ∷ b ∷ c ∷ d ∷ cs) q h =
       let k = bind_some (unicode_of a b c d) (λ u. put (encode_utf8 u) (quoted cs)) q h in
       quoted_more (92 ∷ 117 ∷ a ∷ b ∷ c ∷ d ∷ []) (encode_utf8 k.0) (92 ∷ 117 ∷ a ∷ b ∷ c ∷ d ∷ cs) cs q (λ front ds i. digits_escape k.1 i) refl k.2
       (λ p g. quoted_found cs p g)
+  unicode_found _ q h = absurd cc
 
 double_found : (cs : List ℕ) (x : Cut) → cut_double cs ≡ Some x → TokenAt (34 ∷ cs) x
 double_found cs x h =
@@ -646,42 +492,19 @@ byte_token : (c : ℕ) (cs : List ℕ) (s : Symbol) (x : Cut) → OneByte c s �
 byte_token c cs s x w e = token_at (c ∷ cs) (spelling s) cs (symbol s) x e (ap (λ ts. ts ++ cs) (sym w.spelled)) (sign s w.plain)
 
 symbol_found : (c : ℕ) (cs : List ℕ) (x : Cut) → cut_symbol (c ∷ cs) ≡ Some x → TokenAt (c ∷ cs) x
-symbol_found c cs x h =
-    elim (two_bytes c (slice_index (c ∷ cs) 1)) as
-    (λ o. two_bytes c (slice_index (c ∷ cs) 1) ≡ o
-    → (elim o [ Some s ↦ cut_at (symbol s) (drop 2 (c ∷ cs)) | None ↦ one_byte c >>= λ s. cut_at (symbol s) (drop 1 (c ∷ cs)) ]) ≡ Some x
-    → TokenAt (c ∷ cs) x) [
-      | Some s ↦ λ e h. let k : record { lexeme = symbol s; rest = drop 2 (c ∷ cs) } ≡ x =
-          cc in pair_token c cs s x (two_found c (slice_index (c ∷ cs) 1) s e) k
-      | None ↦ λ e h.
-          let b = bind_some (one_byte c) (λ s. cut_at (symbol s) (drop 1 (c ∷ cs))) x h in
-          let k : record { lexeme = symbol b.0; rest = cs } ≡ x = (let i = b.2 in cc) in
-          byte_token c cs b.0 x (one_found c b.0 b.1) k
-    ] refl h
+symbol_found c cs x h = by_option (two_bytes c (slice_index (c ∷ cs) 1))
+    (λ e. let b = bind_some (one_byte c) (λ s. cut_at (symbol s) cs) x (rw (e, cut_symbol) at h) in
+    byte_token c cs b.0 x (one_found c b.0 b.1) (cut_is (symbol b.0) cs x b.2))
+    (λ s e. pair_token c cs s x (two_found c (slice_index (c ∷ cs) 1) s e) (cut_is (symbol s) (drop 2 (c ∷ cs)) x (rw (e, cut_symbol) at h)))
 
 cut_found : (bs : List ℕ) (x : Cut) → cut bs ≡ Some x → TokenAt bs x
 cut_found [] x h = absurd (let k : None ≡ Some x = h in cc)
 cut_found (c ∷ cs) x h =
-    elim (is_name_start c) as
-    (λ b. is_name_start c ≡ b
-    → (if b then cut_name (c ∷ cs) else if is_ascii_digit c then cut_number (c ∷ cs) else if c == 39 then cut_single cs else if c == 34
-    then cut_double cs else cut_symbol (c ∷ cs)) ≡ Some x → TokenAt (c ∷ cs) x) [
-      | true ↦ λ e h. name_at c cs x e h
-      | false ↦ λ e h. elim (is_ascii_digit c) as
-          (λ b. is_ascii_digit c ≡ b
-          → (if b then cut_number (c ∷ cs) else if c == 39 then cut_single cs else if c == 34 then cut_double cs else cut_symbol (c ∷ cs)) ≡ Some x
-          → TokenAt (c ∷ cs) x) [
-            | true ↦ λ e h. number_found c cs x e h
-            | false ↦ λ e h. elim (c == 39) as
-                (λ b. (c == 39) ≡ b → (if b then cut_single cs else if c == 34 then cut_double cs else cut_symbol (c ∷ cs)) ≡ Some x → TokenAt (c ∷ cs) x) [
-                  | true ↦ λ e h. let P : ℕ → Type 0 = λ c. TokenAt (c ∷ cs) x in subst P (sym (eqb-true c 39 e)) (single_found cs x h)
-                  | false ↦ λ e h. elim (c == 34) as (λ b. (c == 34) ≡ b → (if b then cut_double cs else cut_symbol (c ∷ cs)) ≡ Some x → TokenAt (c ∷ cs) x) [
-                    | true ↦ λ e h. let P : ℕ → Type 0 = λ c. TokenAt (c ∷ cs) x in subst P (sym (eqb-true c 34 e)) (double_found cs x h)
-                    | false ↦ λ e h. symbol_found c cs x h
-                  ] refl h
-                ] refl h
-          ] refl h
-    ] refl h
+    by_test (is_name_start c) (λ e. name_at c cs x e (sym (at_name c cs e) ∙ h))
+    (λ e. by_test (is_ascii_digit c) (λ f. number_found c cs x f (sym (at_digit c cs f) ∙ h))
+    (λ f. by_test (c == 39) (λ g. let i = eqb-true c 39 g in rw i (single_found cs x (rw i at h)))
+    (λ g. by_test (c == 34) (λ k. let i = eqb-true c 34 k in rw i (double_found cs x (rw i at h)))
+    (λ k. symbol_found c cs x (rw (e, f, g, k) at h)))))
 
 is_longest : (text : List ℕ) (x : Cut) → cut text ≡ Some x → IsLongest text x
 is_longest text x h =
@@ -713,35 +536,22 @@ name_stops w (d ∷ us) (begun {c} {cs} h k) n =
     (false_from_ne_true (is_name_byte d) (λ e. not_with w (d ∷ []) us n (omega arith) (like_name (begun h (All-push (λ b. is_name_byte b ≡ true) cs d k e)))))
 
 not_format : (w rest : List ℕ) → NoLonger w rest → (bytes_eq w (codes "f") && slice_index rest 0 == 34) ≡ false
-not_format w [] n = false_from_ne_true (bytes_eq w (codes "f") && slice_index [] 0 == 34)
-    (λ e. let k = (and_parts (bytes_eq w (codes "f")) (slice_index [] 0 == 34) e).1 in absurd cc)
+not_format w [] n = false_from_ne_true _ (λ e. let k = (and_parts (bytes_eq w (codes "f")) (slice_index [] 0 == 34) e).1 in absurd cc)
 not_format w (d ∷ us) n =
-    false_from_ne_true (bytes_eq w (codes "f") && d == 34) (λ e.
+    false_from_ne_true _ (λ e.
     let k = and_parts (bytes_eq w (codes "f")) (d == 34) e in
     let i : w ≡ codes "f" = (bytes_eq-Decides w (codes "f")).0 k.0 in
-    let j : w ++ d ∷ us ≡ codes "f\"" ++ us = ap (λ w. w ++ d ∷ us) i ∙ ap (λ d. 102 ∷ d ∷ us) (eqb-true d 34 k.1) in
-    n (codes "f\"") us j (omega (arith, ap length i)) like_format)
-
--- what a name's run makes of a text
-abbrev name_from : List ℕ → List ℕ → Option Cut
-name_from w bs = if bytes_eq w (codes "f") && slice_index (drop (length w) bs) 0 == 34 then None else cut_at (word_lexeme w) (drop (length w) bs)
+    n (codes "f\"") us (rw (i, eqb-true d 34 k.1)) (omega (arith, ap length i)) like_format)
 
 name_is_cut : (w rest : List ℕ) → IsName w → NoLonger w rest → cut (w ++ rest) ≡ cut_at (word_lexeme w) rest
 name_is_cut w rest (begun {c} {cs} h k) n =
-    at_name c (cs ++ rest) h
-    ∙ ap (λ v. name_from v (w ++ rest)) (name_run w rest (name_bytes w (begun h k)) ∙ ap (λ us. w ++ us) (name_stops w rest (begun h k) n) ∙ append-nil w)
-    ∙ ap (λ us. if bytes_eq w (codes "f") && slice_index us 0 == 34 then None else cut_at (word_lexeme w) us) (drop_at w rest (length w) refl)
-    ∙ ap (λ b. if b then None else cut_at (word_lexeme w) rest) (not_format w rest n)
+    let e : take_while is_name_byte (w ++ rest) ≡ w = name_run w rest (name_bytes w (begun h k)) ∙ rw (name_stops w rest (begun h k) n) (append-nil w) in
+    at_name c (cs ++ rest) h ∙ rw (e, drop_at w rest (length w) refl, not_format w rest n)
 
-digits_push : (r : Radix) (ds : List ℕ) (d : ℕ) → IsDigits r ds → is_digit r d ≡ true → IsDigits r (ds ++ d ∷ [])
-digits_push r ds d (last_digit h) k = one_digit h (last_digit k)
-digits_push r ds d (one_digit {cs = cs} h j) k = one_digit h (digits_push r cs d j k)
-digits_push r ds d (digit_and_line {cs = cs} h j) k = digit_and_line h (digits_push r cs d j k)
-
-digits_push_line : (r : Radix) (ds : List ℕ) (d : ℕ) → IsDigits r ds → is_digit r d ≡ true → IsDigits r (ds ++ 95 ∷ d ∷ [])
-digits_push_line r ds d (last_digit h) k = digit_and_line h (last_digit k)
-digits_push_line r ds d (one_digit {cs = cs} h j) k = one_digit h (digits_push_line r cs d j k)
-digits_push_line r ds d (digit_and_line {cs = cs} h j) k = digit_and_line h (digits_push_line r cs d j k)
+digits_push : (r : Radix) (ds es : List ℕ) → IsDigits r ds → ((c : ℕ) → is_digit r c ≡ true → IsDigits r (c ∷ es)) → IsDigits r (ds ++ es)
+digits_push r ds es (last_digit {c = c} h) f = f c h
+digits_push r ds es (one_digit {cs = cs} h j) f = one_digit h (digits_push r cs es j f)
+digits_push r ds es (digit_and_line {cs = cs} h j) f = digit_and_line h (digits_push r cs es j f)
 
 -- no digits go on after a number's
 abbrev NoMore : Radix → List ℕ → List ℕ → Type 0
@@ -750,27 +560,21 @@ NoMore r ds rest = (next behind : List ℕ) → rest ≡ next ++ behind → 0 < 
 behind_stops : (r : Radix) (ds us : List ℕ) → IsDigits r ds
     → ((next behind : List ℕ) → us ≡ next ++ behind → 0 < length next → IsDigits r (ds ++ 95 ∷ next) → ⊥) → run_behind r us ≡ 0
 behind_stops r ds [] k n = refl
-behind_stops r ds (e ∷ us) k n = ap (λ b. if b then suc (suc (run r us)) else 0)
-    (false_from_ne_true (is_digit r e) (λ h. n (e ∷ []) us refl (omega arith) (digits_push_line r ds e k h)))
+behind_stops r ds (e ∷ us) k n = rw (false_from_ne_true (is_digit r e)
+    (λ h. n (e ∷ []) us refl (omega arith) (digits_push r ds (95 ∷ e ∷ []) k (λ c i. digit_and_line i (last_digit h)))))
 
 digits_stop : (r : Radix) (ds rest : List ℕ) → IsDigits r ds → NoMore r ds rest → run r rest ≡ 0
 digits_stop r ds [] k n = refl
 digits_stop r ds (d ∷ us) k n =
-    let e : is_digit r d ≡ false = false_from_ne_true (is_digit r d) (λ e. n (d ∷ []) us refl (omega arith) (digits_push r ds d k e)) in
-    elim (d == 95) as (λ b. (d == 95) ≡ b → run r (d ∷ us) ≡ 0) [
-      | true ↦ λ l. line_stop r d us l e
-          (behind_stops r ds us k
-          (let i = eqb-true d 95 l in λ next behind s m j. n (95 ∷ next) behind (ap (λ d. d ∷ us) i ∙ ap (λ us. 95 ∷ us) s) (omega arith) j))
-      | false ↦ λ l. no_digits r d us e l
-    ] refl
+    let e : is_digit r d ≡ false =
+    false_from_ne_true (is_digit r d) (λ e. n (d ∷ []) us refl (omega arith) (digits_push r ds (d ∷ []) k (λ c i. one_digit i (last_digit e)))) in
+    by_test (d == 95)
+    (λ l. line_stop r d us l e (behind_stops r ds us k (λ next behind s m j. n (95 ∷ next) behind (rw (eqb-true d 95 l, s)) (omega arith) j)))
+    (λ l. no_digits r d us e l)
 
 number_goes_on : (r : Radix) (ds rest : List ℕ) → NoLonger (number_prefix r ++ ds) rest → NoMore r ds rest
 number_goes_on r ds rest n next behind s l k =
-    n (number_prefix r ++ (ds ++ next)) behind
-    (append_assoc (number_prefix r) ds rest ∙ ap (λ us. number_prefix r ++ (ds ++ us)) s
-    ∙ ap (λ us. number_prefix r ++ us) (sym (append_assoc ds next behind)) ∙ sym (append_assoc (number_prefix r) (ds ++ next) behind))
-    (omega (arith, length-append (number_prefix r) ds, length-append (number_prefix r) (ds ++ next), length-append ds next))
-    (like_number r (ds ++ next) k refl)
+    n (number_prefix r ++ (ds ++ next)) behind (rw s (simp append_assoc)) (omega (arith, length-append {A = ℕ})) (like_number r (ds ++ next) k refl)
 
 -- what goes on as a float begins one
 record FloatFront (rest : List ℕ) : Type 0 where
@@ -780,21 +584,17 @@ record FloatFront (rest : List ℕ) : Type 0 where
   begins : BeginsFloat front
 
 fraction_front : (rest : List ℕ) → (slice_index rest 0 == 46) ≡ true → is_ascii_digit (slice_index rest 1) ≡ true → FloatFront rest
-fraction_front [] h k = absurd cc
-fraction_front (a ∷ []) h k = absurd cc
 fraction_front (a ∷ b ∷ us) h k = record { front = 46 ∷ b ∷ []; behind = us; split = ap (λ a. a ∷ b ∷ us) (eqb-true a 46 h); begins = fraction k }
+fraction_front _ h k = absurd cc
 
 exponent_front : (rest : List ℕ) → (slice_index rest 0 == 101 || slice_index rest 0 == 69) ≡ true → is_ascii_digit (slice_index rest 1) ≡ true → FloatFront rest
-exponent_front [] h k = absurd cc
-exponent_front (a ∷ []) h k = absurd cc
 exponent_front (a ∷ b ∷ us) h k = record { front = a ∷ b ∷ []; behind = us; split = refl; begins = exponent h k }
+exponent_front _ h k = absurd cc
 
 signed_front : (rest : List ℕ) → (slice_index rest 0 == 101 || slice_index rest 0 == 69) ≡ true → (slice_index rest 1 == 43 || slice_index rest 1 == 45) ≡ true
     → is_ascii_digit (slice_index rest 2) ≡ true → FloatFront rest
-signed_front [] h j k = absurd cc
-signed_front (a ∷ []) h j k = absurd cc
-signed_front (a ∷ b ∷ []) h j k = absurd cc
 signed_front (a ∷ b ∷ c ∷ us) h j k = record { front = a ∷ b ∷ c ∷ []; behind = us; split = refl; begins = signed_exponent h j k }
+signed_front _ h j k = absurd cc
 
 float_front : (rest : List ℕ) → goes_on_as_float rest ≡ true → FloatFront rest
 float_front rest h =
@@ -818,26 +618,19 @@ not_more_digits (c ∷ d ∷ ds) p = ap (λ b. b && nat_lt 1 (length (c ∷ d �
 
 kept_number : (r : Radix) (ds rest : List ℕ) → IsDigits r ds → is_padded r ds ≡ false → NoLonger (number_prefix r ++ ds) rest
     → is_left_out_number r ds rest ≡ false
-kept_number radices.Binary ds rest k p n = refl
-kept_number radices.Hexadecimal ds rest k p n = refl
 kept_number radices.Decimal ds rest k p n =
     let no_float : goes_on_as_float rest ≡ false = false_from_ne_true (goes_on_as_float rest) (λ e.
     let f = float_front rest e in
     let g = float_head f.front f.begins in
     n (ds ++ f.front) f.behind (ap (λ us. ds ++ us) f.split ∙ sym (append_assoc ds f.front f.behind)) (omega (arith, length-append ds f.front, ap length g.2))
     (like_float ds f.front k f.begins refl)) in
-    ap (λ b. b || (slice_index ds 0 == 48 && nat_lt 1 (length ds))) no_float ∙ not_more_digits ds p
+    rw no_float (not_more_digits ds p)
+kept_number _ ds rest k p n = refl
 
 not_prefixed : (text ds rest : List ℕ) → text ≡ ds ++ rest → length ds < 3 → NoLonger ds rest → radix_of text ≡ radices.Decimal
-not_prefixed text ds rest s l n =
-    elim (is_prefixed (radix_of text) text refl) [
-      | inl q ↦ q
-      | inr p ↦ absurd (elim p [
-        | inl b ↦ let f = b.1 in n (48 ∷ 98 ∷ f.digit ∷ []) f.others (sym s ∙ f.is) l (like_number radices.Binary (f.digit ∷ []) (last_digit f.tested) refl)
-        | inr b ↦ let f = b.1 in n (48 ∷ 120 ∷ f.digit ∷ []) f.others (sym s ∙ f.is) l
-            (like_number radices.Hexadecimal (f.digit ∷ []) (last_digit f.tested) refl)
-      ])
-    ]
+not_prefixed text ds rest s l n = by_prefix text (λ q. q)
+    (λ q f. absurd (n (48 ∷ 98 ∷ f.digit ∷ []) f.others (sym s ∙ f.is) l (like_number radices.Binary (f.digit ∷ []) (last_digit f.tested) refl)))
+    (λ q f. absurd (n (48 ∷ 120 ∷ f.digit ∷ []) f.others (sym s ∙ f.is) l (like_number radices.Hexadecimal (f.digit ∷ []) (last_digit f.tested) refl)))
 
 decimal_alone : (ds rest : List ℕ) → IsDigits radices.Decimal ds → NoLonger ds rest → radix_of (ds ++ rest) ≡ radices.Decimal
 decimal_alone ds rest (last_digit {c = c} h) n = not_prefixed (c ∷ rest) (c ∷ []) rest refl (omega arith) n
@@ -855,25 +648,16 @@ begins_number radices.Decimal ds rest k n = cut_decimal ds rest k (decimal_alone
 number_is_cut : (r : Radix) (ds rest : List ℕ) → IsDigits r ds → is_padded r ds ≡ false → natural r 0 ds < 2 ^ 64 → NoLonger (number_prefix r ++ ds) rest
     → cut (number_prefix r ++ (ds ++ rest)) ≡ cut_at (constant (integer (natural r 0 ds))) rest
 number_is_cut r ds rest k p b n =
-    begins_number r ds rest k n
-    ∙ number_whole r ds rest k (digits_stop r ds rest k (number_goes_on r ds rest n))
-    ∙ ap (λ b. if b then None else if nat_lt (natural r 0 ds) (2 ^ 64) then cut_at (constant (integer (natural r 0 ds))) rest else None)
-    (kept_number r ds rest k p n)
-    ∙ ap (λ b. if b then cut_at (constant (integer (natural r 0 ds))) rest else None) (lt-ltb (natural r 0 ds) (2 ^ 64) b)
+    begins_number r ds rest k n ∙ number_whole r ds rest k (digits_stop r ds rest k (number_goes_on r ds rest n))
+    ∙ rw (kept_number r ds rest k p n, lt-ltb (natural r 0 ds) (2 ^ 64) b)
 
 no_pair : (c : ℕ) (rest : List ℕ) → NoLonger (c ∷ []) rest → (t : Symbol) → TwoBytes c (slice_index (c ∷ rest) 1) t → ⊥
 no_pair c [] n t w = omega (arith, w.there)
 no_pair c (d ∷ us) n t w = n (spelling t) us (ap (λ ts. ts ++ us) (sym w.spelled)) (omega (arith, ap length w.spelled)) (like_symbol t w.plain)
 
 byte_is_cut : (c : ℕ) (s : Symbol) (rest : List ℕ) → one_byte c ≡ Some s → NoLonger (c ∷ []) rest → cut_symbol (c ∷ rest) ≡ cut_at (symbol s) rest
-byte_is_cut c s rest h n =
-    elim (two_bytes c (slice_index (c ∷ rest) 1)) as
-    (λ o. two_bytes c (slice_index (c ∷ rest) 1) ≡ o
-    → (elim o [ Some s ↦ cut_at (symbol s) (drop 2 (c ∷ rest)) | None ↦ one_byte c >>= λ s. cut_at (symbol s) (drop 1 (c ∷ rest)) ])
-    ≡ cut_at (symbol s) rest) [
-      | Some t ↦ λ e. absurd (no_pair c rest n t (two_found c (slice_index (c ∷ rest) 1) t e))
-      | None ↦ λ e. ap (λ o. o >>= λ s. cut_at (symbol s) rest) h
-    ] refl
+byte_is_cut c s rest h n = by_option (two_bytes c (slice_index (c ∷ rest) 1)) (λ e. rw (e, h, cut_symbol))
+    (λ t e. absurd (no_pair c rest n t (two_found c (slice_index (c ∷ rest) 1) t e)))
 
 symbol_is_cut : (s : Symbol) (bs rest : List ℕ) → IsFound s bs → NoLonger bs rest → cut (bs ++ rest) ≡ cut_at (symbol s) rest
 symbol_is_cut s bs rest (by_one c b k) n = k rest ∙ byte_is_cut c s rest b n
@@ -912,18 +696,14 @@ has_shape piece t (sign s w) = like_symbol s w
 pub no_shorter : (text piece : List ℕ) (x y : Cut) → IsLongest text x → text ≡ piece ++ y.rest → IsToken piece y.lexeme → length x.rest ≤ length y.rest
 no_shorter text piece x y l s k = no_longer piece y.rest x (has_shape piece y.lexeme k) (ap cut (sym s) ∙ is_cut text x l)
 
-either_one : (b : Bool) (x y t : Lexeme) → (x ≡ t → ⊥) → (y ≡ t → ⊥) → (if b then x else y) ≡ t → ⊥
-either_one true x y t f g h = f h
-either_one false x y t f g h = g h
-
 -- no name is the token `<`
 word_no_less : (w : List ℕ) → word_lexeme w ≡ symbol tok.Less → ⊥
 word_no_less w h =
-    either_one (bytes_eq w (codes "true")) _ _ (symbol tok.Less) (λ h. absurd cc) (λ h.
-    either_one (bytes_eq w (codes "false")) _ _ (symbol tok.Less) (λ h. absurd cc) (λ h.
-    either_one (bytes_eq w (codes "and")) _ _ (symbol tok.Less) (λ h. absurd cc) (λ h.
-    either_one (bytes_eq w (codes "or")) _ _ (symbol tok.Less) (λ h. absurd cc) (λ h.
-    either_one (bytes_eq w (codes "not")) _ _ (symbol tok.Less) (λ h. absurd cc) (λ h. absurd cc) h) h) h) h) h
+    by_test (bytes_eq w (codes "true")) (λ a. let i = rw a at h in cc) (λ a.
+    by_test (bytes_eq w (codes "false")) (λ b. let i = rw (a, b) at h in cc) (λ b.
+    by_test (bytes_eq w (codes "and")) (λ c. let i = rw (a, b, c) at h in cc) (λ c.
+    by_test (bytes_eq w (codes "or")) (λ d. let i = rw (a, b, c, d) at h in cc) (λ d.
+    by_test (bytes_eq w (codes "not")) (λ e. let i = rw (a, b, c, d, e) at h in cc) (λ e. let i = rw (a, b, c, d, e) at h in cc)))))
 
 less_piece : (piece : List ℕ) (t : Lexeme) → IsToken piece t → t ≡ symbol tok.Less → piece ≡ 60 ∷ []
 less_piece piece t (name k) h = absurd (word_no_less piece h)
@@ -937,30 +717,23 @@ abbrev ends_less : ℕ → Bool
 ends_less d = if d == 60 || d == 61 then false else true
 
 ends_less_is : (d : ℕ) → ends_less d ≡ true → ((d == 60) ≡ false) × ((d == 61) ≡ false)
-ends_less_is d h = elim (d == 60 || d == 61) as (λ b. (d == 60 || d == 61) ≡ b → (if b then false else true) ≡ true
-    → ((d == 60) ≡ false) × ((d == 61) ≡ false)) [
-      | true ↦ λ e h. absurd cc
-      | false ↦ λ e h. or_parts (d == 60) (d == 61) e
-    ] refl h
+ends_less_is d h = by_test (d == 60 || d == 61) (λ e. absurd (let i = rw e at h in cc)) (λ e. or_parts (d == 60) (d == 61) e)
 
 less_forth : (bs : List ℕ) → (slice_index bs 0 == 60 && ends_less (slice_index bs 1)) ≡ true → cut bs ≡ cut_at (symbol tok.Less) (drop 1 bs)
 less_forth [] h = absurd cc
 less_forth (a ∷ us) h =
     let k = and_parts (a == 60) (ends_less (slice_index (a ∷ us) 1)) h in
-    let d = slice_index (a ∷ us) 1 in
-    let e = ends_less_is d k.1 in
-    let i : two_bytes 60 d ≡ None = ap (λ b. if b then Some tok.ShiftLeft else if d == 61 then Some tok.LessOrEqual else None) e.0
-    ∙ ap (λ b. if b then Some tok.LessOrEqual else None) e.1 in
-    ap (λ a. cut (a ∷ us)) (eqb-true a 60 k.0)
-    ∙ ap (λ (o : Option Symbol). elim o [ Some s ↦ cut_at (symbol s) (drop 2 (60 ∷ us)) | None ↦ cut_at (symbol tok.Less) us ]) i
+    let e = ends_less_is (slice_index (a ∷ us) 1) k.1 in
+    let i : two_bytes 60 (slice_index (a ∷ us) 1) ≡ None = rw (e.0, e.1) in
+    rw (eqb-true a 60 k.0) (ap (λ (o : Option Symbol). elim o [ Some s ↦ cut_at (symbol s) (drop 2 (60 ∷ us)) | None ↦ cut_at (symbol tok.Less) us ]) i)
 
 less_ends : (rest : List ℕ) → ((d : ℕ) (us : List ℕ) → 60 ∷ rest ≡ 60 ∷ d ∷ us → ((s : Symbol) × (spelling s ≡ 60 ∷ d ∷ []) × (is_word s ≡ false)) → ⊥)
     → ends_less (slice_index (60 ∷ rest) 1) ≡ true
 less_ends [] n = refl
 less_ends (d ∷ us) n =
-    ap (λ b. if b then false else true) (false_from_ne_true (d == 60 || d == 61) (λ e. elim (or_cases (d == 60) (d == 61) e) [
-      | inl h ↦ n d us refl (tok.ShiftLeft, ap (λ d. 60 ∷ d ∷ []) (sym (eqb-true d 60 h)), refl)
-      | inr h ↦ n d us refl (tok.LessOrEqual, ap (λ d. 60 ∷ d ∷ []) (sym (eqb-true d 61 h)), refl)
+    rw (false_from_ne_true (d == 60 || d == 61) (λ e. elim (or_cases (d == 60) (d == 61) e) [
+      | inl h ↦ n d us refl (tok.ShiftLeft, rw (eqb-true d 60 h), refl)
+      | inr h ↦ n d us refl (tok.LessOrEqual, rw (eqb-true d 61 h), refl)
     ]))
 
 less_back : (bs : List ℕ) (x : Cut) → IsLongest bs x → x.lexeme ≡ symbol tok.Less → (slice_index bs 0 == 60 && ends_less (slice_index bs 1)) ≡ true

@@ -261,7 +261,7 @@ more_made {d} {p} {ts} a b x s c r h = at_list (λ x. SoundMore d ts p x) (argum
 
 literal_sound : (v : Constant) (ts : List Lexeme) (d p : ℕ) (x : Found) → spend p (λ p. found (literal v) ts p) ≡ Some x → Sound Primary d (constant v ∷ ts) p x
 literal_sound v ts d p x h =
-    with_spend p (λ p. found (literal v) ts p) x h (λ q i h.
+    with_spend p _ x h (λ q i h.
     at_found (λ x. Sound Primary d (constant v ∷ ts) p x) (literal v) ts q x h
     (record { front = constant v ∷ []; cut = refl; spelled = literal_alone; spent = omega (arith, i) }))
 
@@ -274,8 +274,8 @@ word_sound w ts d p x h =
     → Sound Primary d (word w ∷ ts) p x) [
       | true ↦ λ e h. absurd cc
       | false ↦ λ e h.
-          with_bind (path_on w ts) (λ y. spend p (λ p. found (path_tree y.what) y.behind p)) x h (λ y r h.
-          with_spend p (λ p. found (path_tree y.what) y.behind p) x h (λ q i h.
+          with_bind (path_on w ts) _ x h (λ y r h.
+          with_spend p _ x h (λ q i h.
           at_found (λ x. Sound Primary d (word w ∷ ts) p x) (path_tree y.what) y.behind q x h (path_sound w ts d p q y e (path_on_some w ts y r) i)))
     ] refl h
 
@@ -283,54 +283,52 @@ cast_sound : (before : List Lexeme) (e : Tree) (d : ℕ) (ts : List Lexeme) (p :
     → spend p (λ p. after tok.As ts >>= λ us. after tok.Less us >>= λ vs. path_at vs >>= λ x. after tok.Greater x.behind
     >>= λ ws. found (cast e (record { path = x.what; number = None })) ws p) ≡ Some x → Onward Postfix d before e (symbol tok.Dot ∷ ts) p x
 cast_sound before e d ts p x s h =
-    with_spend p (λ p. after tok.As ts >>= λ us. after tok.Less us >>= λ vs. path_at vs >>= λ x. after tok.Greater x.behind
-    >>= λ ws. found (cast e (record { path = x.what; number = None })) ws p) x h (λ q j h.
+    with_spend p _ x h (λ q j h.
     with_bind (after tok.As ts)
-    (λ us. after tok.Less us >>= λ vs. path_at vs >>= λ x. after tok.Greater x.behind >>= λ ws. found (cast e (record { path = x.what; number = None }))
-    ws q) x h (λ us u h.
-    with_bind (after tok.Less us) (λ vs. path_at vs >>= λ x. after tok.Greater x.behind >>= λ ws. found (cast e (record { path = x.what; number = None })) ws q)
+    _ x h (λ us u h.
+    with_bind (after tok.Less us) _
     x h (λ vs l h.
-    with_bind (path_at vs) (λ x. after tok.Greater x.behind >>= λ ws. found (cast e (record { path = x.what; number = None })) ws q) x h (λ m y h.
-    with_bind (after tok.Greater m.behind) (λ ws. found (cast e (record { path = m.what; number = None })) ws q) x h (λ ws g h.
+    with_bind (path_at vs) _ x h (λ m y h.
+    with_bind (after tok.Greater m.behind) _ x h (λ ws g h.
     cast_made before e d ts m x s j (after_some tok.As ts us u) (after_some tok.Less us vs l) (path_some vs m y) (after_some tok.Greater m.behind ws g) h)))))
 
 mutual
   pub reads_sound : (n : ℕ) (l : Level) (d : ℕ) (ts : List Lexeme) (p : ℕ) (x : Found) → reads n l d ts p ≡ Some x → Sound l d ts p x
   reads_sound zero l d ts p x h = absurd cc
   reads_sound (suc n) Whole d ts p x h =
-      with_bind (reads n (Joined tier.Or) d ts p) (λ a. picks n a.tree d a.rest a.left) x h (λ a r h.
+      with_bind (reads n (Joined tier.Or) d ts p) _ x h (λ a r h.
       both a x (reads_sound n (Joined tier.Or) d ts p a r) (λ front s. picks_sound n front a.tree d a.rest a.left x s h))
   reads_sound (suc n) (Joined k) d ts p x h =
-      with_bind (reads n (tighter k) d ts p) (λ a. joins n k a.tree d a.rest a.left) x h (λ a r h.
+      with_bind (reads n (tighter k) d ts p) _ x h (λ a r h.
       both a x (reads_sound n (tighter k) d ts p a r) (λ front s. joins_sound n k front a.tree d a.rest a.left x (no_join s) h))
   reads_sound (suc n) Negation d ts p x h =
-      with_choice (after tok.Not ts) (reads n Comparison d ts p) (λ us. negates n d us p) x h
+      with_choice (after tok.Not ts) _ _ x h
       (λ c h. let s = reads_sound n Comparison d ts p x h in
       record { front = s.front; cut = s.cut; spelled = no_negation s.spelled; spent = s.spent })
       (λ us c h. as_cut (after_some tok.Not ts us c) (negates_sound n d us p x h))
   reads_sound (suc n) Comparison d ts p x h =
-      with_bind (reads n (Joined tier.BitOr) d ts p) (λ a. compares n a.tree d a.rest a.left) x h (λ a r h.
+      with_bind (reads n (Joined tier.BitOr) d ts p) _ x h (λ a r h.
       both a x (reads_sound n (Joined tier.BitOr) d ts p a r) (λ front s. compares_sound n front a.tree d a.rest a.left x s h))
   reads_sound (suc n) Prefix d ts p x h =
-      with_choice (prefix_at ts) (reads n Postfix d ts p) (λ y. prefixes n y.what d y.behind p) x h
+      with_choice (prefix_at ts) _ _ x h
       (λ c h. let s = reads_sound n Postfix d ts p x h in
       record { front = s.front; cut = s.cut; spelled = no_prefix s.spelled; spent = s.spent })
       (λ y c h. let o = prefix_some ts y c in as_cut o.1 (prefixes_sound n o.0 y.what d y.behind p x o.2 h))
   reads_sound (suc n) Postfix d ts p x h =
-      with_bind (reads n Primary d ts p) (λ a. goes_on n a.tree d a.rest a.left) x h (λ a r h.
+      with_bind (reads n Primary d ts p) _ x h (λ a r h.
       both a x (reads_sound n Primary d ts p a r) (λ front s. goes_on_sound n front a.tree d a.rest a.left x (no_postfix s) h))
   reads_sound (suc n) Primary d [] p x h = absurd cc
   reads_sound (suc n) Primary d (constant v ∷ ts) p x h = literal_sound v ts d p x h
   reads_sound (suc n) Primary d (word w ∷ ts) p x h = word_sound w ts d p x h
   reads_sound (suc n) Primary d (symbol s ∷ ts) p x h =
-      with_bind (after tok.OpenParenthesis (symbol s ∷ ts)) (λ us. groups n d us p) x h (λ us c h.
+      with_bind (after tok.OpenParenthesis (symbol s ∷ ts)) _ x h (λ us c h.
       as_cut (after_some tok.OpenParenthesis (symbol s ∷ ts) us c) (groups_sound n d us p x h))
 
   picks_sound : (n : ℕ) (before : List Lexeme) (e : Tree) (d : ℕ) (ts : List Lexeme) (p : ℕ) (x : Found) → Spells d (Joined tier.Or) before e
       → picks n e d ts p ≡ Some x → Onward Whole d before e ts p x
   picks_sound zero before e d ts p x s h = absurd cc
   picks_sound (suc n) before e d ts p x s h =
-      with_choice (after tok.Question ts) (found e ts p) (λ us. arms n e d us p) x h
+      with_choice (after tok.Question ts) _ _ x h
       (λ c h. stays before e ts p x h (no_pick s))
       (λ us c h. onward_cut (after_some tok.Question ts us c) (arms_sound n before e d us p x s h))
 
@@ -338,71 +336,68 @@ mutual
       → arms n e d ts p ≡ Some x → Onward Whole d before e (symbol tok.Question ∷ ts) p x
   arms_sound zero before e d ts p x s h = absurd cc
   arms_sound (suc n) before e d ts p x s h =
-      with_spend d (λ d. spend p
-      (λ p. reads n Whole d ts p >>= λ a. after tok.Colon a.rest >>= λ us. reads n Whole d us a.left
-      >>= λ b. found (choice e a.tree b.tree) b.rest b.left)) x h (λ g i h.
-      with_spend p (λ p. reads n Whole g ts p >>= λ a. after tok.Colon a.rest >>= λ us. reads n Whole g us a.left
-      >>= λ b. found (choice e a.tree b.tree) b.rest b.left) x h (λ q j h.
-      with_bind (reads n Whole g ts q) (λ a. after tok.Colon a.rest >>= λ us. reads n Whole g us a.left >>= λ b. found (choice e a.tree b.tree) b.rest b.left) x
+      with_spend d _ x h (λ g i h.
+      with_spend p _ x h (λ q j h.
+      with_bind (reads n Whole g ts q) _ x
       h (λ a r h.
-      with_bind (after tok.Colon a.rest) (λ us. reads n Whole g us a.left >>= λ b. found (choice e a.tree b.tree) b.rest b.left) x h (λ us c h.
-      with_bind (reads n Whole g us a.left) (λ b. found (choice e a.tree b.tree) b.rest b.left) x h (λ b t h.
+      with_bind (after tok.Colon a.rest) _ x h (λ us c h.
+      with_bind (reads n Whole g us a.left) _ x h (λ b t h.
       arms_made before e a b x s i j (reads_sound n Whole g ts q a r) (after_some tok.Colon a.rest us c) (reads_sound n Whole g us a.left b t) h)))))
 
   joins_sound : (n : ℕ) (k : Precedence) (before : List Lexeme) (e : Tree) (d : ℕ) (ts : List Lexeme) (p : ℕ) (x : Found) → Spells d (Joined k) before e
       → joins n k e d ts p ≡ Some x → Onward (Joined k) d before e ts p x
   joins_sound zero k before e d ts p x s h = absurd cc
   joins_sound (suc n) k before e d ts p x s h =
-      with_choice (operator_at k ts) (found e ts p)
-      (λ y. spend p (λ p. reads n (tighter k) d y.behind p >>= λ a. joins n k (join_tree y.what e a.tree) d a.rest a.left)) x h
+      with_choice (operator_at k ts) _
+      _ x h
       (λ c h. stays before e ts p x h s)
       (λ y c h. let o = operator_some k ts y c in
-      with_spend p (λ p. reads n (tighter k) d y.behind p >>= λ a. joins n k (join_tree y.what e a.tree) d a.rest a.left) x h (λ q j h.
-      with_bind (reads n (tighter k) d y.behind q) (λ a. joins n k (join_tree y.what e a.tree) d a.rest a.left) x h (λ a r h.
+      with_spend p _ x h (λ q j h.
+      with_bind (reads n (tighter k) d y.behind q) _ x h (λ a r h.
       join_made k y.what o.0 before e a x o.1 o.2 s j (reads_sound n (tighter k) d y.behind q a r)
       (λ front s. joins_sound n k front (join_tree y.what e a.tree) d a.rest a.left x s h))))
 
   negates_sound : (n : ℕ) (d : ℕ) (ts : List Lexeme) (p : ℕ) (x : Found) → negates n d ts p ≡ Some x → Sound Negation d (symbol tok.Not ∷ ts) p x
   negates_sound zero d ts p x h = absurd cc
   negates_sound (suc n) d ts p x h =
-      with_spend d (λ d. spend p (λ p. reads n Negation d ts p >>= λ a. found (unary unaries.Not a.tree) a.rest a.left)) x h (λ e i h.
-      with_spend p (λ p. reads n Negation e ts p >>= λ a. found (unary unaries.Not a.tree) a.rest a.left) x h (λ q j h.
-      with_bind (reads n Negation e ts q) (λ a. found (unary unaries.Not a.tree) a.rest a.left) x h (λ a r h.
+      with_spend d _ x h (λ e i h.
+      with_spend p _ x h (λ q j h.
+      with_bind (reads n Negation e ts q) _ x h (λ a r h.
       negation_made a x i j (reads_sound n Negation e ts q a r) h)))
 
   compares_sound : (n : ℕ) (before : List Lexeme) (e : Tree) (d : ℕ) (ts : List Lexeme) (p : ℕ) (x : Found) → Spells d (Joined tier.BitOr) before e
       → compares n e d ts p ≡ Some x → Onward Comparison d before e ts p x
   compares_sound zero before e d ts p x s h = absurd cc
   compares_sound (suc n) before e d ts p x s h =
-      with_choice (comparison_at ts) (found e ts p)
-      (λ y. spend p (λ p. reads n (Joined tier.BitOr) d y.behind p >>= λ a. found (binary y.what e a.tree) a.rest a.left)) x h
+      with_choice (comparison_at ts) _
+      _ x h
       (λ c h. stays before e ts p x h (no_compare s))
       (λ y c h. let o = comparison_some ts y c in
-      with_spend p (λ p. reads n (Joined tier.BitOr) d y.behind p >>= λ a. found (binary y.what e a.tree) a.rest a.left) x h (λ q j h.
-      with_bind (reads n (Joined tier.BitOr) d y.behind q) (λ a. found (binary y.what e a.tree) a.rest a.left) x h (λ a r h.
+      with_spend p _ x h (λ q j h.
+      with_bind (reads n (Joined tier.BitOr) d y.behind q) _ x h (λ a r h.
       compare_made y.what o.0 before e a x o.1 o.2 s j (reads_sound n (Joined tier.BitOr) d y.behind q a r) h)))
 
   prefixes_sound : (n : ℕ) (v : Lexeme) (op : UnaryOperator) (d : ℕ) (ts : List Lexeme) (p : ℕ) (x : Found) → prefix v ≡ Some op → prefixes n op d ts p ≡ Some x
       → Sound Prefix d (v ∷ ts) p x
   prefixes_sound zero v op d ts p x o h = absurd cc
   prefixes_sound (suc n) v op d ts p x o h =
-      with_spend d (λ d. spend p (λ p. reads n Prefix d ts p >>= λ a. found (unary op a.tree) a.rest a.left)) x h (λ e i h.
-      with_spend p (λ p. reads n Prefix e ts p >>= λ a. found (unary op a.tree) a.rest a.left) x h (λ q j h.
-      with_bind (reads n Prefix e ts q) (λ a. found (unary op a.tree) a.rest a.left) x h (λ a r h.
+      with_spend d _ x h (λ e i h.
+      with_spend p _ x h (λ q j h.
+      with_bind (reads n Prefix e ts q) _ x h (λ a r h.
       prefix_made v op a x o i j (reads_sound n Prefix e ts q a r) h)))
 
   goes_on_sound : (n : ℕ) (before : List Lexeme) (e : Tree) (d : ℕ) (ts : List Lexeme) (p : ℕ) (x : Found) → Spells d Postfix before e
       → goes_on n e d ts p ≡ Some x → Onward Postfix d before e ts p x
   goes_on_sound zero before e d ts p x s h = absurd cc
   goes_on_sound (suc n) before e d ts p x s h =
-      with_choice (after tok.Dot ts) (choose (after tok.OpenBracket ts) (found e ts p) (λ us. places n e d us p >>= λ a. goes_on n a.tree d a.rest a.left))
-      (λ us. selects n e d us p >>= λ a. goes_on n a.tree d a.rest a.left) x h
-      (λ c h. with_choice (after tok.OpenBracket ts) (found e ts p) (λ us. places n e d us p >>= λ a. goes_on n a.tree d a.rest a.left) x h
+      with_choice (after tok.Dot ts) _
+      _ x h
+      (λ c h. with_choice (after tok.OpenBracket ts) _ _ x h
       (λ c h. stays before e ts p x h s)
-      (λ us c h. with_bind (places n e d us p) (λ a. goes_on n a.tree d a.rest a.left) x h (λ a r h.
+      (λ us c h. with_bind (places n e d us p) _ x h (λ a r h.
       onward_cut (after_some tok.OpenBracket ts us c)
       (chain before e a x (places_sound n before e d us p a s r) (λ front s. goes_on_sound n front a.tree d a.rest a.left x s h)))))
-      (λ us c h. with_bind (selects n e d us p) (λ a. goes_on n a.tree d a.rest a.left) x h (λ a r h.
+      (λ us c h. with_bind (selects n e d us p) _ x h (λ a r h.
       onward_cut (after_some tok.Dot ts us c)
       (chain before e a x (selects_sound n before e d us p a s r) (λ front s. goes_on_sound n front a.tree d a.rest a.left x s h))))
 
@@ -410,10 +405,10 @@ mutual
       → places n e d ts p ≡ Some x → Onward Postfix d before e (symbol tok.OpenBracket ∷ ts) p x
   places_sound zero before e d ts p x s h = absurd cc
   places_sound (suc n) before e d ts p x s h =
-      with_spend d (λ d. spend p (λ p. reads n Whole d ts p >>= λ a. after tok.CloseBracket a.rest >>= λ us. found (index e a.tree) us a.left)) x h (λ g i h.
-      with_spend p (λ p. reads n Whole g ts p >>= λ a. after tok.CloseBracket a.rest >>= λ us. found (index e a.tree) us a.left) x h (λ q j h.
-      with_bind (reads n Whole g ts q) (λ a. after tok.CloseBracket a.rest >>= λ us. found (index e a.tree) us a.left) x h (λ a r h.
-      with_bind (after tok.CloseBracket a.rest) (λ us. found (index e a.tree) us a.left) x h (λ us c h.
+      with_spend d _ x h (λ g i h.
+      with_spend p _ x h (λ q j h.
+      with_bind (reads n Whole g ts q) _ x h (λ a r h.
+      with_bind (after tok.CloseBracket a.rest) _ x h (λ us c h.
       place_made before e a x s i j (reads_sound n Whole g ts q a r) (after_some tok.CloseBracket a.rest us c) h))))
 
   selects_sound : (n : ℕ) (before : List Lexeme) (e : Tree) (d : ℕ) (ts : List Lexeme) (p : ℕ) (x : Found) → Spells d Postfix before e
@@ -422,28 +417,27 @@ mutual
   selects_sound (suc n) before e d [] p x s h = absurd cc
   selects_sound (suc n) before e d (constant c ∷ ts) p x s h = absurd cc
   selects_sound (suc n) before e d (word w ∷ ts) p x s h =
-      with_spend p (λ p. choose (after tok.OpenParenthesis ts) (found (select_tree e w) ts p)
-      (λ us. spend d (λ d. reads_list n d us p >>= λ a. found (call e w a.arguments) a.rest a.left))) x h (λ q j h.
-      with_choice (after tok.OpenParenthesis ts) (found (select_tree e w) ts q)
-      (λ us. spend d (λ d. reads_list n d us q >>= λ a. found (call e w a.arguments) a.rest a.left)) x h
+      with_spend p _ x h (λ q j h.
+      with_choice (after tok.OpenParenthesis ts) _
+      _ x h
       (λ c h. field_made before e w d ts x s j h)
-      (λ us c h. with_spend d (λ d. reads_list n d us q >>= λ a. found (call e w a.arguments) a.rest a.left) x h (λ g i h.
-      with_bind (reads_list n g us q) (λ a. found (call e w a.arguments) a.rest a.left) x h (λ a r h.
+      (λ us c h. with_spend d _ x h (λ g i h.
+      with_bind (reads_list n g us q) _ x h (λ a r h.
       call_made before e w a x s j (after_some tok.OpenParenthesis ts us c) i (list_sound n g us q a r) h))))
   selects_sound (suc n) before e d (symbol v ∷ ts) p x s h = cast_sound before e d (symbol v ∷ ts) p x s h
 
   groups_sound : (n : ℕ) (d : ℕ) (ts : List Lexeme) (p : ℕ) (x : Found) → groups n d ts p ≡ Some x → Sound Primary d (symbol tok.OpenParenthesis ∷ ts) p x
   groups_sound zero d ts p x h = absurd cc
   groups_sound (suc n) d ts p x h =
-      with_spend d (λ d. reads n Whole d ts p >>= λ a. after tok.CloseParenthesis a.rest >>= λ us. found a.tree us a.left) x h (λ e i h.
-      with_bind (reads n Whole e ts p) (λ a. after tok.CloseParenthesis a.rest >>= λ us. found a.tree us a.left) x h (λ a r h.
-      with_bind (after tok.CloseParenthesis a.rest) (λ us. found a.tree us a.left) x h (λ us c h.
+      with_spend d _ x h (λ e i h.
+      with_bind (reads n Whole e ts p) _ x h (λ a r h.
+      with_bind (after tok.CloseParenthesis a.rest) _ x h (λ us c h.
       group_made a x i (reads_sound n Whole e ts p a r) (after_some tok.CloseParenthesis a.rest us c) h)))
 
   pub list_sound : (n : ℕ) (d : ℕ) (ts : List Lexeme) (p : ℕ) (x : FoundList) → reads_list n d ts p ≡ Some x → SoundList d ts p x
   list_sound zero d ts p x h = absurd cc
   list_sound (suc n) d ts p x h =
-      with_choice (after tok.CloseParenthesis ts) (reads_more n d ts p) (λ us. found_list no_arguments us p) x h
+      with_choice (after tok.CloseParenthesis ts) _ _ x h
       (λ c h. let s = more_sound n d ts p x h in record { front = s.front; cut = s.cut; spelled = listed s.spelled; spent = s.spent })
       (λ us c h. at_list (λ x. SoundList d ts p x) no_arguments us p x h
       (record { front = []; cut = after_some tok.CloseParenthesis ts us c; spelled = empty; spent = omega arith }))
@@ -452,11 +446,10 @@ mutual
   more_sound zero d ts p x h = absurd cc
   more_sound (suc n) d ts p x h =
       with_bind (reads n Whole d ts p)
-      (λ a. choose (after tok.Comma a.rest) (after tok.CloseParenthesis a.rest >>= λ us. found_list (argument a.tree no_arguments) us a.left)
-      (λ us. reads_more n d us a.left >>= λ b. found_list (argument a.tree b.arguments) b.rest b.left)) x h (λ a r h.
-      with_choice (after tok.Comma a.rest) (after tok.CloseParenthesis a.rest >>= λ us. found_list (argument a.tree no_arguments) us a.left)
-      (λ us. reads_more n d us a.left >>= λ b. found_list (argument a.tree b.arguments) b.rest b.left) x h
-      (λ c h. with_bind (after tok.CloseParenthesis a.rest) (λ us. found_list (argument a.tree no_arguments) us a.left) x h (λ us c h.
+      _ x h (λ a r h.
+      with_choice (after tok.Comma a.rest) _
+      _ x h
+      (λ c h. with_bind (after tok.CloseParenthesis a.rest) _ x h (λ us c h.
       last_made a x (reads_sound n Whole d ts p a r) (after_some tok.CloseParenthesis a.rest us c) h))
-      (λ us c h. with_bind (reads_more n d us a.left) (λ b. found_list (argument a.tree b.arguments) b.rest b.left) x h (λ b t h.
+      (λ us c h. with_bind (reads_more n d us a.left) _ x h (λ b t h.
       more_made a b x (reads_sound n Whole d ts p a r) (after_some tok.Comma a.rest us c) (more_sound n d us a.left b t) h)))

@@ -36,6 +36,15 @@ pub with_choice : {A B P : Type 0} (o : Option A) (x : Option B) (f : A → Opti
 with_choice None x f y h none some = none refl h
 with_choice (Some a) x f y h none some = some a refl h
 
+-- by a test, and by whether there is something
+pub by_test : {P : Type 0} (b : Bool) → (b ≡ true → P) → (b ≡ false → P) → P
+by_test true f g = f refl
+by_test false f g = g refl
+
+pub by_option : {A P : Type 0} (o : Option A) → (o ≡ None → P) → ((a : A) → o ≡ Some a → P) → P
+by_option None f g = f refl
+by_option (Some a) f g = g a refl
+
 pub if_some : {A : Type 0} (b : Bool) (x y : A) → (if b then Some x else None) ≡ Some y → (b ≡ true) × (x ≡ y)
 if_some true x y h = (refl, cc)
 if_some false x y h = absurd cc
