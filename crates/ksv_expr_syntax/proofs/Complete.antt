@@ -1,22 +1,21 @@
 -- What is spelled so is read, whatever follows that doesn't go on with it.
-use Rattle.ksv_expr_syntax.proofs.Common.{◌≡◌, ℕ, suc, ◌+◌, ◌<◌, ◌≤◌, true, false, List, [], ◌∷◌, ◌++◌, length, Option, Some, None, refl, sym, ap, subst, ◌∙◌}
-use Rattle.ksv_expr_syntax.proofs.Common.{append_assoc, arith, if◌then◌else◌, Symbol, UnaryOperator, BinaryOperator, Precedence, Infix, Constant, Tree, literal}
-use Rattle.ksv_expr_syntax.proofs.Common.{unary, binary, choice, call, index, cast, Arguments, no_arguments, argument, operator, comparison, prefix, Lexeme}
-use Rattle.ksv_expr_syntax.proofs.Common.{constant, word, symbol, parts, all_parts, Level, Whole, Joined, Negation, Comparison, Prefix, Postfix, Primary}
-use Rattle.ksv_expr_syntax.proofs.Common.{tighter, join_tree, select_tree, is_left_out, path_tokens, Spells, pick, no_pick, join, no_join, negation}
+use Rattle.ksv_expr_syntax.proofs.Common.{◌≡◌, ℕ, suc, ◌+◌, ◌<◌, ◌≤◌, List, [], ◌∷◌, ◌++◌, length, Option, None, refl, ap, ◌∙◌}
+use Rattle.ksv_expr_syntax.proofs.Common.{append_assoc, arith, if◌then◌else◌, Symbol, Precedence, Tree}
+use Rattle.ksv_expr_syntax.proofs.Common.{Arguments, operator, comparison, prefix, Lexeme}
+use Rattle.ksv_expr_syntax.proofs.Common.{word, symbol, parts, all_parts, Level, Joined, Postfix, Primary}
+use Rattle.ksv_expr_syntax.proofs.Common.{tighter, is_left_out, path_tokens, Spells, pick, no_pick, join, no_join, negation}
 use Rattle.ksv_expr_syntax.proofs.Common.{no_negation, compare, no_compare, prefixed, no_prefix, selected, called, converted, indexed, no_postfix}
-use Rattle.ksv_expr_syntax.proofs.Common.{literal_alone, name_alone, enum_member, group, Next, Found, FoundList, found, found_list, next, ◌>>=◌, choose, spend}
+use Rattle.ksv_expr_syntax.proofs.Common.{literal_alone, name_alone, enum_member, group, Found, found, found_list, next, ◌>>=◌, spend}
 use Rattle.ksv_expr_syntax.proofs.Common.{after, operator_at, comparison_at, prefix_at, path_at, path_on, path_tree, all_but_last, last_name, read, read_list}
-use Rattle.ksv_expr_syntax.specs.contracts.token.SymbolPartialEq.TheImpl.{ghosts as symbol_tests}
 use Rattle.ksv_expr_syntax.specs.declared.token.Symbol.TheVariants as tok
-use Rattle.ksv_expr_tree.specs.declared.tree.UnaryOperator.TheVariants as unaries
 use Rattle.ksv_expr_syntax.specs.declared.token.Precedence.TheVariants as tier
 use Rattle.ksv_expr_tree.specs.Tree.{member}
-use Rattle.ksv_expr_syntax.specs.Grammar.{name_tree, SpellsArguments, empty, listed, SpellsList, last_one, one_more}
-use Rattle.ksv_expr_syntax.proofs.Steps.{after_some, same_symbol, by_test, by_option}
+use Rattle.ksv_expr_syntax.specs.Grammar.{SpellsArguments, empty, listed, SpellsList, last_one, one_more}
+use Rattle.ksv_expr_syntax.proofs.Steps.{after_some, by_option}
+use Rattle.ksv_expr_syntax.proofs.Loops.{path_on_is, read_path}
 use Rattle.ksv_expr_syntax.proofs.Symbols.{rank, strength, opening, operator_strength, comparison_strength, prefix_opening}
 use Rattle.ksv_expr_syntax.proofs.Sound.{parts_join, parts_name, parts_select}
-use Rattle.ksv_expr_syntax.proofs.Flow.{pick_on, join_on, compare_on, prefix_on, suffix_on, more_on, read_whole, pick_on_is, arm_on_is, read_joined, join_on_is}
+use Rattle.ksv_expr_syntax.proofs.Flow.{join_on, suffix_on, more_on, read_whole, pick_on_is, arm_on_is, read_joined, join_on_is}
 use Rattle.ksv_expr_syntax.proofs.Flow.{read_negation, negate_on_is, read_comparison, compare_on_is, read_prefix, prefix_on_is, read_postfix, suffix_on_is}
 use Rattle.ksv_expr_syntax.proofs.Flow.{place_on_is, select_word, select_symbol, primary_constant, primary_word, primary_symbol, group_on_is, read_list_is}
 use Rattle.ksv_expr_syntax.proofs.Flow.{more_on_is}
@@ -73,13 +72,10 @@ not_prefixed (v ∷ ts) us h = by_option (prefix v) (λ e. rw e) (λ op e. absur
 -- ---- names with `::` between them
 
 path_alone : (w : List ℕ) (rest : List Lexeme) → Stops 14 rest → path_on w rest ≡ next (w ∷ []) rest
-path_alone w (symbol s ∷ ts) h = by_test (symbol_tests.eq s tok.ColonColon)
-    (λ e. absurd (omega (arith, h, ap (λ s. strength (symbol s)) (same_symbol s tok.ColonColon e)))) (λ e. rw e)
-path_alone w _ h = refl
+path_alone w rest h = path_on_is w rest ∙ rw (no_after tok.ColonColon 14 rest (omega arith) h)
 
 pub path_read : (w : List ℕ) (ws : List (List ℕ)) (rest : List Lexeme) → Stops 14 rest → path_at (path_tokens (w ∷ ws) ++ rest) ≡ next (w ∷ ws) rest
-path_read w [] rest h = path_alone w rest h
-path_read w (v ∷ ws) rest h = rw (path_read v ws rest h)
+path_read w ws rest h = read_path w ws rest (no_after tok.ColonColon 14 rest (omega arith) h)
 
 names_back : (ws : List (List ℕ)) (m : List ℕ) → all_but_last (ws ++ m ∷ []) ≡ ws
 names_back [] m = refl
@@ -142,255 +138,211 @@ pub whole : {l : Level} {d : ℕ} {front : List Lexeme} {e : Tree} → Goal l d 
     → read l d (front ++ rest) q ≡ found e rest p
 whole {l} {d} {e = e} g rest p q h s = g.step rest p q h (stops_more (rank l) (below l) rest (rank_below l) s) ∙ go_stops l e d rest p s
 
-goal_pick : {d : ℕ} {ts : List Lexeme} {a b c : Tree} (xs ys zs : List Lexeme) → ts ≡ xs ++ symbol tok.Question ∷ (ys ++ symbol tok.Colon ∷ zs)
-    → Goal (Joined tier.Or) (suc d) xs a → Goal Whole d ys b → Goal Whole d zs c → Goal Whole (suc d) ts (choice a b c)
-goal_pick {b = b} {c} xs ys zs e gx gy gz = record {
-  begins = begins_cut 1 2 xs _ e (omega arith) gx.begins;
-  step = λ rest p q h s.
-      rw (
-        e,
-        append_assoc,
-        append_assoc,
-        read_whole,
-        whole gx (symbol tok.Question ∷ (ys ++ symbol tok.Colon ∷ (zs ++ rest))) (suc (parts b + (parts c + p))) q (omega (arith, h)) (omega arith),
-        pick_on_is,
-        arm_on_is,
-        whole gy (symbol tok.Colon ∷ (zs ++ rest)) (parts c + p) (parts b + (parts c + p)) refl (omega arith),
-        whole gz rest p (parts c + p) refl s,
-      );
-}
+path_begins : (w : List ℕ) (ws : List (List ℕ)) → Begins 14 (path_tokens (w ∷ ws))
+path_begins w [] = omega arith
+path_begins w (v ∷ ws) = omega arith
 
-goal_no_pick : {d : ℕ} {ts : List Lexeme} {e : Tree} → Goal (Joined tier.Or) d ts e → Goal Whole d ts e
-goal_no_pick {ts = ts} g = record {
-  begins = begins_looser 1 2 ts (omega arith) g.begins;
-  step = λ rest p q h s. rw (read_whole, whole g rest p q h (stops_more 1 2 rest (omega arith) s), pick_on_is, no_after tok.Question 1 rest (omega arith) s);
-}
-
-goal_join : {d : ℕ} (k : Precedence) {ts : List Lexeme} (op : Infix) {a b : Tree} (xs : List Lexeme) (v : Lexeme) (ys : List Lexeme) → operator k v ≡ Some op
-    → ts ≡ xs ++ v ∷ ys → Goal (Joined k) d xs a → Goal (tighter k) d ys b → Goal (Joined k) d ts (join_tree op a b)
-goal_join k op {a} {b} xs v ys is e gx gy = record {
-  begins = begins_cut (rank (Joined k)) (rank (Joined k)) xs (v ∷ ys) e (omega arith) gx.begins;
-  step = λ rest p q h s.
-      rw (
-        e,
-        append_assoc,
-        gx.step (v ∷ (ys ++ rest)) (suc (parts b + p)) q (omega (arith, h, parts_join op a b)) (omega (arith, operator_strength k v op is, rank_tighter k)),
-        join_on_is,
-        is,
-        whole gy rest p (parts b + p) refl s,
-      );
-}
-
-goal_no_join : {d : ℕ} (k : Precedence) {ts : List Lexeme} {e : Tree} → Goal (tighter k) d ts e → Goal (Joined k) d ts e
-goal_no_join k {ts} g = record {
-  begins = begins_looser (rank (Joined k)) (rank (tighter k)) ts (omega (arith, rank_tighter k)) g.begins;
-  step = λ rest p q h s. rw (read_joined, whole g rest p q h s);
-}
-
-goal_negation : {d : ℕ} {ts : List Lexeme} {e : Tree} → Goal Negation d ts e → Goal Negation (suc d) (symbol tok.Not ∷ ts) (unary unaries.Not e)
-goal_negation {e = e} g = record {
-  begins = omega arith;
-  step = λ rest p q h s.
-      let k : q ≡ suc (parts e + p) = omega (arith, h) in rw (k, read_negation, negate_on_is, whole g rest p (parts e + p) refl s);
-}
-
-goal_no_negation : {d : ℕ} {ts : List Lexeme} {e : Tree} → Goal Comparison d ts e → Goal Negation d ts e
-goal_no_negation {ts = ts} g = record {
-  begins = begins_looser 4 5 ts (omega arith) g.begins;
-  step = λ rest p q h s. rw (read_negation, not_begun tok.Not 5 ts rest (omega arith) g.begins) (whole g rest p q h (stops_more 4 5 rest (omega arith) s));
-}
-
-goal_compare : {d : ℕ} {ts : List Lexeme} (op : BinaryOperator) {a b : Tree} (xs : List Lexeme) (v : Lexeme) (ys : List Lexeme) → comparison v ≡ Some op
-    → ts ≡ xs ++ v ∷ ys → Goal (Joined tier.BitOr) d xs a → Goal (Joined tier.BitOr) d ys b → Goal Comparison d ts (binary op a b)
-goal_compare op {b = b} xs v ys is e gx gy = record {
-  begins = begins_cut 5 6 xs (v ∷ ys) e (omega arith) gx.begins;
-  step = λ rest p q h s.
-      rw (
-        e,
-        append_assoc,
-        read_comparison,
-        whole gx (v ∷ (ys ++ rest)) (suc (parts b + p)) q (omega (arith, h)) (omega (arith, comparison_strength v op is)),
-        compare_on_is,
-        is,
-        whole gy rest p (parts b + p) refl (stops_more 5 6 rest (omega arith) s),
-      );
-}
-
-goal_no_compare : {d : ℕ} {ts : List Lexeme} {e : Tree} → Goal (Joined tier.BitOr) d ts e → Goal Comparison d ts e
-goal_no_compare {ts = ts} g = record {
-  begins = begins_looser 5 6 ts (omega arith) g.begins;
-  step = λ rest p q h s. rw (read_comparison, whole g rest p q h (stops_more 5 6 rest (omega arith) s), compare_on_is, no_comparison rest s);
-}
-
-goal_prefixed : {d : ℕ} {ts : List Lexeme} (op : UnaryOperator) {e : Tree} (v : Lexeme) → prefix v ≡ Some op → Goal Prefix d ts e
-    → Goal Prefix (suc d) (v ∷ ts) (unary op e)
-goal_prefixed op {e} v is g = record {
-  begins = omega (arith, prefix_opening v op is);
-  step = λ rest p q h s.
-      let k : q ≡ suc (parts e + p) = omega (arith, h) in rw (k, read_prefix, is, prefix_on_is, whole g rest p (parts e + p) refl s);
-}
-
-goal_no_prefix : {d : ℕ} {ts : List Lexeme} {e : Tree} → Goal Postfix d ts e → Goal Prefix d ts e
-goal_no_prefix {ts = ts} g = record {
-  begins = begins_looser 12 13 ts (omega arith) g.begins;
-  step = λ rest p q h s. rw (read_prefix, not_prefixed ts rest g.begins) (whole g rest p q h (stops_more 12 13 rest (omega arith) s));
-}
-
-goal_selected : {d : ℕ} {ts : List Lexeme} {e : Tree} (xs : List Lexeme) (w : List ℕ) → ts ≡ xs ++ symbol tok.Dot ∷ word w ∷ [] → Goal Postfix d xs e
-    → Goal Postfix d ts (select_tree e w)
-goal_selected {e = e} xs w is g = record {
-  begins = begins_cut 13 13 xs _ is (omega arith) g.begins;
-  step = λ rest p q h s.
-      rw (
-        is,
-        append_assoc,
-        g.step (symbol tok.Dot ∷ word w ∷ rest) (suc p) q (omega (arith, h, parts_select e w)) (omega arith),
-        suffix_on_is,
-        select_word,
-        no_after tok.OpenParenthesis 14 rest (omega arith) s,
-      );
-}
-
-goal_called : {d : ℕ} {ts : List Lexeme} {e : Tree} {es : Arguments} (xs : List Lexeme) (w : List ℕ) (ys : List Lexeme)
-    → ts ≡ xs ++ symbol tok.Dot ∷ word w ∷ symbol tok.OpenParenthesis ∷ (ys ++ symbol tok.CloseParenthesis ∷ []) → Goal Postfix (suc d) xs e
-    → GoalList d ys es → Goal Postfix (suc d) ts (call e w es)
-goal_called {es = es} xs w ys is g gs = record {
-  begins = begins_cut 13 13 xs _ is (omega arith) g.begins;
-  step = λ rest p q h s.
-      let us : List Lexeme = symbol tok.Dot ∷ word w ∷ symbol tok.OpenParenthesis ∷ (ys ++ symbol tok.CloseParenthesis ∷ rest) in
-      rw (
-        is,
-        append_assoc,
-        append_assoc,
-        g.step us (suc (all_parts es + p)) q (omega (arith, h)) (omega arith),
-        suffix_on_is,
-        select_word,
-        gs.step rest p (all_parts es + p) refl,
-      );
-}
-
-goal_converted : {d : ℕ} {ts : List Lexeme} {e : Tree} (xs : List Lexeme) (ws : List (List ℕ)) → 0 < length ws
-    → ts ≡ xs ++ symbol tok.Dot ∷ symbol tok.As ∷ symbol tok.Less ∷ (path_tokens ws ++ symbol tok.Greater ∷ []) → Goal Postfix d xs e
-    → Goal Postfix d ts (cast e (record { path = ws; number = None }))
-goal_converted xs [] l is g = absurd (omega arith)
-goal_converted xs (w ∷ ws) l is g = record {
-  begins = begins_cut 13 13 xs _ is (omega arith) g.begins;
-  step = λ rest p q h s.
-      let us : List Lexeme = symbol tok.Dot ∷ symbol tok.As ∷ symbol tok.Less ∷ (path_tokens (w ∷ ws) ++ symbol tok.Greater ∷ rest) in
-      rw (
-        is,
-        append_assoc,
-        append_assoc,
-        g.step us (suc p) q (omega (arith, h)) (omega arith),
-        suffix_on_is,
-        select_symbol,
-        path_read w ws (symbol tok.Greater ∷ rest) (omega arith),
-      );
-}
-
-goal_indexed : {d : ℕ} {ts : List Lexeme} {e i : Tree} (xs ys : List Lexeme) → ts ≡ xs ++ symbol tok.OpenBracket ∷ (ys ++ symbol tok.CloseBracket ∷ [])
-    → Goal Postfix (suc d) xs e → Goal Whole d ys i → Goal Postfix (suc d) ts (index e i)
-goal_indexed {i = i} xs ys is gx gy = record {
-  begins = begins_cut 13 13 xs _ is (omega arith) gx.begins;
-  step = λ rest p q h s.
-      rw (
-        is,
-        append_assoc,
-        append_assoc,
-        gx.step (symbol tok.OpenBracket ∷ (ys ++ symbol tok.CloseBracket ∷ rest)) (suc (parts i + p)) q (omega (arith, h)) (omega arith),
-        suffix_on_is,
-        place_on_is,
-        whole gy (symbol tok.CloseBracket ∷ rest) p (parts i + p) refl (omega arith),
-      );
-}
-
-goal_no_postfix : {d : ℕ} {ts : List Lexeme} {e : Tree} → Goal Primary d ts e → Goal Postfix d ts e
-goal_no_postfix {ts = ts} g = record { begins = begins_looser 13 14 ts (omega arith) g.begins; step = λ rest p q h s. rw (read_postfix, whole g rest p q h s) }
-
-goal_literal : {d : ℕ} (c : Constant) → Goal Primary d (constant c ∷ []) (literal c)
-goal_literal c = record { begins = omega arith; step = λ rest p q h s. let k : q ≡ suc p = omega (arith, h) in rw (k, primary_constant) }
-
-goal_name : {d : ℕ} (w : List ℕ) → is_left_out w ≡ false → Goal Primary d (word w ∷ []) (name_tree w)
-goal_name w o = record {
-  begins = omega arith;
-  step = λ rest p q h s. let k : q ≡ suc p = omega (arith, h, parts_name w) in rw (k, primary_word, o, path_alone w rest s);
-}
-
-goal_member : {d : ℕ} {ts : List Lexeme} (w : List ℕ) (ws : List (List ℕ)) (m : List ℕ) → is_left_out w ≡ false → ts ≡ path_tokens (w ∷ (ws ++ m ∷ []))
-    → Goal Primary d ts (member (record { path = w ∷ ws; name = m; given = None }))
-goal_member w ws m o is = record {
-  begins = rw is (path_begins w (ws ++ m ∷ []));
-  step = λ rest p q h s.
-      let k : q ≡ suc p = omega (arith, h) in
-      rw (k, is, primary_path w (ws ++ m ∷ []), o, path_read w (ws ++ m ∷ []) rest s, path_tree_is (w ∷ ws) m (omega arith));
-} where
-  path_begins : (w : List ℕ) (ws : List (List ℕ)) → Begins 14 (path_tokens (w ∷ ws))
-  path_begins w [] = omega arith
-  path_begins w (v ∷ ws) = omega arith
-
-  primary_path : (w : List ℕ) (ws : List (List ℕ)) (rest : List Lexeme) (d p : ℕ) → read Primary d (path_tokens (w ∷ ws) ++ rest) p
-      ≡ (if is_left_out w then None else (path_at (path_tokens (w ∷ ws) ++ rest) >>= λ x. spend p (λ p. found (path_tree x.what) x.behind p)))
-  primary_path w [] rest d p = primary_word d w rest p
-  primary_path w (v ∷ ws) rest d p = primary_word d w (symbol tok.ColonColon ∷ (path_tokens (v ∷ ws) ++ rest)) p
-
-goal_group : {d : ℕ} {ts : List Lexeme} {e : Tree} (xs : List Lexeme) → ts ≡ symbol tok.OpenParenthesis ∷ (xs ++ symbol tok.CloseParenthesis ∷ [])
-    → Goal Whole d xs e → Goal Primary (suc d) ts e
-goal_group xs is g = record {
-  begins = rw is (omega arith);
-  step = λ rest p q h s.
-      rw (is, append_assoc, primary_symbol, group_on_is, whole g (symbol tok.CloseParenthesis ∷ rest) p q h (omega arith));
-}
-
-goal_empty : {d : ℕ} → GoalList d [] no_arguments
-goal_empty = record { step = λ rest p q h. let k : q ≡ p = omega (arith, h) in rw (k, read_list_is) }
-
-goal_listed : {d : ℕ} {ts : List Lexeme} {es : Arguments} → GoalMore d ts es → GoalList d ts es
-goal_listed {ts = ts} g = record {
-  step = λ rest p q h.
-      rw (read_list_is, not_begun tok.CloseParenthesis 1 ts (symbol tok.CloseParenthesis ∷ rest) (omega arith) g.begins) (g.step rest p q h);
-}
-
-goal_last_one : {d : ℕ} {ts : List Lexeme} {e : Tree} → Goal Whole d ts e → GoalMore d ts (argument e no_arguments)
-goal_last_one g = record {
-  begins = g.begins;
-  step = λ rest p q h. rw (more_on_is, whole g (symbol tok.CloseParenthesis ∷ rest) p q (omega (arith, h)) (omega arith));
-}
-
-goal_one_more : {d : ℕ} {ts : List Lexeme} {e : Tree} {es : Arguments} (xs ys : List Lexeme) → ts ≡ xs ++ symbol tok.Comma ∷ ys → Goal Whole d xs e
-    → GoalMore d ys es → GoalMore d ts (argument e es)
-goal_one_more {es = es} xs ys is g gs = record {
-  begins = begins_cut 1 1 xs (symbol tok.Comma ∷ ys) is (omega arith) g.begins;
-  step = λ rest p q h.
-      let us : List Lexeme = symbol tok.Comma ∷ (ys ++ symbol tok.CloseParenthesis ∷ rest) in
-      rw (is, append_assoc, more_on_is, whole g us (all_parts es + p) q (omega (arith, h)) (omega arith), gs.step rest p (all_parts es + p) refl);
-}
+primary_path : (w : List ℕ) (ws : List (List ℕ)) (rest : List Lexeme) (d p : ℕ) → read Primary d (path_tokens (w ∷ ws) ++ rest) p
+    ≡ (if is_left_out w then None else (path_at (path_tokens (w ∷ ws) ++ rest) >>= λ x. spend p (λ p. found (path_tree x.what) x.behind p)))
+primary_path w [] rest d p = primary_word d w rest p
+primary_path w (v ∷ ws) rest d p = primary_word d w (symbol tok.ColonColon ∷ (path_tokens (v ∷ ws) ++ rest)) p
 
 mutual
   pub goal : {d : ℕ} {l : Level} {ts : List Lexeme} {e : Tree} → Spells d l ts e → Goal l d ts e
-  goal (pick xs ys zs is a b c) = goal_pick xs ys zs is (goal a) (goal b) (goal c)
-  goal (no_pick s) = goal_no_pick (goal s)
-  goal (join {k = k} {op = op} xs v ys is e a b) = goal_join k op xs v ys is e (goal a) (goal b)
-  goal (no_join {k = k} s) = goal_no_join k (goal s)
-  goal (negation s) = goal_negation (goal s)
-  goal (no_negation s) = goal_no_negation (goal s)
-  goal (compare {op = op} xs v ys is e a b) = goal_compare op xs v ys is e (goal a) (goal b)
-  goal (no_compare s) = goal_no_compare (goal s)
-  goal (prefixed {op = op} v is s) = goal_prefixed op v is (goal s)
-  goal (no_prefix s) = goal_no_prefix (goal s)
-  goal (selected xs w is s) = goal_selected xs w is (goal s)
-  goal (called xs w ys is s es) = goal_called xs w ys is (goal s) (goal_arguments es)
-  goal (converted xs ws l is s) = goal_converted xs ws l is (goal s)
-  goal (indexed xs ys is s i) = goal_indexed xs ys is (goal s) (goal i)
-  goal (no_postfix s) = goal_no_postfix (goal s)
-  goal (literal_alone {c = c}) = goal_literal c
-  goal (name_alone w o) = goal_name w o
-  goal (enum_member w ws m o is) = goal_member w ws m o is
-  goal (group xs is s) = goal_group xs is (goal s)
+  goal (pick {b = b} {c = c} xs ys zs is x y z) =
+      let gx = goal x in
+      let gy = goal y in
+      let gz = goal z in
+      record {
+        begins = begins_cut 1 2 xs _ is (omega arith) gx.begins;
+        step = λ rest p q h s. rw (
+          is,
+          append_assoc,
+          append_assoc,
+          read_whole,
+          whole gx (symbol tok.Question ∷ (ys ++ symbol tok.Colon ∷ (zs ++ rest))) (suc (parts b + (parts c + p))) q (omega (arith, h)) (omega arith),
+          pick_on_is,
+          arm_on_is,
+          whole gy (symbol tok.Colon ∷ (zs ++ rest)) (parts c + p) (parts b + (parts c + p)) refl (omega arith),
+          whole gz rest p (parts c + p) refl s,
+        );
+      }
+  goal (no_pick {ts = ts} x) =
+      let g = goal x in
+      record {
+        begins = begins_looser 1 2 ts (omega arith) g.begins;
+        step = λ rest p q h s.
+            rw (read_whole, whole g rest p q h (stops_more 1 2 rest (omega arith) s), pick_on_is, no_after tok.Question 1 rest (omega arith) s);
+      }
+  goal (join {k = k} {op = op} {a = a} {b = b} xs v ys o is x y) =
+      let gx = goal x in
+      let gy = goal y in
+      record {
+        begins = begins_cut (rank (Joined k)) (rank (Joined k)) xs (v ∷ ys) is (omega arith) gx.begins;
+        step = λ rest p q h s. rw (
+          is,
+          append_assoc,
+          gx.step (v ∷ (ys ++ rest)) (suc (parts b + p)) q (omega (arith, h, parts_join op a b)) (omega (arith, operator_strength k v op o, rank_tighter k)),
+          join_on_is,
+          o,
+          whole gy rest p (parts b + p) refl s,
+        );
+      }
+  goal (no_join {k = k} {ts = ts} x) =
+      let g = goal x in
+      record {
+        begins = begins_looser (rank (Joined k)) (rank (tighter k)) ts (omega (arith, rank_tighter k)) g.begins;
+        step = λ rest p q h s. rw (read_joined, whole g rest p q h s);
+      }
+  goal (negation {e = e} x) =
+      let g = goal x in
+      record {
+        begins = omega arith;
+        step = λ rest p q h s.
+            let k : q ≡ suc (parts e + p) = omega (arith, h) in rw (k, read_negation, negate_on_is, whole g rest p (parts e + p) refl s);
+      }
+  goal (no_negation {ts = ts} x) =
+      let g = goal x in
+      record {
+        begins = begins_looser 4 5 ts (omega arith) g.begins;
+        step = λ rest p q h s. rw (read_negation, not_begun tok.Not 5 ts rest (omega arith) g.begins) (whole g rest p q h (stops_more 4 5 rest (omega arith)
+            s));
+      }
+  goal (compare {op = op} {b = b} xs v ys o is x y) =
+      let gx = goal x in
+      let gy = goal y in
+      record {
+        begins = begins_cut 5 6 xs (v ∷ ys) is (omega arith) gx.begins;
+        step = λ rest p q h s. rw (
+          is,
+          append_assoc,
+          read_comparison,
+          whole gx (v ∷ (ys ++ rest)) (suc (parts b + p)) q (omega (arith, h)) (omega (arith, comparison_strength v op o)),
+          compare_on_is,
+          o,
+          whole gy rest p (parts b + p) refl (stops_more 5 6 rest (omega arith) s),
+        );
+      }
+  goal (no_compare {ts = ts} x) =
+      let g = goal x in
+      record {
+        begins = begins_looser 5 6 ts (omega arith) g.begins;
+        step = λ rest p q h s. rw (read_comparison, whole g rest p q h (stops_more 5 6 rest (omega arith) s), compare_on_is, no_comparison rest s);
+      }
+  goal (prefixed {op = op} {e = e} v o x) =
+      let g = goal x in
+      record {
+        begins = omega (arith, prefix_opening v op o);
+        step = λ rest p q h s.
+            let k : q ≡ suc (parts e + p) = omega (arith, h) in rw (k, read_prefix, o, prefix_on_is, whole g rest p (parts e + p) refl s);
+      }
+  goal (no_prefix {ts = ts} x) =
+      let g = goal x in
+      record {
+        begins = begins_looser 12 13 ts (omega arith) g.begins;
+        step = λ rest p q h s. rw (read_prefix, not_prefixed ts rest g.begins) (whole g rest p q h (stops_more 12 13 rest (omega arith) s));
+      }
+  goal (selected {e = e} xs w is x) =
+      let g = goal x in
+      record {
+        begins = begins_cut 13 13 xs _ is (omega arith) g.begins;
+        step = λ rest p q h s. rw (
+          is,
+          append_assoc,
+          g.step (symbol tok.Dot ∷ word w ∷ rest) (suc p) q (omega (arith, h, parts_select e w)) (omega arith),
+          suffix_on_is,
+          select_word,
+          no_after tok.OpenParenthesis 14 rest (omega arith) s,
+        );
+      }
+  goal (called {es = es} xs w ys is x y) =
+      let g = goal x in
+      let gs = goal_arguments y in
+      record {
+        begins = begins_cut 13 13 xs _ is (omega arith) g.begins;
+        step = λ rest p q h s.
+            let us : List Lexeme = symbol tok.Dot ∷ word w ∷ symbol tok.OpenParenthesis ∷ (ys ++ symbol tok.CloseParenthesis ∷ rest) in rw (
+              is,
+              append_assoc,
+              append_assoc,
+              g.step us (suc (all_parts es + p)) q (omega (arith, h)) (omega arith),
+              suffix_on_is,
+              select_word,
+              gs.step rest p (all_parts es + p) refl,
+            );
+      }
+  goal (converted xs [] l is x) = absurd (omega arith)
+  goal (converted xs (w ∷ ws) l is x) =
+      let g = goal x in
+      record {
+        begins = begins_cut 13 13 xs _ is (omega arith) g.begins;
+        step = λ rest p q h s.
+            let us : List Lexeme = symbol tok.Dot ∷ symbol tok.As ∷ symbol tok.Less ∷ (path_tokens (w ∷ ws) ++ symbol tok.Greater ∷ rest) in rw (
+              is,
+              append_assoc,
+              append_assoc,
+              g.step us (suc p) q (omega (arith, h)) (omega arith),
+              suffix_on_is,
+              select_symbol,
+              path_read w ws (symbol tok.Greater ∷ rest) (omega arith),
+            );
+      }
+  goal (indexed {i = i} xs ys is x y) =
+      let gx = goal x in
+      let gy = goal y in
+      record {
+        begins = begins_cut 13 13 xs _ is (omega arith) gx.begins;
+        step = λ rest p q h s. rw (
+          is,
+          append_assoc,
+          append_assoc,
+          gx.step (symbol tok.OpenBracket ∷ (ys ++ symbol tok.CloseBracket ∷ rest)) (suc (parts i + p)) q (omega (arith, h)) (omega arith),
+          suffix_on_is,
+          place_on_is,
+          whole gy (symbol tok.CloseBracket ∷ rest) p (parts i + p) refl (omega arith),
+        );
+      }
+  goal (no_postfix {ts = ts} x) =
+      let g = goal x in
+      record { begins = begins_looser 13 14 ts (omega arith) g.begins; step = λ rest p q h s. rw (read_postfix, whole g rest p q h s) }
+  goal literal_alone = record { begins = omega arith; step = λ rest p q h s. let k : q ≡ suc p = omega (arith, h) in rw (k, primary_constant) }
+  goal (name_alone w o) = record {
+    begins = omega arith;
+    step = λ rest p q h s. let k : q ≡ suc p = omega (arith, h, parts_name w) in rw (k, primary_word, o, path_alone w rest s);
+  }
+  goal (enum_member w ws m o is) = record {
+    begins = rw is (path_begins w (ws ++ m ∷ []));
+    step = λ rest p q h s.
+        let k : q ≡ suc p = omega (arith, h) in
+        rw (k, is, primary_path w (ws ++ m ∷ []), o, path_read w (ws ++ m ∷ []) rest s, path_tree_is (w ∷ ws) m (omega arith));
+  }
+  goal (group xs is x) =
+      let g = goal x in
+      record {
+        begins = rw is (omega arith);
+        step = λ rest p q h s.
+            rw (is, append_assoc, primary_symbol, group_on_is, whole g (symbol tok.CloseParenthesis ∷ rest) p q h (omega arith));
+      }
 
   pub goal_arguments : {d : ℕ} {ts : List Lexeme} {es : Arguments} → SpellsArguments d ts es → GoalList d ts es
-  goal_arguments empty = goal_empty
-  goal_arguments (listed s) = goal_listed (goal_more s)
+  goal_arguments empty = record { step = λ rest p q h. let k : q ≡ p = omega (arith, h) in rw (k, read_list_is) }
+  goal_arguments (listed {ts = ts} x) =
+      let g = goal_more x in
+      record {
+        step = λ rest p q h.
+            rw (read_list_is, not_begun tok.CloseParenthesis 1 ts (symbol tok.CloseParenthesis ∷ rest) (omega arith) g.begins) (g.step rest p q h);
+      }
 
   pub goal_more : {d : ℕ} {ts : List Lexeme} {es : Arguments} → SpellsList d ts es → GoalMore d ts es
-  goal_more (last_one s) = goal_last_one (goal s)
-  goal_more (one_more xs ys is s es) = goal_one_more xs ys is (goal s) (goal_more es)
+  goal_more (last_one x) =
+      let g = goal x in
+      record { begins = g.begins; step = λ rest p q h. rw (more_on_is, whole g (symbol tok.CloseParenthesis ∷ rest) p q (omega (arith, h)) (omega arith)) }
+  goal_more (one_more {es = es} xs ys is x y) =
+      let g = goal x in
+      let gs = goal_more y in
+      record {
+        begins = begins_cut 1 1 xs (symbol tok.Comma ∷ ys) is (omega arith) g.begins;
+        step = λ rest p q h.
+            let us : List Lexeme = symbol tok.Comma ∷ (ys ++ symbol tok.CloseParenthesis ∷ rest) in
+            rw (is, append_assoc, more_on_is, whole g us (all_parts es + p) q (omega (arith, h)) (omega arith), gs.step rest p (all_parts es + p) refl);
+      }

@@ -1,28 +1,27 @@
 -- What each exit of the parser's functions says of reading.
-use Rattle.ksv_expr_syntax.proofs.Common.{◌==◌, ◌≡◌, ◌≢◌, ℕ, zero, suc, ◌<◌, Bool, false, List, [], ◌∷◌, ◌++◌, map, Option, Some, None, refl, sym, ap, ◌∙◌}
-use Rattle.ksv_expr_syntax.proofs.Common.{arith, if◌then◌else◌, Symbol, UnaryOperator, BinaryOperator, Precedence, Infix, Constant, Tree, unary, binary, choice}
-use Rattle.ksv_expr_syntax.proofs.Common.{call, index, Arguments, no_arguments, argument, Lexeme, constant, word, symbol, Level, Whole, Joined, Negation}
-use Rattle.ksv_expr_syntax.proofs.Common.{Comparison, Prefix, Postfix, Primary, tighter, join_tree, is_left_out, Next, next, Found, found, found_list, ◌>>=◌}
-use Rattle.ksv_expr_syntax.proofs.Common.{choose, spend, after, operator_at, comparison_at, prefix_at, path_at, path_tree, room, read, read_list, lexemes, view}
-use Rattle.ksv_expr_syntax.proofs.Common.{arguments_of, Placed, map-append, ◌≤◌}
+use Rattle.ksv_expr_syntax.proofs.Common.{◌==◌, ◌≡◌, ◌≢◌, ℕ, zero, suc, ◌<◌, Bool, false, List, [], ◌∷◌, ◌++◌, map, Option, Some, None, refl, ap, ◌∙◌}
+use Rattle.ksv_expr_syntax.proofs.Common.{arith, Symbol, BinaryOperator, Precedence, Infix, Tree, binary, choice}
+use Rattle.ksv_expr_syntax.proofs.Common.{call, index, Arguments, no_arguments, argument, Lexeme, constant, word, symbol, Level, Whole, Joined}
+use Rattle.ksv_expr_syntax.proofs.Common.{Comparison, Primary, tighter, join_tree, next, Found, found, found_list, ◌>>=◌}
+use Rattle.ksv_expr_syntax.proofs.Common.{choose, spend, after, operator_at, comparison_at, room, read, read_list, view}
+use Rattle.ksv_expr_syntax.proofs.Common.{arguments_of, map-append, ◌≤◌}
 use Rattle.ksv_expr_syntax.specs.declared.token.Symbol.TheVariants as tok
-use Rattle.ksv_expr_tree.specs.declared.tree.UnaryOperator.TheVariants as unaries
 use Rattle.ksv_expr_syntax.specs.declared.token.Precedence.TheVariants as tier
 use Rattle.ksv_expr_syntax.specs.declared.token.Infix.TheVariants as infixes
 use Rattle.ksv_expr_syntax.specs.Reading.{place_on, select_on}
 use Rattle.ksv_expr_syntax.specs.declared.parser.Opening.{Opening}
 use Rattle.ksv_expr_syntax.specs.declared.parser.Opening.TheVariants as openings
-use Rattle.ksv_expr_syntax.specs.Code.{Gives, GivesArms, IsWithin, inside, opened, with_tree, with_list, closing, right_at, place_at, list_at}
-use Rattle.ksv_expr_syntax.specs.Code.{arms_at, cast_at, member_on, member_at, literal_at, word_at, suffix_step, IsNoCall, OpensWith}
+use Rattle.ksv_expr_syntax.specs.Code.{GivesArms, IsWithin, inside, opened, with_tree, with_list, closing, right_at, place_at, list_at}
+use Rattle.ksv_expr_syntax.specs.Code.{arms_at, cast_at, member_on, member_at, suffix_step, IsNoCall, OpensWith}
 use Rattle.ksv_expr_tree.specs.declared.tree.Expr.{Expr}
 use Rattle.ksv_expr_syntax.specs.declared.cursor.Rest.{Rest}
 use Rattle.ksv_expr_syntax.specs.declared.fault.ExprFault.{ExprFault}
 use Rattle.std.proofs.Common.{Result, Ok, Err}
 use Rattle.ksv_expr_syntax.proofs.Same.{spend_same}
-use Rattle.ksv_expr_syntax.proofs.Flow.{pick_on, join_on, compare_on, suffix_on, more_on, read_whole, pick_on_is, arm_on_is, read_joined, join_on_is}
-use Rattle.ksv_expr_syntax.proofs.Flow.{read_negation, negate_on_is, read_comparison, compare_on_is, read_prefix, prefix_on_is, read_postfix, suffix_on_is}
-use Rattle.ksv_expr_syntax.proofs.Flow.{group_on, place_on_is, select_word, select_symbol, select_constant, select_end, primary_end, primary_constant}
-use Rattle.ksv_expr_syntax.proofs.Flow.{primary_word, primary_symbol, group_on_is, read_list_is, more_on_is}
+use Rattle.ksv_expr_syntax.proofs.Flow.{join_on, suffix_on, more_on, join_on_is}
+use Rattle.ksv_expr_syntax.proofs.Flow.{read_comparison, compare_on_is, suffix_on_is}
+use Rattle.ksv_expr_syntax.proofs.Flow.{group_on, place_on_is, select_word, select_symbol, select_constant, select_end}
+use Rattle.ksv_expr_syntax.proofs.Flow.{primary_symbol, group_on_is, read_list_is, more_on_is}
 
 -- how many calls lead to a level at one token, for the measures
 abbrev pub rank : Level → ℕ
@@ -91,8 +90,7 @@ join_flow (suc q) r f g = elim (r q) as (λ o. (o >>= λ a. g (f a.tree) a.rest 
 pub join_step : (k : Precedence) (l : Level) (e : Tree) (d : ℕ) (us : List Lexeme) (q : ℕ) (op : Infix) (vs : List Lexeme) (o : Option Found) → l ≡ tighter k
     → operator_at k us ≡ next op vs → with_tree (λ b. join_tree op e b) (right_at l d vs q) ≡ o
     → join_on k e d us q ≡ (o >>= λ a. join_on k a.tree d a.rest a.left)
-join_step k l e d us q op vs o z n i = rw (join_on_is, n, ← z)
-    (join_flow q (λ p. read l d vs p) (λ b. join_tree op e b) (λ a ts p. join_on k a d ts p) ∙ rw i)
+join_step k l e d us q op vs o z n i = rw (join_on_is, n, ← z) (join_flow q (λ p. read l d vs p) (λ b. join_tree op e b) (λ a ts p. join_on k a d ts p) ∙ rw i)
 
 -- ---- not
 

@@ -1,10 +1,10 @@
 -- Reading as equations without a bound on calls.
-use Rattle.ksv_expr_syntax.proofs.Common.{◌≡◌, ℕ, suc, ◌+◌, ◌*◌, List, [], ◌∷◌, length, Option, None, refl, ap, ◌∙◌, arith, if◌then◌else◌, Symbol}
+use Rattle.ksv_expr_syntax.proofs.Common.{◌≡◌, ℕ, suc, ◌+◌, ◌*◌, List, [], ◌∷◌, length, Option, None, refl, ◌∙◌, arith, if◌then◌else◌, Symbol}
 use Rattle.ksv_expr_syntax.proofs.Common.{UnaryOperator, Precedence, Tree, literal, unary, binary, choice, call, index, cast, no_arguments, argument, Lexeme}
 use Rattle.ksv_expr_syntax.proofs.Common.{constant, word, symbol, Whole, Joined, Negation, Comparison, Prefix, Postfix, Primary, tighter, join_tree}
 use Rattle.ksv_expr_syntax.proofs.Common.{select_tree, is_left_out, Found, FoundList, found, found_list, ◌>>=◌, choose, spend, after, operator_at}
-use Rattle.ksv_expr_syntax.proofs.Common.{comparison_at, prefix_at, path_at, path_on, path_tree, reads, picks, arms, joins, negates, compares, prefixes}
-use Rattle.ksv_expr_syntax.proofs.Common.{goes_on, places, selects, groups, reads_list, reads_more, room, wide, read, read_list}
+use Rattle.ksv_expr_syntax.proofs.Common.{comparison_at, prefix_at, path_at, path_on, path_tree, picks, arms, joins, negates, compares, prefixes}
+use Rattle.ksv_expr_syntax.proofs.Common.{goes_on, groups, reads_more, room, wide, read, read_list}
 use Rattle.ksv_expr_syntax.specs.declared.token.Symbol.TheVariants as tok
 use Rattle.ksv_expr_tree.specs.declared.tree.UnaryOperator.TheVariants as unaries
 use Rattle.ksv_expr_syntax.specs.declared.token.Precedence.TheVariants as tier

@@ -1,14 +1,13 @@
 -- What is cut at a place is the longest token there.
 use Rattle.ksv_expr_syntax.proofs.Common.{◌≡◌, ◌≢◌, ℕ, suc, ◌+◌, ◌<◌, ◌≤◌, Bool, true, false, ◌&&◌, List, [], ◌∷◌, ◌++◌, length, take, Option, Some, None, refl}
 use Rattle.ksv_expr_syntax.proofs.Common.{sym, ap, subst, ◌∙◌, append_assoc, arith, if◌then◌else◌, inl, inr, length-append, ◌==◌, take_while}
-use Rattle.ksv_expr_syntax.proofs.Common.{encode_utf8, append-nil, and_parts, Symbol, string, spelling, Lexeme, constant, symbol, ◌>>=◌, is_name_byte, natural}
+use Rattle.ksv_expr_syntax.proofs.Common.{encode_utf8, append-nil, and_parts, Symbol, string, spelling, Lexeme, constant, symbol, is_name_byte, natural}
 use Rattle.ksv_expr_syntax.proofs.Common.{cut_at, put, quoted, cut}
-use Rattle.std.proofs.Common.{◌-◌, ◌^◌, ◌||◌, drop, get_or, cond, ◌⊎◌, ltb-true, lt-ltb, length-drop}
+use Rattle.std.proofs.Common.{◌-◌, ◌^◌, ◌||◌, drop, get_or, cond, ltb-true, lt-ltb, length-drop}
 use Rattle.std.specs.Prelude.{slice_index, codes, bytes_eq, nat_lt, All, position, IsTrue, ◌↔◌}
-use Rattle.std.specs.Char.{is_ascii_lowercase, is_ascii_digit}
+use Rattle.std.specs.Char.{is_ascii_digit}
 use Rattle.std.specs.Str.{is_utf8}
 use Rattle.std.specs.List.{position_or_len}
-use mathlib.Core.Bool.{not}
 use Rattle.std.proofs.lemmas.Str.{IsUtf8-from_is_utf8}
 use Rattle.std.proofs.lemmas.Slice.Eq.{bytes_eq-Decides}
 use Rattle.std.proofs.lemmas.List.{take-append-drop, drop_more, take_at, drop_at, get_or-take, length-take-le}
@@ -119,7 +118,8 @@ record NumberCut (r : Radix) (ds rest : List ℕ) (x : Cut) : Type 0 where
 
 number_cut : (r : Radix) (ds rest : List ℕ) (x : Cut) → number_of r ds rest ≡ Some x → NumberCut r ds rest x
 number_cut r ds rest x h =
-    let n = not_none (is_left_out_number r ds rest) (if nat_lt (natural r 0 ds) (2 ^ 64) then cut_at (constant (integer (natural r 0 ds))) rest else None) x h in
+    let n = not_none (is_left_out_number r ds rest) (if nat_lt (natural r 0 ds) (2 ^ 64) then cut_at (constant (integer (natural r 0 ds))) rest else None) x
+    h in
     let s = if_some (nat_lt (natural r 0 ds) (2 ^ 64)) _ x n.1 in
     record { kept = n.0; bound = ltb-true _ _ s.0; is = s.1 }
 
@@ -172,8 +172,7 @@ cut_decimal ds rest k e =
 other_rest : (r : Radix) (c : ℕ) (rest : List ℕ) (x : Cut) → prefix_size r ≡ 2 → cut_number (c ∷ rest) ≡ Some x → radix_of (c ∷ rest) ≡ r
     → length x.rest ≤ length rest
 other_rest r c rest x p h e =
-    let i = number_rest r (drop (prefix_size r) (c ∷ rest)) x (sym (as_radix r (c ∷ rest) e) ∙ h) in
-    omega (arith, i, p, length-drop (prefix_size r) (c ∷ rest))
+    let i = number_rest r (drop (prefix_size r) (c ∷ rest)) x (sym (as_radix r (c ∷ rest) e) ∙ h) in omega (arith, i, p, length-drop (prefix_size r) (c ∷ rest))
 
 decimal_longer : (ds rest : List ℕ) (x : Cut) → IsDigits radices.Decimal ds → cut (ds ++ rest) ≡ Some x → length x.rest ≤ length rest
 decimal_longer ds rest x (last_digit {c = c} h) e =
@@ -393,8 +392,7 @@ by_prefix bs f g k =
     (λ e. by_test (slice_index bs 0 == 48 && slice_index bs 1 == 98 && is_digit radices.Binary (slice_index bs 2))
     (λ i. g (rw (e, i)) (prefix_tested 98 radices.Binary bs (omega arith) refl i)) (λ i. f (rw (e, i))))
 
-prefixed_token : (p : ℕ) (r : Radix) (bs : List ℕ) (x : Cut) → number_prefix r ≡ 48 ∷ p ∷ [] → Prefixed p r bs → number_at r (drop 2 bs) ≡ Some x
-    → TokenAt bs x
+prefixed_token : (p : ℕ) (r : Radix) (bs : List ℕ) (x : Cut) → number_prefix r ≡ 48 ∷ p ∷ [] → Prefixed p r bs → number_at r (drop 2 bs) ≡ Some x → TokenAt bs x
 prefixed_token p r bs x z f e = number_token r bs (drop 2 bs) f.digit f.others x (rw (f.is, z)) (rw f.is) f.tested e
 
 number_found : (c : ℕ) (cs : List ℕ) (x : Cut) → is_ascii_digit c ≡ true → cut_number (c ∷ cs) ≡ Some x → TokenAt (c ∷ cs) x
@@ -418,8 +416,7 @@ single_found cs x h =
     let l : n ≤ length cs = (let k = q.0 in omega arith) in
     let all : All (λ b. b ≢ 39) (take n cs) = λ k d i z.
     let m : k < n = omega (arith, length-take-le n cs l) in
-    let y : true ≡ false = sym (eq-eqb (get_or cs k d) 39 (sym (get_or-take n cs k d m) ∙ z)) ∙ (position-Some (λ c. c == 39) cs n d b.1).2 k m in
-    absurd cc in
+    let y : true ≡ false = sym (eq-eqb (get_or cs k d) 39 (sym (get_or-take n cs k d m) ∙ z)) ∙ (position-Some (λ c. c == 39) cs n d b.1).2 k m in absurd cc in
     token_at (39 ∷ cs) (39 ∷ (take n cs ++ 39 ∷ [])) (drop 1 (drop n cs)) (constant (string (take n cs))) x t.1
     (ap (λ us. 39 ∷ us) (at_place n cs q.0 q.1) ∙ sym (append_assoc (39 ∷ take n cs) (39 ∷ []) (drop 1 (drop n cs))))
     (single (take n cs) all (IsUtf8-from_is_utf8 (take n cs) t.0) refl)
@@ -480,8 +477,7 @@ double_found cs x h =
     let t = text_cut q.bytes q.rest x b.2 in
     let f = quoted_found cs q b.1 in
     token_at (34 ∷ cs) (34 ∷ (f.front ++ 34 ∷ [])) q.rest (constant (string q.bytes)) x t.1
-    (ap (λ us. 34 ∷ us) f.split ∙ sym (append_assoc (34 ∷ f.front) (34 ∷ []) q.rest))
-    (double f.front q.bytes f.spelled (IsUtf8-from_is_utf8 q.bytes t.0) refl)
+    (ap (λ us. 34 ∷ us) f.split ∙ sym (append_assoc (34 ∷ f.front) (34 ∷ []) q.rest)) (double f.front q.bytes f.spelled (IsUtf8-from_is_utf8 q.bytes t.0) refl)
 
 pair_token : (c : ℕ) (cs : List ℕ) (s : Symbol) (x : Cut) → TwoBytes c (slice_index (c ∷ cs) 1) s → record { lexeme = symbol s; rest = drop 2 (c ∷ cs) } ≡ x
     → TokenAt (c ∷ cs) x
@@ -568,8 +564,7 @@ digits_stop r ds [] k n = refl
 digits_stop r ds (d ∷ us) k n =
     let e : is_digit r d ≡ false =
     false_from_ne_true (is_digit r d) (λ e. n (d ∷ []) us refl (omega arith) (digits_push r ds (d ∷ []) k (λ c i. one_digit i (last_digit e)))) in
-    by_test (d == 95)
-    (λ l. line_stop r d us l e (behind_stops r ds us k (λ next behind s m j. n (95 ∷ next) behind (rw (eqb-true d 95 l, s)) (omega arith) j)))
+    by_test (d == 95) (λ l. line_stop r d us l e (behind_stops r ds us k (λ next behind s m j. n (95 ∷ next) behind (rw (eqb-true d 95 l, s)) (omega arith) j)))
     (λ l. no_digits r d us e l)
 
 number_goes_on : (r : Radix) (ds rest : List ℕ) → NoLonger (number_prefix r ++ ds) rest → NoMore r ds rest

@@ -1,16 +1,15 @@
 -- With enough nested calls, more of them read nothing else.
 use Rattle.ksv_expr_syntax.proofs.Common.{◌≡◌, ℕ, zero, suc, ◌+◌, ◌*◌, ◌≤◌, ◌<◌, List, [], ◌∷◌, ◌++◌, length, length-append, Option, Some, None, refl, ap, ◌∙◌}
-use Rattle.ksv_expr_syntax.proofs.Common.{arith, inl, inr, Symbol, UnaryOperator, Precedence, Tree, unary, binary, choice, call, index, cast, no_arguments}
-use Rattle.ksv_expr_syntax.proofs.Common.{argument, Lexeme, constant, word, symbol, Level, Whole, Joined, Negation, Comparison, Prefix, Postfix, Primary}
-use Rattle.ksv_expr_syntax.proofs.Common.{tighter, join_tree, select_tree, path_tokens, Spells, pick, no_pick, join, no_join, negation, no_negation, compare}
+use Rattle.ksv_expr_syntax.proofs.Common.{arith, Symbol, UnaryOperator, Precedence, Tree}
+use Rattle.ksv_expr_syntax.proofs.Common.{Lexeme, constant, word, symbol, Level, Whole, Joined, Negation, Comparison, Prefix, Postfix, Primary}
+use Rattle.ksv_expr_syntax.proofs.Common.{tighter, join_tree, path_tokens, Spells, pick, no_pick, join, no_join, negation, no_negation, compare}
 use Rattle.ksv_expr_syntax.proofs.Common.{no_compare, prefixed, no_prefix, selected, called, converted, indexed, no_postfix, literal_alone, name_alone}
-use Rattle.ksv_expr_syntax.proofs.Common.{enum_member, group, Next, Found, FoundList, found, found_list, ◌>>=◌, choose, spend, after, operator_at}
+use Rattle.ksv_expr_syntax.proofs.Common.{enum_member, group, Next, Found, FoundList, ◌>>=◌, choose, spend, after, operator_at}
 use Rattle.ksv_expr_syntax.proofs.Common.{comparison_at, prefix_at, path_at, reads, picks, arms, joins, negates, compares, prefixes, goes_on, places, selects}
 use Rattle.ksv_expr_syntax.proofs.Common.{groups, reads_list, reads_more, room, wide}
 use Rattle.ksv_expr_syntax.specs.declared.token.Symbol.TheVariants as tok
-use Rattle.ksv_expr_tree.specs.declared.tree.UnaryOperator.TheVariants as unaries
 use Rattle.ksv_expr_syntax.specs.declared.token.Precedence.TheVariants as tier
-use Rattle.ksv_expr_syntax.proofs.Steps.{with_bind, with_spend, with_choice, after_some, operator_some, comparison_some, prefix_some, path_some, at_found}
+use Rattle.ksv_expr_syntax.proofs.Steps.{with_bind, with_spend, with_choice, after_some, operator_some, comparison_some, prefix_some, path_some, found_is}
 use Rattle.ksv_expr_syntax.proofs.Sound.{reads_sound, list_sound}
 
 -- ---- what is read has a token
@@ -61,20 +60,18 @@ pub places_shrinks : (n : ℕ) (e : Tree) (d : ℕ) (ts : List Lexeme) (p : ℕ)
 places_shrinks zero e d ts p x h = absurd cc
 places_shrinks (suc n) e d ts p x h =
     with_spend d _ x h (λ g i h. with_spend p _ x h (λ q i h. with_bind (reads n Whole g ts q) _ x h (λ a i h. with_bind (after tok.CloseBracket a.rest) _ x h
-    (λ us j h. at_found (λ x. length x.rest < length ts) (index e a.tree) us a.left x h
-    (omega (arith, shrinks n Whole g ts q a i, after_shrinks tok.CloseBracket a.rest us j))))))
+    (λ us j h. rw (← (found_is h)) (omega (arith, shrinks n Whole g ts q a i, after_shrinks tok.CloseBracket a.rest us j))))))
 
 pub selects_shrinks : (n : ℕ) (e : Tree) (d : ℕ) (ts : List Lexeme) (p : ℕ) (x : Found) → selects n e d ts p ≡ Some x → length x.rest < length ts
 selects_shrinks (suc n) e d (word w ∷ ts) p x h =
     with_spend p _ x h (λ q i h. with_choice (after tok.OpenParenthesis ts) _ _ x h
-    (λ c h. at_found (λ x. length x.rest < length (word w ∷ ts)) (select_tree e w) ts q x h (omega arith))
+    (λ c h. rw (← (found_is h)) (omega arith))
     (λ us j h. with_spend d _ x h (λ g i h. with_bind (reads_list n g us q) _ x h (λ a i h.
-    at_found (λ x. length x.rest < length (word w ∷ ts)) (call e w a.arguments) a.rest a.left x h
-    (omega (arith, list_shrinks n g us q a i, after_shrinks tok.OpenParenthesis ts us j))))))
+    rw (← (found_is h)) (omega (arith, list_shrinks n g us q a i, after_shrinks tok.OpenParenthesis ts us j))))))
 selects_shrinks (suc n) e d (symbol v ∷ ts) p x h =
     with_spend p _ x h (λ q i h. with_bind (after tok.As (symbol v ∷ ts)) _ x h (λ us j h. with_bind (after tok.Less us) _ x h (λ vs k h.
     with_bind (path_at vs) _ x h (λ m l h. with_bind (after tok.Greater m.behind) _ x h (λ ws g h.
-    at_found (λ x. length x.rest < length (symbol v ∷ ts)) (cast e (record { path = m.what; number = None })) ws q x h (omega (
+    rw (← (found_is h)) (omega (
       arith,
       after_shrinks tok.As (symbol v ∷ ts) us j,
       after_shrinks tok.Less us vs k,

@@ -1,21 +1,20 @@
 -- What is read is spelled so.
-use Rattle.ksv_expr_syntax.proofs.Common.{◌≡◌, ℕ, zero, suc, ◌+◌, true, false, List, [], ◌∷◌, ◌++◌, length, Some, None, refl, sym, ap, subst, ◌∙◌, append_assoc}
-use Rattle.ksv_expr_syntax.proofs.Common.{arith, if◌then◌else◌, append-nil, UnaryOperator, BinaryOperator, Precedence, Infix, Constant, Tree, literal, unary}
-use Rattle.ksv_expr_syntax.proofs.Common.{binary, choice, call, index, cast, no_arguments, argument, operator, comparison, prefix, Lexeme, constant, word}
+use Rattle.ksv_expr_syntax.proofs.Common.{◌≡◌, ℕ, zero, suc, ◌+◌, false, List, [], ◌∷◌, ◌++◌, length, Some, None, refl, sym, ap, subst, ◌∙◌, append_assoc}
+use Rattle.ksv_expr_syntax.proofs.Common.{arith, if◌then◌else◌, append-nil, UnaryOperator, Precedence, Infix, Tree}
+use Rattle.ksv_expr_syntax.proofs.Common.{prefix, Lexeme, constant, word}
 use Rattle.ksv_expr_syntax.proofs.Common.{symbol, parts, all_parts, Level, Whole, Joined, Negation, Comparison, Prefix, Postfix, Primary, tighter, join_tree}
 use Rattle.ksv_expr_syntax.proofs.Common.{select_tree, is_left_out, path_tokens, Spells, pick, no_pick, join, no_join, negation, no_negation, compare}
 use Rattle.ksv_expr_syntax.proofs.Common.{no_compare, prefixed, no_prefix, selected, called, converted, indexed, no_postfix, literal_alone, name_alone}
-use Rattle.ksv_expr_syntax.proofs.Common.{enum_member, group, Next, Found, FoundList, found, found_list, ◌>>=◌, choose, spend, after, operator_at}
+use Rattle.ksv_expr_syntax.proofs.Common.{enum_member, group, Next, Found, FoundList, found, ◌>>=◌, spend, after, operator_at}
 use Rattle.ksv_expr_syntax.proofs.Common.{comparison_at, prefix_at, path_at, path_on, path_tree, all_but_last, last_name, reads, picks, arms, joins, negates}
 use Rattle.ksv_expr_syntax.proofs.Common.{compares, prefixes, goes_on, places, selects, groups, reads_list, reads_more}
 use Rattle.ksv_expr_syntax.specs.declared.token.Symbol.TheVariants as tok
-use Rattle.ksv_expr_tree.specs.declared.tree.UnaryOperator.TheVariants as unaries
 use Rattle.ksv_expr_syntax.specs.declared.token.Precedence.TheVariants as tier
 use Rattle.ksv_expr_syntax.specs.declared.token.Infix.TheVariants as infixes
 use Rattle.ksv_expr_tree.specs.Tree.{named, special}
 use Rattle.ksv_expr_syntax.specs.Grammar.{name_tree, special_of, SpellsArguments, empty, listed, SpellsList, last_one, one_more}
 use Rattle.ksv_expr_syntax.proofs.Steps.{with_bind, with_spend, with_choice, after_some, operator_some, comparison_some, prefix_some, Path, path_some}
-use Rattle.ksv_expr_syntax.proofs.Steps.{path_on_some, split_names, at_found, at_list}
+use Rattle.ksv_expr_syntax.proofs.Steps.{path_on_some, split_names, found_is, list_is, by_test}
 
 -- a tree was read from the front
 pub record Sound (l : Level) (d : ℕ) (ts : List Lexeme) (p : ℕ) (x : Found) : Type 0 where
@@ -76,8 +75,7 @@ chain before e a x o next = extend before o.front e a.tree o.cut o.spent (next (
 -- nothing goes on
 stays : {l : Level} {d : ℕ} (before : List Lexeme) (e : Tree) (ts : List Lexeme) (p : ℕ) (x : Found) → found e ts p ≡ Some x → Spells d l before e
     → Onward l d before e ts p x
-stays {l} {d} before e ts p x h s = at_found (λ x. Onward l d before e ts p x) e ts p x h
-    (record { front = []; cut = refl; spelled = subst (λ (r : List Lexeme). Spells d l r e) (sym (append-nil before)) s; spent = refl })
+stays before e ts p x h s = rw (← (found_is h)) (record { front = []; cut = refl; spelled = rw append-nil s; spent = refl })
 
 -- a token more in front
 behind : (v : Lexeme) {ts us : List Lexeme} → ts ≡ us → v ∷ ts ≡ v ∷ us
@@ -86,23 +84,6 @@ behind v e = ap (λ (ts : List Lexeme). v ∷ ts) e
 -- a closing token after the front
 closed : {ts r us : List Lexeme} (front : List Lexeme) (v : Lexeme) → ts ≡ front ++ r → r ≡ v ∷ us → ts ≡ (front ++ v ∷ []) ++ us
 closed {us = us} front v e f = e ∙ ap (λ (r : List Lexeme). front ++ r) f ∙ sym (append_assoc front (v ∷ []) us)
-
-deeper : (l : Level) {d e : ℕ} {ts : List Lexeme} {p : ℕ} {x : Found} → d ≡ e → Sound l e ts p x → Sound l d ts p x
-deeper l {ts = ts} {p = p} {x = x} q s = subst (λ d. Sound l d ts p x) (sym q) s
-
-onward_deeper : (l : Level) {d d' : ℕ} {before : List Lexeme} {e : Tree} {ts : List Lexeme} {p : ℕ} {x : Found} → d ≡ d' → Onward l d' before e ts p x
-    → Onward l d before e ts p x
-onward_deeper l {before = before} {e = e} {ts = ts} {p = p} {x = x} q s = subst (λ d. Onward l d before e ts p x) (sym q) s
-
-as_deep : {l : Level} {d e : ℕ} {ts : List Lexeme} {x : Tree} → d ≡ e → Spells d l ts x → Spells e l ts x
-as_deep {l} {ts = ts} {x = x} q s = subst (λ d. Spells d l ts x) q s
-
-as_cut : {l : Level} {d : ℕ} {ts us : List Lexeme} {p : ℕ} {x : Found} → ts ≡ us → Sound l d us p x → Sound l d ts p x
-as_cut {l} {d} {p = p} {x = x} q s = subst (λ ts. Sound l d ts p x) (sym q) s
-
-onward_cut : {l : Level} {d : ℕ} {before : List Lexeme} {e : Tree} {ts us : List Lexeme} {p : ℕ} {x : Found} → ts ≡ us → Onward l d before e us p x
-    → Onward l d before e ts p x
-onward_cut {l} {d} {before} {e} {p = p} {x = x} q s = subst (λ ts. Onward l d before e ts p x) (sym q) s
 
 -- the middle of a choice
 two_arms : {ts r us : List Lexeme} (ys zs r2 : List Lexeme) → ts ≡ ys ++ r → r ≡ symbol tok.Colon ∷ us → us ≡ zs ++ r2
@@ -149,148 +130,11 @@ path_sound w ts d p q y h s e = record {
 
 -- ---- what each rule makes of what was read
 
-negation_made : {d e p q : ℕ} {ts : List Lexeme} (a x : Found) → d ≡ suc e → p ≡ suc q → Sound Negation e ts q a
-    → found (unary unaries.Not a.tree) a.rest a.left ≡ Some x → Sound Negation d (symbol tok.Not ∷ ts) p x
-negation_made {e = e} {p = p} {ts = ts} a x g q s h =
-    deeper Negation g (at_found (λ x. Sound Negation (suc e) (symbol tok.Not ∷ ts) p x) (unary unaries.Not a.tree) a.rest a.left x h
-    (record { front = symbol tok.Not ∷ s.front; cut = behind (symbol tok.Not) s.cut; spelled = negation s.spelled; spent = omega (arith, q, s.spent) }))
-
-prefix_made : (v : Lexeme) (op : UnaryOperator) {d e p q : ℕ} {ts : List Lexeme} (a x : Found) → prefix v ≡ Some op → d ≡ suc e → p ≡ suc q
-    → Sound Prefix e ts q a → found (unary op a.tree) a.rest a.left ≡ Some x → Sound Prefix d (v ∷ ts) p x
-prefix_made v op {e = e} {p = p} {ts = ts} a x o g q s h =
-    deeper Prefix g (at_found (λ x. Sound Prefix (suc e) (v ∷ ts) p x) (unary op a.tree) a.rest a.left x h
-    (record { front = v ∷ s.front; cut = behind v s.cut; spelled = prefixed v o s.spelled; spent = omega (arith, q, s.spent) }))
-
-group_made : {d e p : ℕ} {ts us : List Lexeme} (a x : Found) → d ≡ suc e → Sound Whole e ts p a → a.rest ≡ symbol tok.CloseParenthesis ∷ us
-    → found a.tree us a.left ≡ Some x → Sound Primary d (symbol tok.OpenParenthesis ∷ ts) p x
-group_made {e = e} {p = p} {ts = ts} {us = us} a x g s c h =
-    deeper Primary g (at_found (λ x. Sound Primary (suc e) (symbol tok.OpenParenthesis ∷ ts) p x) a.tree us a.left x h
-    (record {
-      front = symbol tok.OpenParenthesis ∷ (s.front ++ symbol tok.CloseParenthesis ∷ []);
-      cut = behind (symbol tok.OpenParenthesis)
-          (closed s.front (symbol tok.CloseParenthesis) s.cut c);
-      spelled = group s.front refl s.spelled;
-      spent = s.spent;
-    }))
-
-arms_made : (before : List Lexeme) (e : Tree) {d g p q : ℕ} {ts us : List Lexeme} (a b x : Found) → Spells d (Joined tier.Or) before e → d ≡ suc g → p ≡ suc q
-    → Sound Whole g ts q a → a.rest ≡ symbol tok.Colon ∷ us → Sound Whole g us a.left b → found (choice e a.tree b.tree) b.rest b.left ≡ Some x
-    → Onward Whole d before e (symbol tok.Question ∷ ts) p x
-arms_made before e {g = g} {p = p} {ts = ts} a b x s i q y c z h =
-    onward_deeper Whole i (at_found (λ x. Onward Whole (suc g) before e (symbol tok.Question ∷ ts) p x) (choice e a.tree b.tree) b.rest b.left x h
-    (record {
-      front = symbol tok.Question ∷ (y.front ++ symbol tok.Colon ∷ z.front);
-      cut = behind (symbol tok.Question) (two_arms y.front z.front b.rest y.cut c z.cut);
-      spelled = pick before y.front z.front refl (as_deep i s) y.spelled z.spelled;
-      spent = omega (arith, q, y.spent, z.spent);
-    }))
-
-join_made : (k : Precedence) (op : Infix) (t : Lexeme) (before : List Lexeme) (e : Tree) {d p q : ℕ} {ts us : List Lexeme} (a x : Found) → ts ≡ t ∷ us
-    → operator k t ≡ Some op → Spells d (Joined k) before e → p ≡ suc q → Sound (tighter k) d us q a
-    → ((front : List Lexeme) → Spells d (Joined k) front (join_tree op e a.tree) → Onward (Joined k) d front (join_tree op e a.tree) a.rest a.left x)
-    → Onward (Joined k) d before e ts p x
-join_made k op t before e a x i o s q r next = extend before (t ∷ r.front) e (join_tree op e a.tree) (i ∙ behind t r.cut)
-    (omega (arith, q, r.spent, parts_join op e a.tree)) (next (before ++ t ∷ r.front) (join before t r.front o refl s r.spelled))
-
-compare_made : (op : BinaryOperator) (t : Lexeme) (before : List Lexeme) (e : Tree) {d p q : ℕ} {ts us : List Lexeme} (a x : Found) → ts ≡ t ∷ us
-    → comparison t ≡ Some op → Spells d (Joined tier.BitOr) before e → p ≡ suc q → Sound (Joined tier.BitOr) d us q a
-    → found (binary op e a.tree) a.rest a.left ≡ Some x → Onward Comparison d before e ts p x
-compare_made op t before e {d = d} {p = p} {ts = ts} a x i o s q r h =
-    at_found (λ x. Onward Comparison d before e ts p x) (binary op e a.tree) a.rest a.left x h
-    (record { front = t ∷ r.front; cut = i ∙ behind t r.cut; spelled = compare before t r.front o refl s r.spelled; spent = omega (arith, q, r.spent) })
-
-place_made : (before : List Lexeme) (e : Tree) {d g p q : ℕ} {ts us : List Lexeme} (a x : Found) → Spells d Postfix before e → d ≡ suc g → p ≡ suc q
-    → Sound Whole g ts q a → a.rest ≡ symbol tok.CloseBracket ∷ us → found (index e a.tree) us a.left ≡ Some x
-    → Onward Postfix d before e (symbol tok.OpenBracket ∷ ts) p x
-place_made before e {g = g} {p = p} {ts = ts} {us = us} a x s i q y c h =
-    onward_deeper Postfix i (at_found (λ x. Onward Postfix (suc g) before e (symbol tok.OpenBracket ∷ ts) p x) (index e a.tree) us a.left x h
-    (record {
-      front = symbol tok.OpenBracket ∷ (y.front ++ symbol tok.CloseBracket ∷ []);
-      cut = behind (symbol tok.OpenBracket) (closed y.front (symbol tok.CloseBracket) y.cut c);
-      spelled = indexed before y.front refl (as_deep i s) y.spelled;
-      spent = omega (arith, q, y.spent);
-    }))
-
-field_made : (before : List Lexeme) (e : Tree) (w : List ℕ) (d : ℕ) (ts : List Lexeme) {p q : ℕ} (x : Found) → Spells d Postfix before e → p ≡ suc q
-    → found (select_tree e w) ts q ≡ Some x → Onward Postfix d before e (symbol tok.Dot ∷ word w ∷ ts) p x
-field_made before e w d ts {p} {q} x s i h = at_found (λ x. Onward Postfix d before e (symbol tok.Dot ∷ word w ∷ ts) p x) (select_tree e w) ts q x h
-    (record { front = symbol tok.Dot ∷ word w ∷ []; cut = refl; spelled = selected before w refl s; spent = omega (arith, i, parts_select e w) })
-
-call_made : (before : List Lexeme) (e : Tree) (w : List ℕ) {d g p q : ℕ} {ts us : List Lexeme} (a : FoundList) (x : Found) → Spells d Postfix before e
-    → p ≡ suc q → ts ≡ symbol tok.OpenParenthesis ∷ us → d ≡ suc g → SoundList g us q a → found (call e w a.arguments) a.rest a.left ≡ Some x
-    → Onward Postfix d before e (symbol tok.Dot ∷ word w ∷ ts) p x
-call_made before e w {g = g} {p = p} {ts = ts} a x s q o i y h =
-    onward_deeper Postfix i (at_found (λ x. Onward Postfix (suc g) before e (symbol tok.Dot ∷ word w ∷ ts) p x) (call e w a.arguments) a.rest a.left x h
-    (record {
-      front = symbol tok.Dot ∷ word w ∷ symbol tok.OpenParenthesis ∷ (y.front ++ symbol tok.CloseParenthesis ∷ []);
-      cut = behind (symbol tok.Dot) (behind (word w) (o ∙ behind (symbol tok.OpenParenthesis) (closed y.front (symbol tok.CloseParenthesis) y.cut refl)));
-      spelled = called before w y.front refl (as_deep i s) y.spelled;
-      spent = omega (arith, q, y.spent);
-    }))
-
-cast_made : (before : List Lexeme) (e : Tree) (d : ℕ) (ts : List Lexeme) {p q : ℕ} {us vs ws : List Lexeme} (m : Next (List (List ℕ))) (x : Found)
-    → Spells d Postfix before e → p ≡ suc q → ts ≡ symbol tok.As ∷ us → us ≡ symbol tok.Less ∷ vs → Path vs m → m.behind ≡ symbol tok.Greater ∷ ws
-    → found (cast e (record { path = m.what; number = None })) ws q ≡ Some x → Onward Postfix d before e (symbol tok.Dot ∷ ts) p x
-cast_made before e d ts {p} {q} {ws = ws} m x s i u l y g h =
-    at_found (λ x. Onward Postfix d before e (symbol tok.Dot ∷ ts) p x) (cast e (record { path = m.what; number = None })) ws q x h
-    (record {
-      front = symbol tok.Dot ∷ symbol tok.As ∷ symbol tok.Less ∷ (path_tokens m.what ++ symbol tok.Greater ∷ []);
-      cut = behind (symbol tok.Dot)
-          (u ∙ behind (symbol tok.As)
-          (l ∙ behind (symbol tok.Less)
-          (closed (path_tokens m.what) (symbol tok.Greater) (y.cut ∙ ap (λ ws. path_tokens ws ++ m.behind) (sym y.names)) g)));
-      spelled = converted before m.what (omega (arith, ap length y.names)) refl s;
-      spent = omega (arith, i);
-    })
-
-last_made : {d p : ℕ} {ts us : List Lexeme} (a : Found) (x : FoundList) → Sound Whole d ts p a → a.rest ≡ symbol tok.CloseParenthesis ∷ us
-    → found_list (argument a.tree no_arguments) us a.left ≡ Some x → SoundMore d ts p x
-last_made {d} {p} {ts} {us} a x s c h = at_list (λ x. SoundMore d ts p x) (argument a.tree no_arguments) us a.left x h
-    (record { front = s.front; cut = s.cut ∙ ap (λ (r : List Lexeme). s.front ++ r) c; spelled = last_one s.spelled; spent = omega (arith, s.spent) })
-
-more_made : {d p : ℕ} {ts us : List Lexeme} (a : Found) (b x : FoundList) → Sound Whole d ts p a → a.rest ≡ symbol tok.Comma ∷ us → SoundMore d us a.left b
-    → found_list (argument a.tree b.arguments) b.rest b.left ≡ Some x → SoundMore d ts p x
-more_made {d} {p} {ts} a b x s c r h = at_list (λ x. SoundMore d ts p x) (argument a.tree b.arguments) b.rest b.left x h
-    (record {
-      front = s.front ++ symbol tok.Comma ∷ r.front;
-      cut = s.cut ∙ ap (λ (r : List Lexeme). s.front ++ r) (c ∙ behind (symbol tok.Comma) r.cut)
-          ∙ sym (append_assoc s.front (symbol tok.Comma ∷ r.front) (symbol tok.CloseParenthesis ∷ b.rest));
-      spelled = one_more s.front r.front refl s.spelled r.spelled;
-      spent = omega (arith, s.spent, r.spent);
-    })
-
-literal_sound : (v : Constant) (ts : List Lexeme) (d p : ℕ) (x : Found) → spend p (λ p. found (literal v) ts p) ≡ Some x → Sound Primary d (constant v ∷ ts) p x
-literal_sound v ts d p x h =
-    with_spend p _ x h (λ q i h.
-    at_found (λ x. Sound Primary d (constant v ∷ ts) p x) (literal v) ts q x h
-    (record { front = constant v ∷ []; cut = refl; spelled = literal_alone; spent = omega (arith, i) }))
-
 word_sound : (w : List ℕ) (ts : List Lexeme) (d p : ℕ) (x : Found)
-    → (if is_left_out w then None else (path_on w ts >>= λ y. spend p (λ p. found (path_tree y.what) y.behind p))) ≡ Some x
-    → Sound Primary d (word w ∷ ts) p x
-word_sound w ts d p x h =
-    elim (is_left_out w) as
-    (λ b. is_left_out w ≡ b → (if b then None else (path_on w ts >>= λ y. spend p (λ p. found (path_tree y.what) y.behind p))) ≡ Some x
-    → Sound Primary d (word w ∷ ts) p x) [
-      | true ↦ λ e h. absurd cc
-      | false ↦ λ e h.
-          with_bind (path_on w ts) _ x h (λ y r h.
-          with_spend p _ x h (λ q i h.
-          at_found (λ x. Sound Primary d (word w ∷ ts) p x) (path_tree y.what) y.behind q x h (path_sound w ts d p q y e (path_on_some w ts y r) i)))
-    ] refl h
-
-cast_sound : (before : List Lexeme) (e : Tree) (d : ℕ) (ts : List Lexeme) (p : ℕ) (x : Found) → Spells d Postfix before e
-    → spend p (λ p. after tok.As ts >>= λ us. after tok.Less us >>= λ vs. path_at vs >>= λ x. after tok.Greater x.behind
-    >>= λ ws. found (cast e (record { path = x.what; number = None })) ws p) ≡ Some x → Onward Postfix d before e (symbol tok.Dot ∷ ts) p x
-cast_sound before e d ts p x s h =
-    with_spend p _ x h (λ q j h.
-    with_bind (after tok.As ts)
-    _ x h (λ us u h.
-    with_bind (after tok.Less us) _
-    x h (λ vs l h.
-    with_bind (path_at vs) _ x h (λ m y h.
-    with_bind (after tok.Greater m.behind) _ x h (λ ws g h.
-    cast_made before e d ts m x s j (after_some tok.As ts us u) (after_some tok.Less us vs l) (path_some vs m y) (after_some tok.Greater m.behind ws g) h)))))
+    → (if is_left_out w then None else (path_on w ts >>= λ y. spend p (λ p. found (path_tree y.what) y.behind p))) ≡ Some x → Sound Primary d (word w ∷ ts) p x
+word_sound w ts d p x h = by_test (is_left_out w) (λ e. absurd (let i = rw e at h in cc)) (λ e.
+    with_bind (path_on w ts) (λ y. spend p (λ p. found (path_tree y.what) y.behind p)) x (rw e at h) (λ y r h.
+    with_spend p _ x h (λ q i h. rw (← (found_is h)) (path_sound w ts d p q y e (path_on_some w ts y r) i))))
 
 mutual
   pub reads_sound : (n : ℕ) (l : Level) (d : ℕ) (ts : List Lexeme) (p : ℕ) (x : Found) → reads n l d ts p ≡ Some x → Sound l d ts p x
@@ -305,7 +149,7 @@ mutual
       with_choice (after tok.Not ts) _ _ x h
       (λ c h. let s = reads_sound n Comparison d ts p x h in
       record { front = s.front; cut = s.cut; spelled = no_negation s.spelled; spent = s.spent })
-      (λ us c h. as_cut (after_some tok.Not ts us c) (negates_sound n d us p x h))
+      (λ us c h. rw (after_some tok.Not ts us c) (negates_sound n d us p x h))
   reads_sound (suc n) Comparison d ts p x h =
       with_bind (reads n (Joined tier.BitOr) d ts p) _ x h (λ a r h.
       both a x (reads_sound n (Joined tier.BitOr) d ts p a r) (λ front s. compares_sound n front a.tree d a.rest a.left x s h))
@@ -313,143 +157,174 @@ mutual
       with_choice (prefix_at ts) _ _ x h
       (λ c h. let s = reads_sound n Postfix d ts p x h in
       record { front = s.front; cut = s.cut; spelled = no_prefix s.spelled; spent = s.spent })
-      (λ y c h. let o = prefix_some ts y c in as_cut o.1 (prefixes_sound n o.0 y.what d y.behind p x o.2 h))
+      (λ y c h. let o = prefix_some ts y c in rw o.1 (prefixes_sound n o.0 y.what d y.behind p x o.2 h))
   reads_sound (suc n) Postfix d ts p x h =
       with_bind (reads n Primary d ts p) _ x h (λ a r h.
       both a x (reads_sound n Primary d ts p a r) (λ front s. goes_on_sound n front a.tree d a.rest a.left x (no_postfix s) h))
   reads_sound (suc n) Primary d [] p x h = absurd cc
-  reads_sound (suc n) Primary d (constant v ∷ ts) p x h = literal_sound v ts d p x h
+  reads_sound (suc n) Primary d (constant v ∷ ts) p x h = with_spend p _ x h (λ q i h.
+      rw (← (found_is h)) (record { front = constant v ∷ []; cut = refl; spelled = literal_alone; spent = omega (arith, i) }))
   reads_sound (suc n) Primary d (word w ∷ ts) p x h = word_sound w ts d p x h
   reads_sound (suc n) Primary d (symbol s ∷ ts) p x h =
       with_bind (after tok.OpenParenthesis (symbol s ∷ ts)) _ x h (λ us c h.
-      as_cut (after_some tok.OpenParenthesis (symbol s ∷ ts) us c) (groups_sound n d us p x h))
+      rw (after_some tok.OpenParenthesis (symbol s ∷ ts) us c) (groups_sound n d us p x h))
 
   picks_sound : (n : ℕ) (before : List Lexeme) (e : Tree) (d : ℕ) (ts : List Lexeme) (p : ℕ) (x : Found) → Spells d (Joined tier.Or) before e
       → picks n e d ts p ≡ Some x → Onward Whole d before e ts p x
   picks_sound zero before e d ts p x s h = absurd cc
   picks_sound (suc n) before e d ts p x s h =
-      with_choice (after tok.Question ts) _ _ x h
-      (λ c h. stays before e ts p x h (no_pick s))
-      (λ us c h. onward_cut (after_some tok.Question ts us c) (arms_sound n before e d us p x s h))
+      with_choice (after tok.Question ts) _ _ x h (λ c h. stays before e ts p x h (no_pick s))
+      (λ us c h. rw (after_some tok.Question ts us c) (arms_sound n before e d us p x s h))
 
   arms_sound : (n : ℕ) (before : List Lexeme) (e : Tree) (d : ℕ) (ts : List Lexeme) (p : ℕ) (x : Found) → Spells d (Joined tier.Or) before e
       → arms n e d ts p ≡ Some x → Onward Whole d before e (symbol tok.Question ∷ ts) p x
   arms_sound zero before e d ts p x s h = absurd cc
   arms_sound (suc n) before e d ts p x s h =
-      with_spend d _ x h (λ g i h.
-      with_spend p _ x h (λ q j h.
-      with_bind (reads n Whole g ts q) _ x
-      h (λ a r h.
-      with_bind (after tok.Colon a.rest) _ x h (λ us c h.
-      with_bind (reads n Whole g us a.left) _ x h (λ b t h.
-      arms_made before e a b x s i j (reads_sound n Whole g ts q a r) (after_some tok.Colon a.rest us c) (reads_sound n Whole g us a.left b t) h)))))
+      with_spend d _ x h (λ g i h. with_spend p _ x h (λ q j h. with_bind (reads n Whole g ts q) _ x h (λ a r h.
+      with_bind (after tok.Colon a.rest) _ x h (λ us c h. with_bind (reads n Whole g us a.left) _ x h (λ b t h.
+      let y = reads_sound n Whole g ts q a r in
+      let z = reads_sound n Whole g us a.left b t in
+      rw (i, ← (found_is h)) (record {
+        front = symbol tok.Question ∷ (y.front ++ symbol tok.Colon ∷ z.front);
+        cut = behind (symbol tok.Question) (two_arms y.front z.front b.rest y.cut (after_some tok.Colon a.rest us c) z.cut);
+        spelled = pick before y.front z.front refl (rw i at s) y.spelled z.spelled;
+        spent = omega (arith, j, y.spent, z.spent);
+      }))))))
 
   joins_sound : (n : ℕ) (k : Precedence) (before : List Lexeme) (e : Tree) (d : ℕ) (ts : List Lexeme) (p : ℕ) (x : Found) → Spells d (Joined k) before e
       → joins n k e d ts p ≡ Some x → Onward (Joined k) d before e ts p x
   joins_sound zero k before e d ts p x s h = absurd cc
   joins_sound (suc n) k before e d ts p x s h =
-      with_choice (operator_at k ts) _
-      _ x h
-      (λ c h. stays before e ts p x h s)
-      (λ y c h. let o = operator_some k ts y c in
-      with_spend p _ x h (λ q j h.
-      with_bind (reads n (tighter k) d y.behind q) _ x h (λ a r h.
-      join_made k y.what o.0 before e a x o.1 o.2 s j (reads_sound n (tighter k) d y.behind q a r)
-      (λ front s. joins_sound n k front (join_tree y.what e a.tree) d a.rest a.left x s h))))
+      with_choice (operator_at k ts) _ _ x h (λ c h. stays before e ts p x h s) (λ y c h.
+      let o = operator_some k ts y c in
+      with_spend p _ x h (λ q j h. with_bind (reads n (tighter k) d y.behind q) _ x h (λ a r h.
+      let z = reads_sound n (tighter k) d y.behind q a r in
+      extend before (o.0 ∷ z.front) e (join_tree y.what e a.tree) (o.1 ∙ behind o.0 z.cut) (omega (arith, j, z.spent, parts_join y.what e a.tree))
+      (joins_sound n k (before ++ o.0 ∷ z.front) (join_tree y.what e a.tree) d a.rest a.left x (join before o.0 z.front o.2 refl s z.spelled) h))))
 
   negates_sound : (n : ℕ) (d : ℕ) (ts : List Lexeme) (p : ℕ) (x : Found) → negates n d ts p ≡ Some x → Sound Negation d (symbol tok.Not ∷ ts) p x
   negates_sound zero d ts p x h = absurd cc
   negates_sound (suc n) d ts p x h =
-      with_spend d _ x h (λ e i h.
-      with_spend p _ x h (λ q j h.
-      with_bind (reads n Negation e ts q) _ x h (λ a r h.
-      negation_made a x i j (reads_sound n Negation e ts q a r) h)))
+      with_spend d _ x h (λ e i h. with_spend p _ x h (λ q j h. with_bind (reads n Negation e ts q) _ x h (λ a r h.
+      let s = reads_sound n Negation e ts q a r in
+      rw (i, ← (found_is h))
+      (record { front = symbol tok.Not ∷ s.front; cut = behind (symbol tok.Not) s.cut; spelled = negation s.spelled; spent = omega (arith, j, s.spent) }))))
 
   compares_sound : (n : ℕ) (before : List Lexeme) (e : Tree) (d : ℕ) (ts : List Lexeme) (p : ℕ) (x : Found) → Spells d (Joined tier.BitOr) before e
       → compares n e d ts p ≡ Some x → Onward Comparison d before e ts p x
   compares_sound zero before e d ts p x s h = absurd cc
   compares_sound (suc n) before e d ts p x s h =
-      with_choice (comparison_at ts) _
-      _ x h
-      (λ c h. stays before e ts p x h (no_compare s))
-      (λ y c h. let o = comparison_some ts y c in
-      with_spend p _ x h (λ q j h.
-      with_bind (reads n (Joined tier.BitOr) d y.behind q) _ x h (λ a r h.
-      compare_made y.what o.0 before e a x o.1 o.2 s j (reads_sound n (Joined tier.BitOr) d y.behind q a r) h)))
+      with_choice (comparison_at ts) _ _ x h (λ c h. stays before e ts p x h (no_compare s)) (λ y c h.
+      let o = comparison_some ts y c in
+      with_spend p _ x h (λ q j h. with_bind (reads n (Joined tier.BitOr) d y.behind q) _ x h (λ a r h.
+      let z = reads_sound n (Joined tier.BitOr) d y.behind q a r in
+      rw (← (found_is h)) (record {
+        front = o.0 ∷ z.front;
+        cut = o.1 ∙ behind o.0 z.cut;
+        spelled = compare before o.0 z.front o.2 refl s z.spelled;
+        spent = omega (arith, j, z.spent);
+      }))))
 
   prefixes_sound : (n : ℕ) (v : Lexeme) (op : UnaryOperator) (d : ℕ) (ts : List Lexeme) (p : ℕ) (x : Found) → prefix v ≡ Some op → prefixes n op d ts p ≡ Some x
       → Sound Prefix d (v ∷ ts) p x
   prefixes_sound zero v op d ts p x o h = absurd cc
   prefixes_sound (suc n) v op d ts p x o h =
-      with_spend d _ x h (λ e i h.
-      with_spend p _ x h (λ q j h.
-      with_bind (reads n Prefix e ts q) _ x h (λ a r h.
-      prefix_made v op a x o i j (reads_sound n Prefix e ts q a r) h)))
+      with_spend d _ x h (λ e i h. with_spend p _ x h (λ q j h. with_bind (reads n Prefix e ts q) _ x h (λ a r h.
+      let s = reads_sound n Prefix e ts q a r in
+      rw (i, ← (found_is h)) (record { front = v ∷ s.front; cut = behind v s.cut; spelled = prefixed v o s.spelled; spent = omega (arith, j, s.spent) }))))
 
   goes_on_sound : (n : ℕ) (before : List Lexeme) (e : Tree) (d : ℕ) (ts : List Lexeme) (p : ℕ) (x : Found) → Spells d Postfix before e
       → goes_on n e d ts p ≡ Some x → Onward Postfix d before e ts p x
   goes_on_sound zero before e d ts p x s h = absurd cc
   goes_on_sound (suc n) before e d ts p x s h =
-      with_choice (after tok.Dot ts) _
-      _ x h
-      (λ c h. with_choice (after tok.OpenBracket ts) _ _ x h
-      (λ c h. stays before e ts p x h s)
+      with_choice (after tok.Dot ts) _ _ x h
+      (λ c h. with_choice (after tok.OpenBracket ts) _ _ x h (λ c h. stays before e ts p x h s)
       (λ us c h. with_bind (places n e d us p) _ x h (λ a r h.
-      onward_cut (after_some tok.OpenBracket ts us c)
+      rw (after_some tok.OpenBracket ts us c)
       (chain before e a x (places_sound n before e d us p a s r) (λ front s. goes_on_sound n front a.tree d a.rest a.left x s h)))))
       (λ us c h. with_bind (selects n e d us p) _ x h (λ a r h.
-      onward_cut (after_some tok.Dot ts us c)
+      rw (after_some tok.Dot ts us c)
       (chain before e a x (selects_sound n before e d us p a s r) (λ front s. goes_on_sound n front a.tree d a.rest a.left x s h))))
 
   places_sound : (n : ℕ) (before : List Lexeme) (e : Tree) (d : ℕ) (ts : List Lexeme) (p : ℕ) (x : Found) → Spells d Postfix before e
       → places n e d ts p ≡ Some x → Onward Postfix d before e (symbol tok.OpenBracket ∷ ts) p x
   places_sound zero before e d ts p x s h = absurd cc
   places_sound (suc n) before e d ts p x s h =
-      with_spend d _ x h (λ g i h.
-      with_spend p _ x h (λ q j h.
-      with_bind (reads n Whole g ts q) _ x h (λ a r h.
+      with_spend d _ x h (λ g i h. with_spend p _ x h (λ q j h. with_bind (reads n Whole g ts q) _ x h (λ a r h.
       with_bind (after tok.CloseBracket a.rest) _ x h (λ us c h.
-      place_made before e a x s i j (reads_sound n Whole g ts q a r) (after_some tok.CloseBracket a.rest us c) h))))
+      let y = reads_sound n Whole g ts q a r in
+      rw (i, ← (found_is h)) (record {
+        front = symbol tok.OpenBracket ∷ (y.front ++ symbol tok.CloseBracket ∷ []);
+        cut = behind (symbol tok.OpenBracket) (closed y.front (symbol tok.CloseBracket) y.cut (after_some tok.CloseBracket a.rest us c));
+        spelled = indexed before y.front refl (rw i at s) y.spelled;
+        spent = omega (arith, j, y.spent);
+      })))))
 
   selects_sound : (n : ℕ) (before : List Lexeme) (e : Tree) (d : ℕ) (ts : List Lexeme) (p : ℕ) (x : Found) → Spells d Postfix before e
       → selects n e d ts p ≡ Some x → Onward Postfix d before e (symbol tok.Dot ∷ ts) p x
-  selects_sound zero before e d ts p x s h = absurd cc
-  selects_sound (suc n) before e d [] p x s h = absurd cc
-  selects_sound (suc n) before e d (constant c ∷ ts) p x s h = absurd cc
   selects_sound (suc n) before e d (word w ∷ ts) p x s h =
-      with_spend p _ x h (λ q j h.
-      with_choice (after tok.OpenParenthesis ts) _
-      _ x h
-      (λ c h. field_made before e w d ts x s j h)
-      (λ us c h. with_spend d _ x h (λ g i h.
-      with_bind (reads_list n g us q) _ x h (λ a r h.
-      call_made before e w a x s j (after_some tok.OpenParenthesis ts us c) i (list_sound n g us q a r) h))))
-  selects_sound (suc n) before e d (symbol v ∷ ts) p x s h = cast_sound before e d (symbol v ∷ ts) p x s h
+      with_spend p _ x h (λ q j h. with_choice (after tok.OpenParenthesis ts) _ _ x h
+      (λ c h. rw (← (found_is h))
+      (record { front = symbol tok.Dot ∷ word w ∷ []; cut = refl; spelled = selected before w refl s; spent = omega (arith, j, parts_select e w) }))
+      (λ us c h. with_spend d _ x h (λ g i h. with_bind (reads_list n g us q) _ x h (λ a r h.
+      let y = list_sound n g us q a r in
+      rw (i, after_some tok.OpenParenthesis ts us c, ← (found_is h)) (record {
+        front = symbol tok.Dot ∷ word w ∷ symbol tok.OpenParenthesis ∷ (y.front ++ symbol tok.CloseParenthesis ∷ []);
+        cut = behind (symbol tok.Dot) (behind (word w) (behind (symbol tok.OpenParenthesis) (closed y.front (symbol tok.CloseParenthesis) y.cut refl)));
+        spelled = called before w y.front refl (rw i at s) y.spelled;
+        spent = omega (arith, j, y.spent);
+      })))))
+  selects_sound (suc n) before e d (symbol v ∷ ts) p x s h =
+      with_spend p _ x h (λ q j h. with_bind (after tok.As (symbol v ∷ ts)) _ x h (λ us u h. with_bind (after tok.Less us) _ x h (λ vs l h.
+      with_bind (path_at vs) _ x h (λ m y h. with_bind (after tok.Greater m.behind) _ x h (λ ws g h.
+      let z = path_some vs m y in
+      rw (after_some tok.As (symbol v ∷ ts) us u, after_some tok.Less us vs l, ← (found_is h)) (record {
+        front = symbol tok.Dot ∷ symbol tok.As ∷ symbol tok.Less ∷ (path_tokens m.what ++ symbol tok.Greater ∷ []);
+        cut = behind (symbol tok.Dot) (behind (symbol tok.As) (behind (symbol tok.Less) (closed (path_tokens m.what) (symbol tok.Greater)
+            (z.cut ∙ ap (λ ws. path_tokens ws ++ m.behind) (sym z.names)) (after_some tok.Greater m.behind ws g))));
+        spelled = converted before m.what (omega (arith, ap length z.names)) refl s;
+        spent = omega (arith, j);
+      }))))))
+  selects_sound _ before e d ts p x s h = absurd cc
 
   groups_sound : (n : ℕ) (d : ℕ) (ts : List Lexeme) (p : ℕ) (x : Found) → groups n d ts p ≡ Some x → Sound Primary d (symbol tok.OpenParenthesis ∷ ts) p x
   groups_sound zero d ts p x h = absurd cc
   groups_sound (suc n) d ts p x h =
-      with_spend d _ x h (λ e i h.
-      with_bind (reads n Whole e ts p) _ x h (λ a r h.
-      with_bind (after tok.CloseParenthesis a.rest) _ x h (λ us c h.
-      group_made a x i (reads_sound n Whole e ts p a r) (after_some tok.CloseParenthesis a.rest us c) h)))
+      with_spend d _ x h (λ e i h. with_bind (reads n Whole e ts p) _ x h (λ a r h. with_bind (after tok.CloseParenthesis a.rest) _ x h (λ us c h.
+      let s = reads_sound n Whole e ts p a r in
+      rw (i, ← (found_is h)) (record {
+        front = symbol tok.OpenParenthesis ∷ (s.front ++ symbol tok.CloseParenthesis ∷ []);
+        cut = behind (symbol tok.OpenParenthesis) (closed s.front (symbol tok.CloseParenthesis) s.cut (after_some tok.CloseParenthesis a.rest us c));
+        spelled = group s.front refl s.spelled;
+        spent = s.spent;
+      }))))
 
   pub list_sound : (n : ℕ) (d : ℕ) (ts : List Lexeme) (p : ℕ) (x : FoundList) → reads_list n d ts p ≡ Some x → SoundList d ts p x
   list_sound zero d ts p x h = absurd cc
   list_sound (suc n) d ts p x h =
       with_choice (after tok.CloseParenthesis ts) _ _ x h
       (λ c h. let s = more_sound n d ts p x h in record { front = s.front; cut = s.cut; spelled = listed s.spelled; spent = s.spent })
-      (λ us c h. at_list (λ x. SoundList d ts p x) no_arguments us p x h
-      (record { front = []; cut = after_some tok.CloseParenthesis ts us c; spelled = empty; spent = omega arith }))
+      (λ us c h. rw (← (list_is h)) (record { front = []; cut = after_some tok.CloseParenthesis ts us c; spelled = empty; spent = omega arith }))
 
   more_sound : (n : ℕ) (d : ℕ) (ts : List Lexeme) (p : ℕ) (x : FoundList) → reads_more n d ts p ≡ Some x → SoundMore d ts p x
   more_sound zero d ts p x h = absurd cc
   more_sound (suc n) d ts p x h =
-      with_bind (reads n Whole d ts p)
-      _ x h (λ a r h.
-      with_choice (after tok.Comma a.rest) _
-      _ x h
+      with_bind (reads n Whole d ts p) _ x h (λ a r h.
+      let s = reads_sound n Whole d ts p a r in
+      with_choice (after tok.Comma a.rest) _ _ x h
       (λ c h. with_bind (after tok.CloseParenthesis a.rest) _ x h (λ us c h.
-      last_made a x (reads_sound n Whole d ts p a r) (after_some tok.CloseParenthesis a.rest us c) h))
+      rw (← (list_is h)) (record {
+        front = s.front;
+        cut = s.cut ∙ ap (λ (r : List Lexeme). s.front ++ r) (after_some tok.CloseParenthesis a.rest us c);
+        spelled = last_one s.spelled;
+        spent = omega (arith, s.spent);
+      })))
       (λ us c h. with_bind (reads_more n d us a.left) _ x h (λ b t h.
-      more_made a b x (reads_sound n Whole d ts p a r) (after_some tok.Comma a.rest us c) (more_sound n d us a.left b t) h)))
+      let r = more_sound n d us a.left b t in
+      rw (← (list_is h)) (record {
+        front = s.front ++ symbol tok.Comma ∷ r.front;
+        cut = s.cut ∙ ap (λ (r : List Lexeme). s.front ++ r) (after_some tok.Comma a.rest us c ∙ behind (symbol tok.Comma) r.cut)
+            ∙ sym (append_assoc s.front (symbol tok.Comma ∷ r.front) (symbol tok.CloseParenthesis ∷ b.rest));
+        spelled = one_more s.front r.front refl s.spelled r.spelled;
+        spent = omega (arith, s.spent, r.spent);
+      }))))

@@ -1,21 +1,19 @@
 -- What the tokens spell is what is read, and it is one tree.
 use Rattle.ksv_expr_syntax.proofs.Common.{◌≡◌, ℕ, ◌<◌, Bool, true, false, List, [], ◌∷◌, ◌++◌, length, Option, Some, None, refl, sym, ap, subst, ◌∙◌, arith}
-use Rattle.ksv_expr_syntax.proofs.Common.{inl, inr, append-nil, Tree, Arguments, no_arguments, Lexeme, symbol, parts, all_parts, Whole, Spells, path_tokens}
+use Rattle.ksv_expr_syntax.proofs.Common.{append-nil, Tree, Arguments, no_arguments, Lexeme, symbol, parts, all_parts, Whole, Spells, path_tokens}
 use Rattle.ksv_expr_syntax.proofs.Common.{Next, next, Found, FoundList, found, found_list, after, path_at, room, wide, read, read_list, ◌==◌, Placed, lexemes}
-use Rattle.ksv_expr_syntax.proofs.Common.{choose, ◌>>=◌}
 use Rattle.std.proofs.Common.{◌-◌}
 use Rattle.ksv_expr_syntax.specs.declared.token.Symbol.TheVariants as tok
 use Rattle.ksv_expr_tree.specs.Tree.{TypeTree}
 use Rattle.ksv_expr_syntax.specs.Grammar.{IsExpr, SpellsType, bare, applied}
 use Rattle.ksv_expr_syntax.specs.Tokens.{Tokens}
 use Rattle.ksv_expr_syntax.specs.Text.{SpellsText, SpellsTypeText}
-use Rattle.ksv_expr_syntax.proofs.Steps.{some_is, path_some, after_some}
+use Rattle.ksv_expr_syntax.proofs.Steps.{found_is, path_some, after_some, with_choice}
 use Rattle.ksv_expr_syntax.proofs.Sound.{reads_sound, list_sound}
 use Rattle.ksv_expr_syntax.proofs.Complete.{goal, whole, goal_arguments}
 use Rattle.ksv_expr_syntax.proofs.Scan.{one_cutting}
-use Rattle.ksv_expr_syntax.proofs.Loops.{path_on_is}
+use Rattle.ksv_expr_syntax.proofs.Loops.{read_path}
 use Rattle.ksv_expr_syntax.specs.Code.{type_list}
-use Rattle.ksv_expr_syntax.proofs.Steps.{choose_some}
 use Rattle.ksv_expr_syntax.specs.declared.fault.ExprFault.{ExprFault}
 use Rattle.std.specs.Prelude.{MatchOption}
 
@@ -34,11 +32,11 @@ pub not_read : (ts : List Lexeme) → read Whole 32 ts 256 ≡ None → (e : Tre
 not_read ts r e x = absurd (let k : None ≡ found e [] (256 - parts e) = sym r ∙ is_read ts e x in cc)
 
 pub rest_read : (ts : List Lexeme) (f : Tree) (us : List Lexeme) (q : ℕ) → (us ≡ [] → ⊥) → read Whole 32 ts 256 ≡ found f us q → (e : Tree) → IsExpr ts e → ⊥
-rest_read ts f us q z r e x = z (ap (λ (x : Found). x.rest) (some_is _ _ (sym r ∙ is_read ts e x)))
+rest_read ts f us q z r e x = z (ap (λ (x : Found). x.rest) (found_is (sym r ∙ is_read ts e x)))
 
 -- no tokens spell two trees
 pub one_tree : (ts : List Lexeme) (e f : Tree) → IsExpr ts e → IsExpr ts f → e ≡ f
-one_tree ts e f x y = ap (λ (x : Found). x.tree) (some_is _ _ (sym (is_read ts e x) ∙ is_read ts f y))
+one_tree ts e f x y = ap (λ (x : Found). x.tree) (found_is (sym (is_read ts e x) ∙ is_read ts f y))
 
 -- no text spells two trees
 pub one_expression : (text : List ℕ) (e f : Tree) → SpellsText text e → SpellsText text f → e ≡ f
@@ -63,11 +61,6 @@ some_more (v ∷ us) b h k z = absurd (let k = z in cc)
 
 -- ---- types with arguments
 
-read_path : (w : List ℕ) (ws : List (List ℕ)) (rest : List Lexeme) → after tok.ColonColon rest ≡ None
-    → path_at (path_tokens (w ∷ ws) ++ rest) ≡ next (w ∷ ws) rest
-read_path w [] rest h = path_on_is w rest ∙ ap (λ o. choose o (next (w ∷ []) rest) (λ us. path_at us >>= λ x. next (w ∷ x.what) x.behind)) h
-read_path w (v ∷ ws) rest h = ap (λ (o : Option (Next (List (List ℕ)))). o >>= λ x. next (w ∷ x.what) x.behind) (read_path v ws rest h)
-
 -- a type's tree
 abbrev pub type_tree : List (List ℕ) → Arguments → TypeTree
 type_tree ws es = record { name = record { path = ws; number = None }; arguments = es }
@@ -84,18 +77,14 @@ type_spelled ts ws us es vs q h k z =
     let x = path_some ts (record { what = ws; behind = us }) h in
     let some : 0 < length ws = omega (arith, ap length x.names) in
     let cut : ts ≡ path_tokens ws ++ us = x.cut ∙ ap (λ ws. path_tokens ws ++ us) (sym x.names) in
-    elim (choose_some (after tok.OpenParenthesis us) (found_list no_arguments us 256) (λ us. read_list 31 us 256)
-    (record { arguments = es; rest = vs; left = q }) k) [
-      | inl c ↦
-          let e = list_is no_arguments es us vs 256 q c.1 in
-          subst (λ es. SpellsType ts (type_tree ws es)) e.0 (bare ws some (cut ∙ ap (λ us. path_tokens ws ++ us) (e.1 ∙ z) ∙ append-nil (path_tokens ws)))
-      | inr c ↦
-          let s = list_sound (wide c.0) 31 c.0 256 (record { arguments = es; rest = vs; left = q }) c.2 in
-          applied ws s.front some
-          (cut ∙ ap (λ us. path_tokens ws ++ us)
-          (after_some tok.OpenParenthesis us c.0 c.1 ∙ ap (λ us. symbol tok.OpenParenthesis ∷ us)
-          (s.cut ∙ ap (λ vs. s.front ++ symbol tok.CloseParenthesis ∷ vs) z))) s.spelled (omega (arith, s.spent))
-    ]
+    with_choice (after tok.OpenParenthesis us) _ _ _ k
+    (λ c i. let e = list_is no_arguments es us vs 256 q i in
+    rw (← e.0) (bare ws some (cut ∙ ap (λ us. path_tokens ws ++ us) (e.1 ∙ z) ∙ append-nil (path_tokens ws))))
+    (λ r c i. let s = list_sound (wide r) 31 r 256 (record { arguments = es; rest = vs; left = q }) i in
+    applied ws s.front some
+    (cut ∙ ap (λ us. path_tokens ws ++ us)
+    (after_some tok.OpenParenthesis us r c ∙ ap (λ us. symbol tok.OpenParenthesis ∷ us) (s.cut ∙ ap (λ vs. s.front ++ symbol tok.CloseParenthesis ∷ vs) z)))
+    s.spelled (omega (arith, s.spent)))
 
 -- what a type that is spelled is read as
 pub record TypeRead (ts : List Lexeme) (t : TypeTree) : Type 0 where

@@ -1,6 +1,6 @@
 -- What each exit of the parser's functions gives.
-use Rattle.ksv_expr_syntax.proofs.Common.{◌∷◌, ◌<◌, length, map, Some, None, arith, sym, ap, subst, ◌∙◌, err_from_is_err_and, view}
-use Rattle.ksv_expr_syntax.proofs.Common.{arguments_of, choice, lexemes, Joined, join_tree, found, found_list, next, ◌>>=◌, read, Whole}
+use Rattle.ksv_expr_syntax.proofs.Common.{◌<◌, length, None, arith, ◌∙◌, err_from_is_err_and, view}
+use Rattle.ksv_expr_syntax.proofs.Common.{choice, lexemes, found, read, Whole}
 use Rattle.ksv_expr_syntax.specs.Code.{level_of, arms_at, with_tree}
 use Rattle.ksv_expr_syntax.proofs.Flow.{read_whole, pick_on_is, arm_on_is, read_joined, join_on_is, read_negation, negate_on_is, read_comparison, compare_on_is}
 use Rattle.ksv_expr_syntax.proofs.Flow.{read_prefix, prefix_on_is, read_postfix, suffix_on_is, read_list_is, primary_end, primary_constant, primary_word}
@@ -27,7 +27,8 @@ whole-returns t c =
 
 pub arms-returns-in_err-inner-clause-is : goal.arms-returns-in_err-inner-clause-is
 arms-returns-in_err-inner-clause-is t c =
-    let p = err_from_is_err_and c.from_residual.result c.from_residual.ensures.1 in rw (p.1, p.2) (λ n e. inside_is c.args.depth c.args.at.parts _ None c.in_err-inner.ensures.is)
+    let p = err_from_is_err_and c.from_residual.result c.from_residual.ensures.1 in rw (p.1, p.2) (λ n e. inside_is c.args.depth c.args.at.parts _ None
+    c.in_err-inner.ensures.is)
 
 pub arms-returns-in_err-yes-clause-is : goal.arms-returns-in_err-yes-clause-is
 arms-returns-in_err-yes-clause-is t c =
@@ -47,7 +48,11 @@ arms-returns-clause-is t c =
 
 pub joined-returns-in_err-left-clause-is : goal.joined-returns-in_err-left-clause-is
 joined-returns-in_err-left-clause-is t c =
-    let p = err_from_is_err_and c.from_residual.result c.from_residual.ensures.1 in rw (p.1, p.2) (λ n. rw (read_joined, ← c.operand_of-kind.ensures, c.in_err-left.ensures.is n))
+    let p = err_from_is_err_and c.from_residual.result c.from_residual.ensures.1 in rw (p.1, p.2) (λ n. rw (
+      read_joined,
+      ← c.operand_of-kind.ensures,
+      c.in_err-left.ensures.is n,
+    ))
 
 pub joined-operators-init : goal.joined-operators-init
 joined-operators-init t c = record { is = rw (read_joined, ← c.operand_of-kind.ensures, c.in_ok-left.ensures.is); shorter = c.in_ok-left.ensures.shorter }
@@ -165,7 +170,8 @@ arguments-list-init t c =
 
 pub arguments-returns-in_err-expr-clause-is : goal.arguments-returns-in_err-expr-clause-is
 arguments-returns-in_err-expr-clause-is t c =
-    let p = err_from_is_err_and c.from_residual.result c.from_residual.ensures.1 in rw (p.1, p.2) (λ n. list_fails c.list.invariant.is (c.in_err-expr.ensures.is n))
+    let p = err_from_is_err_and c.from_residual.result c.from_residual.ensures.1 in rw (p.1, p.2) (λ n. list_fails c.list.invariant.is
+    (c.in_err-expr.ensures.is n))
 
 pub arguments-returns-in_err-end-clause-is : goal.arguments-returns-in_err-end-clause-is
 arguments-returns-in_err-end-clause-is t c =
