@@ -65,9 +65,7 @@ distinct_clear seen (entry n k t es) d a = (
 
 or_swap : (a b c : Bool) → cond a true (cond b true c) ≡ cond b true (cond a true c)
 or_swap true true c = refl
-or_swap true false c = refl
-or_swap false true c = refl
-or_swap false false c = refl
+or_swap _ _ c = refl
 
 -- one more key
 pub among_push : (j k : List ℕ) (seen : List (List ℕ)) → is_among j (seen ++ k ∷ []) ≡ cond (bytes_eq k j) true (is_among j seen)

@@ -23,105 +23,83 @@ pub record EntriesOk (d : ℕ) (ts : List Token) (es : Entries) : Type 0 where
   pub reads : (rest : List Token) (f : ℕ) (seen : List (List ℕ)) → AreClear seen es → 3 * length (ts ++ CloseMap ∷ rest) + 3 ≤ f
       → flow_entries f d seen (ts ++ CloseMap ∷ rest) ≡ got es rest
 
-items_turn : (f d : ℕ) (ts : List Token) (t : Tree) (mid : List Token) (is : Items) (rest : List Token) → flow f d ts ≡ got t mid
-    → flow_more f d mid ≡ got is rest → first_item f d ts ≡ got (item t is) rest
-items_turn f d ts t mid is rest ev em =
-    ap (λ (o : Option (Got Token Tree)). o >>= λ t. flow_more f d t.rest >>= λ is. got (item t.value is.value) is.rest) ev
-    ∙ ap (λ (o : Option (Got Token Items)). o >>= λ is. got (item t is.value) is.rest) em
-
-entries_turn : (f d k : ℕ) (seen : List (List ℕ)) (key : List ℕ) (ts : List Token) (t : Tree) (mid : List Token) (es : Entries) (rest : List Token)
+entries_turn : (f d k : ℕ) (seen : List (List ℕ)) (key : List ℕ) (ts : List Token) {t : Tree} {mid : List Token} {es : Entries} {rest : List Token}
     → is_among key seen ≡ false → flow f d ts ≡ got t mid → flow_others f d (seen ++ key ∷ []) mid ≡ got es rest
     → flow_entries (suc f) d seen (Key k key ∷ ts) ≡ got (entry k key t es) rest
-entries_turn f d k seen key ts t mid es rest ea ev em =
-    pick_false (is_among key seen) _ _ ea
-    ∙ ap (λ (o : Option (Got Token Tree)). o >>= λ t. flow_others f d (seen ++ key ∷ []) t.rest >>= λ es. got (entry k key t.value es.value) es.rest) ev
-    ∙ ap (λ (o : Option (Got Token Entries)). o >>= λ es. got (entry k key t es.value) es.rest) em
+entries_turn f d k seen key ts ea ev em = pick_false (is_among key seen) _ _ ea ∙ rw (ev, em)
 
 -- the whole, with what follows
 cut_two : (ts xs ys rest : List Token) (t : Token) → ts ≡ xs ++ t ∷ ys → ts ++ rest ≡ xs ++ (t ∷ (ys ++ rest))
-cut_two ts xs ys rest t e = ap (λ (r : List Token). r ++ rest) e ∙ append_assoc xs (t ∷ ys) rest
+cut_two ts xs ys rest t e = rw (e, append_assoc)
 
 ok_scalar : (d k : ℕ) (q : Bool) (text : List ℕ) → FlowOk d (Scalar k q text ∷ []) (Text k q text)
-ok_scalar d k q text = record {
-  reads = λ rest f g. let i = one_less f (omega arith) in ap (λ (f : ℕ). flow f d (Scalar k q text ∷ rest)) i.1;
-  begins = λ e f rest. refl;
-}
+ok_scalar d k q text = record { reads = λ rest f g. let i = one_less f (omega arith) in rw i.1; begins = λ e f rest. refl }
 
 ok_list : {d : ℕ} (k : ℕ) {ts : List Token} {is : Items} (xs : List Token) → ts ≡ xs ++ Close ∷ [] → ItemsOk d xs is → FlowOk (suc d) (Open k ∷ ts) (Seq k is)
-ok_list {d} k {ts} {is} xs split o = record {
+ok_list k {ts} xs split o = record {
   reads = λ rest f g.
       let i = one_less f (omega arith) in
-      let w = cut_two ts xs [] rest Close split in
-      ap (λ (f : ℕ). flow f (suc d) (Open k ∷ (ts ++ rest))) i.1
-      ∙ ap (λ (r : List Token). flow_items i.0 d r >>= λ is. got (Seq k is.value) is.rest) w
-      ∙ ap (λ (o : Option (Got Token Items)). o >>= λ is. got (Seq k is.value) is.rest) (o.reads rest i.0 (omega (arith, i.1, g, ap length w)));
+      let w = cut_two ts xs [] rest Close split in rw (w, i.1, o.reads rest i.0 (omega (arith, i.1, g, ap length w)));
   begins = λ e f rest. refl;
 }
 
 ok_dict : {d : ℕ} (k : ℕ) {ts : List Token} {es : Entries} (xs : List Token) → ts ≡ xs ++ CloseMap ∷ [] → AreDistinct es → EntriesOk d xs es
     → FlowOk (suc d) (OpenMap k ∷ ts) (Map k es)
-ok_dict {d} k {ts} {es} xs split distinct o = record {
+ok_dict k {ts} {es} xs split distinct o = record {
   reads = λ rest f g.
       let i = one_less f (omega arith) in
       let w = cut_two ts xs [] rest CloseMap split in
-      ap (λ (f : ℕ). flow f (suc d) (OpenMap k ∷ (ts ++ rest))) i.1
-      ∙ ap (λ (r : List Token). flow_entries i.0 d [] r >>= λ es. got (Map k es.value) es.rest) w
-      ∙ ap (λ (o : Option (Got Token Entries)). o >>= λ es. got (Map k es.value) es.rest)
-      (o.reads rest i.0 [] (distinct_clear [] es distinct (λ j e. absurd cc)) (omega (arith, i.1, g, ap length w)));
+      rw (w, i.1, o.reads rest i.0 [] (distinct_clear [] es distinct (λ j e. absurd cc)) (omega (arith, i.1, g, ap length w)));
   begins = λ e f rest. refl;
 }
 
 ok_no_more : {d : ℕ} → ItemsOk d [] no_items
-ok_no_more {d} = record { reads = λ rest f g. let i = one_less f (omega arith) in ap (λ (f : ℕ). flow_items f d (Close ∷ rest)) i.1 }
+ok_no_more = record { reads = λ rest f g. let i = one_less f (omega arith) in rw i.1 }
 
 ok_only : {d : ℕ} {ts : List Token} {t : Tree} → FlowOk d ts t → ItemsOk d ts (item t no_items)
-ok_only {d} {ts} {t} o = record {
+ok_only {d} o = record {
   reads = λ rest f g.
       let i = two_less f (omega arith) in
-      ap (λ (f : ℕ). flow_items f d (ts ++ Close ∷ rest)) i.1 ∙ o.begins d (suc i.0) (Close ∷ rest)
-      ∙ items_turn (suc i.0) d (ts ++ Close ∷ rest) t (Close ∷ rest) no_items rest (o.reads (Close ∷ rest) (suc i.0) (omega (arith, i.1, g))) refl;
+      rw (i.1, o.begins d (suc i.0) (Close ∷ rest), o.reads (Close ∷ rest) (suc i.0) (omega (arith, i.1, g)));
 }
 
 ok_then : {d : ℕ} {ts : List Token} {t : Tree} {is : Items} (xs ys : List Token) → ts ≡ xs ++ Comma ∷ ys → FlowOk d xs t → ItemsOk d ys is
     → ItemsOk d ts (item t is)
-ok_then {d} {ts} {t} {is} xs ys split o s = record {
+ok_then {d} {ts} xs ys split o s = record {
   reads = λ rest f g.
+      let us : List Token = Comma ∷ (ys ++ Close ∷ rest) in
       let i = two_less f (omega arith) in
       let w = cut_two ts xs ys (Close ∷ rest) Comma split in
       let n = ap length w in
-      let m = length-append xs (Comma ∷ (ys ++ Close ∷ rest)) in
-      ap (λ (f : ℕ). flow_items f d (ts ++ Close ∷ rest)) i.1
-      ∙ ap (λ (r : List Token). flow_items (suc (suc i.0)) d r) w
-      ∙ o.begins d (suc i.0) (Comma ∷ (ys ++ Close ∷ rest))
-      ∙ items_turn (suc i.0) d (xs ++ (Comma ∷ (ys ++ Close ∷ rest))) t (Comma ∷ (ys ++ Close ∷ rest)) is rest
-      (o.reads (Comma ∷ (ys ++ Close ∷ rest)) (suc i.0) (omega (arith, i.1, g, n))) (s.reads rest i.0 (omega (arith, i.1, g, n, m)));
+      rw (
+        w,
+        i.1,
+        o.begins d (suc i.0) us,
+        o.reads us (suc i.0) (omega (arith, i.1, g, n)),
+        s.reads rest i.0 (omega (arith, i.1, g, n, length-append xs us)),
+      );
 }
 
 ok_no_others : {d : ℕ} → EntriesOk d [] no_entries
-ok_no_others {d} = record { reads = λ rest f seen c g. let i = one_less f (omega arith) in ap (λ (f : ℕ). flow_entries f d seen (CloseMap ∷ rest)) i.1 }
+ok_no_others = record { reads = λ rest f seen c g. let i = one_less f (omega arith) in rw i.1 }
 
 ok_last : {d : ℕ} (k : ℕ) (key : List ℕ) {ts : List Token} {t : Tree} → FlowOk d ts t → EntriesOk d (Key k key ∷ ts) (entry k key t no_entries)
-ok_last {d} k key {ts} {t} o = record {
+ok_last {d} k key {ts} o = record {
   reads = λ rest f seen c g.
-      let i = two_less f (omega arith) in
-      ap (λ (f : ℕ). flow_entries f d seen (Key k key ∷ (ts ++ CloseMap ∷ rest))) i.1
-      ∙ entries_turn (suc i.0) d k seen key (ts ++ CloseMap ∷ rest) t (CloseMap ∷ rest) no_entries rest c.0
-      (o.reads (CloseMap ∷ rest) (suc i.0) (omega (arith, i.1, g))) refl;
+      let i = two_less f (omega arith) in rw i.1 (entries_turn (suc i.0) d k seen key (ts ++ CloseMap ∷ rest) c.0 (o.reads (CloseMap ∷ rest) (suc i.0)
+      (omega (arith, i.1, g))) refl);
 }
 
 ok_more : {d : ℕ} (k : ℕ) (key : List ℕ) {ts : List Token} {t : Tree} {es : Entries} (xs ys : List Token) → ts ≡ xs ++ Comma ∷ ys → FlowOk d xs t
     → EntriesOk d ys es → EntriesOk d (Key k key ∷ ts) (entry k key t es)
-ok_more {d} k key {ts} {t} {es} xs ys split o s = record {
+ok_more {d} k key {ts} xs ys split o s = record {
   reads = λ rest f seen c g.
+      let us : List Token = Comma ∷ (ys ++ CloseMap ∷ rest) in
       let i = two_less f (omega arith) in
       let w = cut_two ts xs ys (CloseMap ∷ rest) Comma split in
       let n = ap length w in
-      let m = length-append xs (Comma ∷ (ys ++ CloseMap ∷ rest)) in
-      ap (λ (f : ℕ). flow_entries f d seen (Key k key ∷ (ts ++ CloseMap ∷ rest))) i.1
-      ∙ ap (λ (r : List Token). flow_entries (suc (suc i.0)) d seen (Key k key ∷ r)) w
-      ∙ entries_turn (suc i.0) d k seen key (xs ++ (Comma ∷ (ys ++ CloseMap ∷ rest))) t (Comma ∷ (ys ++ CloseMap ∷ rest)) es rest c.0
-      (o.reads (Comma ∷ (ys ++ CloseMap ∷ rest)) (suc i.0) (omega (arith, i.1, g, n)))
-      (s.reads rest i.0 (seen ++ key ∷ []) c.1 (omega (arith, i.1, g, n, m)));
+      rw (w, i.1) (entries_turn (suc i.0) d k seen key (xs ++ us) c.0 (o.reads us (suc i.0) (omega (arith, i.1, g, n)))
+      (s.reads rest i.0 (seen ++ key ∷ []) c.1 (omega (arith, i.1, g, n, length-append xs us))));
 }
 
 mutual

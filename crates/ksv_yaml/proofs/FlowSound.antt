@@ -4,7 +4,7 @@ use Rattle.ksv_yaml.proofs.Common.{Items, no_items, item, Entries, no_entries, e
 use Rattle.ksv_yaml.proofs.Common.{got, ◌>>=◌, Token, Open, Close, OpenMap, CloseMap, Comma, Key, Flow}
 use Rattle.ksv_yaml_scan.specs.Tokens.{Scalar}
 use Rattle.ksv_yaml.specs.Flow.{scalar, list, dict, FlowItems, no_more, only, then, FlowEntries, no_others, last, more}
-use Rattle.ksv_yaml.proofs.Steps.{bind_some, deeper_some, at_got, Took, took_first}
+use Rattle.ksv_yaml.proofs.Steps.{bind_some, with_bind, with_deeper, got_is, Took, took_first}
 use Rattle.ksv_yaml_scan.proofs.Choices.{pick_guard}
 use Rattle.ksv_yaml.proofs.Distinct.{AreClear, clear_distinct}
 
@@ -60,57 +60,47 @@ mutual
   pub flow_sound : (f d : ℕ) (ts : List Token) (x : Got Token Tree) → flow f d ts ≡ Some x → Took Token ts x.rest (λ xs. Flow d xs x.value)
   flow_sound zero d ts x h = absurd cc
   flow_sound (suc f) d (Scalar k q text ∷ ts) x h =
-      at_got (λ (x : Got Token Tree). Took Token (Scalar k q text ∷ ts) x.rest (λ xs. Flow d xs x.value)) (Text k q text) ts x h
+      rw (← (got_is h))
       (record { front = Scalar k q text ∷ []; cut = refl; is = scalar })
   flow_sound (suc f) d (Open k ∷ ts) x h =
-      let e = deeper_some d (λ d. flow_items f d ts >>= λ is. got (Seq k is.value) is.rest) x h in
-      let is = bind_some (flow_items f e.0 ts) (λ is. got (Seq k is.value) is.rest) x e.2 in
-      subst (λ (d : ℕ). Took Token (Open k ∷ ts) x.rest (λ xs. Flow d xs x.value)) (sym e.1)
-      (at_got (λ (x : Got Token Tree). Took Token (Open k ∷ ts) x.rest (λ xs. Flow (suc e.0) xs x.value)) (Seq k is.0.value) is.0.rest x is.2
-      (took_first (Open k) _ (λ xs c. list c.inner c.is c.holds) (flow_items_sound f e.0 ts is.0 is.1)))
+      with_deeper d _ x h (λ m e h. with_bind (flow_items f m ts) _ x h (λ is i h.
+      rw (e, ← (got_is h)) (took_first (Open k) _ (λ xs c. list c.inner c.is c.holds) (flow_items_sound f m ts is i))))
   flow_sound (suc f) d (OpenMap k ∷ ts) x h =
-      let e = deeper_some d (λ d. flow_entries f d [] ts >>= λ es. got (Map k es.value) es.rest) x h in
-      let es = bind_some (flow_entries f e.0 [] ts) (λ es. got (Map k es.value) es.rest) x e.2 in
-      let s = flow_entries_sound f e.0 [] ts es.0 es.1 in
-      subst (λ (d : ℕ). Took Token (OpenMap k ∷ ts) x.rest (λ xs. Flow d xs x.value)) (sym e.1)
-      (at_got (λ (x : Got Token Tree). Took Token (OpenMap k ∷ ts) x.rest (λ xs. Flow (suc e.0) xs x.value)) (Map k es.0.value) es.0.rest x es.2
-      (took_first (OpenMap k) _ (λ xs c. dict c.inner c.is c.holds (clear_distinct [] es.0.value s.1)) s.0))
+      with_deeper d _ x h (λ m e h. with_bind (flow_entries f m [] ts) _ x h (λ es i h.
+      let s = flow_entries_sound f m [] ts es i in
+      rw (e, ← (got_is h)) (took_first (OpenMap k) _ (λ xs c. dict c.inner c.is c.holds (clear_distinct [] es.value s.1)) s.0)))
   flow_sound (suc f) d ts x h = absurd cc
 
   flow_items_sound : (f d : ℕ) (ts : List Token) (x : Got Token Items) → flow_items f d ts ≡ Some x
       → Took Token ts x.rest (Closed Close (λ xs. FlowItems d xs x.value))
   flow_items_sound zero d ts x h = absurd cc
-  flow_items_sound (suc f) d (Close ∷ ts) x h = at_got (λ (x : Got Token Items). Took Token (Close ∷ ts) x.rest (Closed Close (λ xs. FlowItems d xs x.value)))
-      no_items ts x h (closed_none Close _ ts no_more)
+  flow_items_sound (suc f) d (Close ∷ ts) x h = rw (← (got_is h)) (closed_none Close _ ts no_more)
   flow_items_sound (suc f) d ts x h =
-      let t = bind_some (flow f d ts) (λ t. flow_more f d t.rest >>= λ is. got (item t.value is.value) is.rest) x h in
-      let is = bind_some (flow_more f d t.0.rest) (λ is. got (item t.0.value is.value) is.rest) x t.2 in
-      at_got (λ (x : Got Token Items). Took Token ts x.rest (Closed Close (λ xs. FlowItems d xs x.value))) (item t.0.value is.0.value) is.0.rest x is.2
+      let t = bind_some (flow f d ts) _ x h in
+      let is = bind_some (flow_more f d t.0.rest) _ x t.2 in
+      rw (← (got_is is.2))
       (joined Close [] no_items (λ xs is. FlowItems d xs is) (λ xs. Flow d xs t.0.value) (λ xs is. FlowItems d xs (item t.0.value is)) is.0 (λ xs w. only w)
       (λ xs ys w s. then xs ys refl w s) (flow_sound f d ts t.0 t.1) (flow_more_sound f d t.0.rest is.0 is.1))
 
   flow_more_sound : (f d : ℕ) (ts : List Token) (x : Got Token Items) → flow_more f d ts ≡ Some x → More Close no_items (λ xs is. FlowItems d xs is) ts x
   flow_more_sound zero d ts x h = absurd cc
-  flow_more_sound (suc f) d (Close ∷ ts) x h = inl (at_got (Over Close no_items (Close ∷ ts)) no_items ts x h (record { value = refl; is = refl }))
+  flow_more_sound (suc f) d (Close ∷ ts) x h = inl (rw (← (got_is h)) (record { value = refl; is = refl }))
   flow_more_sound (suc f) d (Comma ∷ ts) x h =
-      inr (took_first Comma _ (λ xs c. record { inner = c.inner; is = ap (λ (r : List Token). Comma ∷ r) c.is; holds = c.holds })
-      (flow_items_sound f d ts x h))
+      inr (took_first Comma _ (λ xs c. record { inner = c.inner; is = ap (λ (r : List Token). Comma ∷ r) c.is; holds = c.holds }) (flow_items_sound f d ts x h))
   flow_more_sound (suc f) d ts x h = absurd cc
 
   flow_entries_sound : (f d : ℕ) (seen : List (List ℕ)) (ts : List Token) (x : Got Token Entries) → flow_entries f d seen ts ≡ Some x
       → Took Token ts x.rest (Closed CloseMap (λ xs. FlowEntries d xs x.value)) × AreClear seen x.value
   flow_entries_sound zero d seen ts x h = absurd cc
   flow_entries_sound (suc f) d seen (CloseMap ∷ ts) x h =
-      at_got (λ (x : Got Token Entries). Took Token (CloseMap ∷ ts) x.rest (Closed CloseMap (λ xs. FlowEntries d xs x.value)) × AreClear seen x.value)
-      no_entries ts x h (closed_none CloseMap _ ts no_others, tt)
+      rw (← (got_is h)) (closed_none CloseMap _ ts no_others, tt)
   flow_entries_sound (suc f) d seen (Key k key ∷ ts) x h =
       let g = pick_guard (is_among key seen)
-      (flow f d ts >>= λ t. flow_others f d (seen ++ key ∷ []) t.rest >>= λ es. got (entry k key t.value es.value) es.rest) x h in
-      let t = bind_some (flow f d ts) (λ t. flow_others f d (seen ++ key ∷ []) t.rest >>= λ es. got (entry k key t.value es.value) es.rest) x g.1 in
-      let es = bind_some (flow_others f d (seen ++ key ∷ []) t.0.rest) (λ es. got (entry k key t.0.value es.value) es.rest) x t.2 in
+      _ x h in
+      let t = bind_some (flow f d ts) _ x g.1 in
+      let es = bind_some (flow_others f d (seen ++ key ∷ []) t.0.rest) _ x t.2 in
       let s = flow_others_sound f d (seen ++ key ∷ []) t.0.rest es.0 es.1 in
-      at_got (λ (x : Got Token Entries). Took Token (Key k key ∷ ts) x.rest (Closed CloseMap (λ xs. FlowEntries d xs x.value)) × AreClear seen x.value)
-      (entry k key t.0.value es.0.value) es.0.rest x es.2 (
+      rw (← (got_is es.2)) (
         joined CloseMap (Key k key ∷ []) no_entries (λ xs es. FlowEntries d xs es) (λ xs. Flow d xs t.0.value)
             (λ xs es. FlowEntries d xs (entry k key t.0.value es)) es.0 (λ xs w. last w) (λ xs ys w s. more xs ys refl w s) (flow_sound f d ts t.0 t.1) s.0,
         (g.0, s.1),
@@ -121,7 +111,7 @@ mutual
       → More CloseMap no_entries (λ xs es. FlowEntries d xs es) ts x × AreClear seen x.value
   flow_others_sound zero d seen ts x h = absurd cc
   flow_others_sound (suc f) d seen (CloseMap ∷ ts) x h =
-      at_got (λ (x : Got Token Entries). More CloseMap no_entries (λ xs es. FlowEntries d xs es) (CloseMap ∷ ts) x × AreClear seen x.value) no_entries ts x h
+      rw (← (got_is h))
       (inl (record { value = refl; is = refl }), tt)
   flow_others_sound (suc f) d seen (Comma ∷ ts) x h =
       let s = flow_entries_sound f d seen ts x h in

@@ -28,30 +28,19 @@ not_blank (c ∷ cs) h = refl
 
 -- ---- plain scalars
 
--- what a line does, by cases
-line_cases : {q deep : Bool} {text : Option (List ℕ × Bool)} (c p e : Bool) (t : Option (List ℕ × Bool)) (after stay : List Line)
-    (f : Bool → Option (Got Line (List ℕ))) → q ≡ p → deep ≡ e → text ≡ t → line_on q c deep text after stay f ≡ line_on p c e t after stay f
-line_cases {q} {deep} {text} c p e t after stay f eq ed et =
-    ap (λ (q : Bool). line_on q c deep text after stay f) eq ∙ ap (λ (d : Bool). line_on p c d text after stay f) ed
-    ∙ ap (λ (t : Option (List ℕ × Bool)). line_on p c e t after stay f) et
-
 goes_on_stop : (n : ℕ) (c : Bool) (ls : List Line) → Before n ls → goes_on n c ls ≡ got [] ls
 goes_on_stop n c [] h = refl
-goes_on_stop n true (l ∷ ls) h = line_cases true false (nat_le n l.indent) (more_of l.content) (loud ls) (l ∷ ls) (λ c. goes_on n c ls) h.0 refl refl
-goes_on_stop n false (l ∷ ls) h = line_cases false false false (more_of l.content) (loud ls) (l ∷ ls) (λ c. goes_on n c ls) h.0 (lt-leb n l.indent h.1) refl
+goes_on_stop n true (l ∷ ls) h = rw h.0
+goes_on_stop n false (l ∷ ls) h = rw (h.0, lt-leb n l.indent h.1)
 
 goes_on_quiet : (n : ℕ) (c : Bool) (qs ls : List Line) → AreQuiet qs → Before n ls → goes_on n c (qs ++ ls) ≡ got [] ls
 goes_on_quiet n c [] ls q h = goes_on_stop n c ls h
-goes_on_quiet n c (l ∷ qs) ls q h =
-    line_cases c true (nat_le n l.indent) (more_of l.content) (loud (qs ++ ls)) (l ∷ (qs ++ ls)) (λ c. goes_on n c (qs ++ ls)) q.0 refl refl
-    ∙ ap (λ (r : List Line). got {A = List ℕ} [] r) (loud_behind qs ls q.1 (before_loud n ls h))
+goes_on_quiet n c (l ∷ qs) ls q h = rw (q.0, loud_behind qs ls q.1 (before_loud n ls h))
 
 goes_on_complete : {n : ℕ} {c : Bool} {ls : List Line} {text : List ℕ} → GoesOn n c ls text → (rest : List Line) → Before n rest
     → goes_on n c (ls ++ rest) ≡ got text rest
 goes_on_complete {n} {c} (ends {ls = ls} q) rest h = goes_on_quiet n c ls rest q h
-goes_on_complete {n} (goes {c = c} {l = l} {ls = ls} {text = text} q deep is g) rest h =
-    line_cases false false true (Some (text, c)) (loud (ls ++ rest)) (l ∷ (ls ++ rest)) (λ c. goes_on n c (ls ++ rest)) q (le-leb n l.indent deep) is
-    ∙ ap (λ (o : Option (Got Line (List ℕ))). o >>= λ r. got (32 ∷ (text ++ r.value)) r.rest) (goes_on_complete g rest h)
+goes_on_complete {n} (goes {l = l} q deep is g) rest h = rw (q, le-leb n l.indent deep, is, goes_on_complete g rest h)
 
 -- ---- the longest front
 
@@ -97,25 +86,19 @@ stops_within n (l ∷ ls) h = or_from (is_quiet l) (nat_le n l.indent) h.0 (lt-l
 
 pub inlined_complete : {d n : ℕ} {k : InlineKind} {l : Line} {ls : List Line} {t : Tree} → Inlined d n k l ls t → (rest : List Line) → Before n rest
     → inlined d n k l (ls ++ rest) ≡ got t rest
-inlined_complete {l = l} (plain {text = text} g) rest h =
-    ap (λ (o : Option (Got Line (List ℕ))). o >>= λ r. got (Text l.number false (text ++ r.value)) r.rest) (goes_on_complete g rest h)
-inlined_complete {n = n} {l = l} (quoted {ls = ls} {text = text} q) rest h =
-    ap (λ (r : List Line). got (Text l.number true text) r) (loud_behind ls rest q (before_loud n rest h))
-inlined_complete {n = n} {l = l} (block {ls = ls} {fold = fold} {keep = keep} {text = text} xs ys split a v q e) rest h =
-    let s = stops_inner n ys rest v h in
-    let w : ls ++ rest ≡ xs ++ (ys ++ rest) = ap (λ (r : List Line). r ++ rest) split ∙ append_assoc xs ys rest in
-    ap (λ (r : List Line). block_text fold keep (front (is_inner n) r) >>= λ text. got (Text l.number false text) (loud (behind (is_inner n) r))) w
-    ∙ ap (λ (r : List Line). block_text fold keep r >>= λ text. got (Text l.number false text) (loud (behind (is_inner n) (xs ++ (ys ++ rest)))))
-    (inner_front n xs (ys ++ rest) a s)
-    ∙ ap (λ (o : Option (List ℕ)). o >>= λ text. got (Text l.number false text) (loud (behind (is_inner n) (xs ++ (ys ++ rest))))) e
-    ∙ ap (λ (r : List Line). got (Text l.number false text) (loud r)) (inner_behind n xs (ys ++ rest) a s)
-    ∙ ap (λ (r : List Line). got (Text l.number false text) r) (loud_behind ys rest q (before_loud n rest h))
-inlined_complete {d} {n} {l = l} (flow {ls = ls} {ts = ts} {t = t} a e w) rest h =
+inlined_complete (plain g) rest h = rw (goes_on_complete g rest h)
+inlined_complete {n = n} (quoted {ls = ls} q) rest h = rw (loud_behind ls rest q (before_loud n rest h))
+inlined_complete {n = n} (block xs ys split a v q e) rest h =
+    let s = stops_inner n ys rest v h in rw (
+      split,
+      append_assoc,
+      inner_front n xs (ys ++ rest) a s,
+      e,
+      inner_behind n xs (ys ++ rest) a s,
+      loud_behind ys rest q (before_loud n rest h),
+    )
+inlined_complete {d} {n} (flow {ls = ls} {ts = ts} {t = t} a e w) rest h =
     let s = stops_within n rest h in
     let r : flow_in d ts ≡ got t [] = ap (λ (r : List Token). flow_in d r) (sym (append-nil ts))
     ∙ (flow_ok w).reads [] (3 * length (ts ++ []) + 1) (omega arith) in
-    ap (λ (r : List Line). tokens_of (l ∷ r) >>= λ ts. flow_in d ts >>= λ x. all_of x.value x.rest (behind (is_within n) (ls ++ rest)))
-    (within_front n ls rest a s)
-    ∙ ap (λ (o : Option (List Token)). o >>= λ ts. flow_in d ts >>= λ x. all_of x.value x.rest (behind (is_within n) (ls ++ rest))) e
-    ∙ ap (λ (o : Option (Got Token Tree)). o >>= λ x. all_of x.value x.rest (behind (is_within n) (ls ++ rest))) r
-    ∙ ap (λ (r : List Line). got t r) (within_behind n ls rest a s)
+    rw (within_front n ls rest a s, e, r, within_behind n ls rest a s)

@@ -10,7 +10,7 @@ use Rattle.ksv_yaml_scan.specs.Lines.{is_within, front, behind}
 use Rattle.ksv_yaml_scan.specs.Plain.{more_of, line_on, goes_on}
 use Rattle.ksv_yaml_scan.specs.Starts.{Plain, Quoted, Block, Flowing}
 use Rattle.ksv_yaml_scan.specs.Tokens.{tokens_of}
-use Rattle.ksv_yaml.proofs.Steps.{bind_some, at_got, Took, took_none, took_as, took_first, loud_took}
+use Rattle.ksv_yaml.proofs.Steps.{bind_some, got_is, Took, took_none, took_as, took_first, loud_took}
 use Rattle.ksv_yaml.proofs.FlowSound.{flow_sound}
 
 -- ---- plain scalars
@@ -20,20 +20,20 @@ line_on_sound : (n : ℕ) (l : Line) (ls : List Line) (x : Got Line (List ℕ)) 
     ((c : Bool) (y : Got Line (List ℕ)) → goes_on n c ls ≡ Some y → Took Line ls y.rest (λ xs. GoesOn n c xs y.value)) →
     line_on q c deep text (loud ls) (l ∷ ls) (λ c. goes_on n c ls) ≡ Some x → Took Line (l ∷ ls) x.rest (λ xs. GoesOn n c xs x.value)
 line_on_sound n l ls x true c deep text eq ed et f h =
-    at_got (λ (x : Got Line (List ℕ)). Took Line (l ∷ ls) x.rest (λ xs. GoesOn n c xs x.value)) [] (loud ls) x h
+    rw (← (got_is h))
     (took_first l _ (λ xs a. ends (eq, a)) (loud_took ls))
 line_on_sound n l ls x false true deep text eq ed et f h =
-    at_got (λ (x : Got Line (List ℕ)). Took Line (l ∷ ls) x.rest (λ xs. GoesOn n true xs x.value)) [] (l ∷ ls) x h (took_none (l ∷ ls) _ (ends tt))
+    rw (← (got_is h)) (took_none (l ∷ ls) _ (ends tt))
 line_on_sound n l ls x false false false text eq ed et f h =
-    at_got (λ (x : Got Line (List ℕ)). Took Line (l ∷ ls) x.rest (λ xs. GoesOn n false xs x.value)) [] (l ∷ ls) x h (took_none (l ∷ ls) _ (ends tt))
+    rw (← (got_is h)) (took_none (l ∷ ls) _ (ends tt))
 line_on_sound n l ls x false false true None eq ed et f h = absurd cc
 line_on_sound n l ls x false false true (Some t) eq ed et f h =
-    let r = bind_some (goes_on n t.1 ls) (λ r. got (32 ∷ (t.0 ++ r.value)) r.rest) x h in
-    at_got (λ (x : Got Line (List ℕ)). Took Line (l ∷ ls) x.rest (λ xs. GoesOn n false xs x.value)) (32 ∷ (t.0 ++ r.0.value)) r.0.rest x r.2
+    let r = bind_some (goes_on n t.1 ls) _ x h in
+    rw (← (got_is r.2))
     (took_first l _ (λ xs g. goes eq (leb-true n l.indent ed) et g) (f t.1 r.0 r.1))
 
 goes_on_sound : (n : ℕ) (c : Bool) (ls : List Line) (x : Got Line (List ℕ)) → goes_on n c ls ≡ Some x → Took Line ls x.rest (λ xs. GoesOn n c xs x.value)
-goes_on_sound n c [] x h = at_got (λ (x : Got Line (List ℕ)). Took Line [] x.rest (λ xs. GoesOn n c xs x.value)) [] [] x h (took_none [] _ (ends tt))
+goes_on_sound n c [] x h = rw (← (got_is h)) (took_none [] _ (ends tt))
 goes_on_sound n c (l ∷ ls) x h = line_on_sound n l ls x (is_quiet l) c (nat_le n l.indent) (more_of l.content) refl refl refl (λ c y. goes_on_sound n c ls y) h
 
 -- ---- the longest front
@@ -95,22 +95,20 @@ all_some t (u ∷ us) ls x h = absurd cc
 pub inlined_sound : (d n : ℕ) (k : InlineKind) (l : Line) (ls : List Line) (x : Got Line Tree) → inlined d n k l ls ≡ Some x
     → Took Line ls x.rest (λ xs. Inlined d n k l xs x.value)
 inlined_sound d n (Plain text c) l ls x h =
-    let r = bind_some (goes_on n c ls) (λ r. got (Text l.number false (text ++ r.value)) r.rest) x h in
-    at_got (λ (x : Got Line Tree). Took Line ls x.rest (λ xs. Inlined d n (Plain text c) l xs x.value)) (Text l.number false (text ++ r.0.value)) r.0.rest x r.2
+    let r = bind_some (goes_on n c ls) _ x h in
+    rw (← (got_is r.2))
     (took_as _ (λ xs g. plain g) (goes_on_sound n c ls r.0 r.1))
-inlined_sound d n (Quoted text) l ls x h = at_got (λ (x : Got Line Tree). Took Line ls x.rest (λ xs. Inlined d n (Quoted text) l xs x.value))
-    (Text l.number true text) (loud ls) x h (took_as _ (λ xs a. quoted a) (loud_took ls))
+inlined_sound d n (Quoted text) l ls x h = rw (← (got_is h)) (took_as _ (λ xs a. quoted a) (loud_took ls))
 inlined_sound d n (Block fold keep) l ls x h =
-    let r = bind_some (block_text fold keep (front (is_inner n) ls)) (λ text. got (Text l.number false text) (loud (behind (is_inner n) ls))) x h in
-    at_got (λ (x : Got Line Tree). Took Line ls x.rest (λ xs. Inlined d n (Block fold keep) l xs x.value)) (Text l.number false r.0)
-    (loud (behind (is_inner n) ls)) x r.2 (block_took d n fold keep l ls r.0 r.1)
+    let r = bind_some (block_text fold keep (front (is_inner n) ls)) _ x h in
+    rw (← (got_is r.2)) (block_took d n fold keep l ls r.0 r.1)
 inlined_sound d n Flowing l ls x h =
-    let ts = bind_some (tokens_of (l ∷ front (is_within n) ls)) (λ ts. flow_in d ts >>= λ x. all_of x.value x.rest (behind (is_within n) ls)) x h in
-    let t = bind_some (flow_in d ts.0) (λ x. all_of x.value x.rest (behind (is_within n) ls)) x ts.2 in
+    let ts = bind_some (tokens_of (l ∷ front (is_within n) ls)) _ x h in
+    let t = bind_some (flow_in d ts.0) _ x ts.2 in
     let a = all_some t.0.value t.0.rest (behind (is_within n) ls) x t.2 in
     let s = flow_sound _ d ts.0 t.0 t.1 in
     let e : s.front ≡ ts.0 = sym (s.cut ∙ ap (λ (r : List Token). s.front ++ r) a.0 ∙ append-nil s.front) in
-    at_got (λ (x : Got Line Tree). Took Line ls x.rest (λ xs. Inlined d n Flowing l xs x.value)) t.0.value (behind (is_within n) ls) x a.1
+    rw (← (got_is a.1))
     (record {
       front = front (is_within n) ls;
       cut = split (is_within n) ls;

@@ -51,38 +51,25 @@ with_no_entries (Some x) = refl
 pub regroup_items : {L : Type 0} (o : Option (Got L Items)) (so_far all : List Tree) (t : Tree) → all ≡ so_far ++ t ∷ []
     → with_items so_far (o >>= λ is. got (item t is.value) is.rest) ≡ with_items all o
 regroup_items None so_far all t z = refl
-regroup_items {L} (Some x) so_far all t z = ap (λ (is : Items). let found : Items → Option (Got L Items) = λ is. got is x.rest in found is)
-    (sym (join_push_items so_far t x.value) ∙ ap (λ (ts : List Tree). join_items (items_of ts) x.value) (sym z))
+regroup_items (Some x) so_far all t z = rw (z, join_push_items so_far t x.value)
 
 pub regroup_entries : {L : Type 0} (o : Option (Got L Entries)) (so_far all : List Pair) (p : Pair) → all ≡ so_far ++ p ∷ []
     → with_entries so_far (o >>= λ es. got (entry p.line p.key p.value es.value) es.rest) ≡ with_entries all o
 regroup_entries None so_far all p z = refl
-regroup_entries {L} (Some x) so_far all p z = ap (λ (es : Entries). let found : Entries → Option (Got L Entries) = λ es. got es x.rest in found es)
-    (sym (join_push so_far p x.value) ∙ ap (λ (ps : List Pair). join (entries_of ps) x.value) (sym z))
+regroup_entries (Some x) so_far all p z = rw (z, join_push so_far p x.value)
 
 -- the last one
 pub last_items : {L : Type 0} (rest : List L) (so_far all : List Tree) (t : Tree) → all ≡ so_far ++ t ∷ []
     → with_items so_far (got (item t no_items) rest) ≡ got (items_of all) rest
-last_items {L} rest so_far all t z = ap (λ (is : Items). let found : Items → Option (Got L Items) = λ is. got is rest in found is)
-    (sym (join_push_items so_far t no_items) ∙ join_no_items (items_of (so_far ++ t ∷ [])) ∙ ap items_of (sym z))
+last_items rest so_far all t z = rw (z, ← (join_push_items so_far t no_items), join_no_items (items_of (so_far ++ t ∷ [])))
 
 pub last_entries : {L : Type 0} (rest : List L) (so_far all : List Pair) (p : Pair) → all ≡ so_far ++ p ∷ []
     → with_entries so_far (got (entry p.line p.key p.value no_entries) rest) ≡ got (entries_of all) rest
-last_entries {L} rest so_far all p z = ap (λ (es : Entries). let found : Entries → Option (Got L Entries) = λ es. got es rest in found es)
-    (sym (join_push so_far p no_entries) ∙ join_none (entries_of (so_far ++ p ∷ [])) ∙ ap entries_of (sym z))
+last_entries rest so_far all p z = rw (z, ← (join_push so_far p no_entries), join_none (entries_of (so_far ++ p ∷ [])))
 
 -- no more
 pub end_items : {L : Type 0} (rest : List L) (so_far : List Tree) → with_items so_far (got no_items rest) ≡ got (items_of so_far) rest
-end_items {L} rest so_far = ap (λ (is : Items). let found : Items → Option (Got L Items) = λ is. got is rest in found is) (join_no_items (items_of so_far))
+end_items rest so_far = rw (join_no_items (items_of so_far))
 
 pub end_entries : {L : Type 0} (rest : List L) (so_far : List Pair) → with_entries so_far (got no_entries rest) ≡ got (entries_of so_far) rest
-end_entries {L} rest so_far = ap (λ (es : Entries). let found : Entries → Option (Got L Entries) = λ es. got es rest in found es)
-    (join_none (entries_of so_far))
-
-pub deeper_one : {A : Type 0} (d : ℕ) (f : ℕ → Option A) → d ≢ 0 → deeper d f ≡ f (d - 1)
-deeper_one zero f h = absurd (h refl)
-deeper_one (suc d) f h = let e : suc d - 1 ≡ d = omega arith in rw e
-
-pub deeper_none : {A : Type 0} (d : ℕ) (f : ℕ → Option A) → d ≡ 0 → deeper d f ≡ None
-deeper_none zero f h = refl
-deeper_none (suc d) f h = absurd (omega arith)
+end_entries rest so_far = rw (join_none (entries_of so_far))

@@ -9,7 +9,7 @@ use Rattle.ksv_yaml.specs.Grammar.{map, seq, inline, Mapping, last, more, Value,
 use Rattle.ksv_yaml.specs.Grammar.{tabbed}
 use Rattle.ksv_yaml_scan.specs.Lines.{columns, has_tab, white_or_end}
 use Rattle.ksv_yaml_scan.specs.Starts.{Key, Inline, Refused, dash_of, key_of}
-use Rattle.ksv_yaml.proofs.Steps.{bind_some, deeper_some, at_got, Took, took_as, took_then, took_first, loud_took}
+use Rattle.ksv_yaml.proofs.Steps.{bind_some, with_bind, with_deeper, got_is, Took, took_as, took_then, took_first, loud_took}
 use Rattle.ksv_yaml_scan.proofs.Choices.{picked, pick_guard}
 use Rattle.ksv_yaml.proofs.Distinct.{AreClear, clear_distinct}
 use Rattle.ksv_yaml_scan.proofs.Starts.{start_dash, start_key, start_inline}
@@ -50,7 +50,7 @@ items_join is em ek t (inr n) = took_then _ t n (then t.front n.front em refl ek
 
 level_some : {A : Type 0} (m : ℕ) (ls : List Line) (o : Option A) (x : A) → unless_level m ls o ≡ Some x → o ≡ Some x
 level_some m [] o x h = h
-level_some m (l ∷ ls) o x h = elim (picked (nat_lt l.indent m) o None (Some x) h) [ inl a ↦ a.1 | inr a ↦ absurd cc ]
+level_some m (l ∷ ls) o x h = elim (picked (nat_lt l.indent m) _ _ _ h) [ inl a ↦ a.1 | inr a ↦ absurd cc ]
 
 here_some : (b : Start) (d : ℕ) (l : Line) (cs : List ℕ) (ls : List Line) (x : Got Line Tree) → value_here b d l cs ls ≡ Some x
     → (k : InlineKind) × (b ≡ Inline k) × (inlined d (suc l.indent) k (from_here l cs) ls ≡ Some x)
@@ -97,20 +97,13 @@ mutual
       → node_by f b d n l ls ≡ Some x → Took Line ls x.rest (λ xs. Node d n (l ∷ xs) x.value)
   node_by_sound zero b d n l ls x eb s h = absurd cc
   node_by_sound (suc f) (Dash y) d n l ls x eb s h =
-      let e = deeper_some d (λ d. items f d l.indent l ls >>= λ is. unless_level l.indent is.rest (got (Seq l.number is.value) is.rest)) x h in
-      let is = bind_some (items f e.0 l.indent l ls) (λ is. unless_level l.indent is.rest (got (Seq l.number is.value) is.rest)) x e.2 in
-      let t = items_sound f e.0 l.indent l ls is.0 refl is.1 in
-      let g = level_some l.indent is.0.rest (got (Seq l.number is.0.value) is.0.rest) x is.2 in
-      subst (λ (d : ℕ). Took Line ls x.rest (λ xs. Node d n (l ∷ xs) x.value)) (sym e.1)
-      (at_got (λ (x : Got Line Tree). Took Line ls x.rest (λ xs. Node (suc e.0) n (l ∷ xs) x.value)) (Seq l.number is.0.value) is.0.rest x g
-      (took_as _ (λ xs w. seq s w) t))
+      with_deeper d _ x h (λ m e h. with_bind (items f m l.indent l ls) _ x h (λ is i h.
+      rw (e, ← (got_is (level_some l.indent is.rest (got (Seq l.number is.value) is.rest) x h)))
+      (took_as _ (λ xs w. seq s w) (items_sound f m l.indent l ls is refl i))))
   node_by_sound (suc f) (Key key rest) d n l ls x eb s h =
-      let e = deeper_some d (λ d. entries f d l.indent [] l ls >>= λ es. got (Map l.number es.value) es.rest) x h in
-      let es = bind_some (entries f e.0 l.indent [] l ls) (λ es. got (Map l.number es.value) es.rest) x e.2 in
-      let t = entries_sound f e.0 l.indent [] l ls es.0 refl es.1 in
-      subst (λ (d : ℕ). Took Line ls x.rest (λ xs. Node d n (l ∷ xs) x.value)) (sym e.1)
-      (at_got (λ (x : Got Line Tree). Took Line ls x.rest (λ xs. Node (suc e.0) n (l ∷ xs) x.value)) (Map l.number es.0.value) es.0.rest x es.2
-      (took_as _ (λ xs w. map s w (clear_distinct [] es.0.value t.1)) t.0))
+      with_deeper d _ x h (λ m e h. with_bind (entries f m l.indent [] l ls) _ x h (λ es i h.
+      let t = entries_sound f m l.indent [] l ls es refl i in
+      rw (e, ← (got_is h)) (took_as _ (λ xs w. map s w (clear_distinct [] es.value t.1)) t.0)))
   node_by_sound (suc f) (Inline k) d n l ls x eb s h = took_as _ (λ xs w. inline s (start_inline l.content k eb) w) (inlined_sound d n k l ls x h)
   node_by_sound (suc f) Nothing d n l ls x eb s h = absurd cc
   node_by_sound (suc f) Refused d n l ls x eb s h = absurd cc
@@ -125,23 +118,23 @@ mutual
   entries_by_sound zero b d m seen l ls x eb em h = absurd cc
   entries_by_sound (suc f) (Key key rest) d m seen l ls x eb em h =
       let g = pick_guard (is_among key seen)
-      (value f d l rest ls >>= λ v. more_entries f d m (seen ++ key ∷ []) v.rest >>= λ es. got (entry l.number key v.value es.value) es.rest) x h in
-      let v = bind_some (value f d l rest ls) (λ v. more_entries f d m (seen ++ key ∷ []) v.rest >>= λ es. got (entry l.number key v.value es.value) es.rest) x
+      _ x h in
+      let v = bind_some (value f d l rest ls) _ x
       g.1 in
-      let es = bind_some (more_entries f d m (seen ++ key ∷ []) v.0.rest) (λ es. got (entry l.number key v.0.value es.value) es.rest) x v.2 in
-      at_got (λ (x : Got Line Entries). Fine d m seen l ls x) (entry l.number key v.0.value es.0.value) es.0.rest x es.2
+      let es = bind_some (more_entries f d m (seen ++ key ∷ []) v.0.rest) _ x v.2 in
+      rw (← (got_is es.2))
       (entries_join seen es.0 em (start_key l.content key rest eb) g.0 (value_sound f d l rest ls v.0 v.1)
       (more_entries_sound f d m (seen ++ key ∷ []) v.0.rest es.0 es.1))
   entries_by_sound (suc f) b d m seen l ls x eb em h = absurd cc
 
   more_entries_sound : (f d m : ℕ) (seen : List (List ℕ)) (ls : List Line) (x : Got Line Entries) → more_entries f d m seen ls ≡ Some x → FineMore d m seen ls x
   more_entries_sound zero d m seen ls x h = absurd cc
-  more_entries_sound (suc f) d m seen [] x h = inl (at_got (NoMore no_entries []) no_entries [] x h (record { value = refl; rest = refl }))
+  more_entries_sound (suc f) d m seen [] x h = inl (rw (← (got_is h)) (record { value = refl; rest = refl }))
   more_entries_sound (suc f) d m seen (l ∷ ls) x h =
       let on : Bool = (l.indent == m) && is_key (start_of l.content) in
-      elim (picked (nat_lt l.indent m) (got no_entries (l ∷ ls)) (elim on [ true ↦ entries f d m seen l ls | false ↦ None ]) (Some x) h) [
-        | inl a ↦ inl (at_got (NoMore no_entries (l ∷ ls)) no_entries (l ∷ ls) x a.1 (record { value = refl; rest = refl }))
-        | inr a ↦ elim (picked on (entries f d m seen l ls) None (Some x) a.1) [
+      elim (picked (nat_lt l.indent m) _ _ _ h) [
+        | inl a ↦ inl (rw (← (got_is a.1)) (record { value = refl; rest = refl }))
+        | inr a ↦ elim (picked on _ _ _ a.1) [
           | inl b ↦ (let t = entries_sound f d m seen l ls x (eqb-true l.indent m (and_parts (l.indent == m) (is_key (start_of l.content)) b.0).0) b.1 in inr
               (took_first l _ (λ xs w. w) t.0, t.1))
           | inr b ↦ absurd cc
@@ -159,29 +152,24 @@ mutual
   value_below_sound : (f d : ℕ) (l : Line) (ls us : List Line) (x : Got Line Tree) → Took Line ls us AreQuiet → value_below f d l us ≡ Some x
       → Took Line ls x.rest (λ xs. Value d l [] xs x.value)
   value_below_sound zero d l ls us x q h = absurd cc
-  value_below_sound (suc f) d l ls [] x q h = at_got (λ (x : Got Line Tree). Took Line ls x.rest (λ xs. Value d l [] xs x.value)) (Text l.number false []) [] x
-      h (took_as _ (λ xs a. empty a) q)
+  value_below_sound (suc f) d l ls [] x q h = rw (← (got_is h)) (took_as _ (λ xs a. empty a) q)
   value_below_sound (suc f) d l ls (h ∷ us) x q r =
       let stop : got (Text l.number false []) (h ∷ us) ≡ Some x
       → Took Line ls x.rest (λ xs. Value d l [] xs x.value) =
-      λ e. at_got (λ (x : Got Line Tree). Took Line ls x.rest (λ xs. Value d l [] xs x.value)) (Text l.number false []) (h ∷ us) x e
+      λ e. rw (← (got_is e))
       (took_as _ (λ xs a. empty a) q) in
-      let at_level : Option (Got Line Tree) = deeper d (λ d. items f d l.indent h us >>= λ is. got (Seq h.number is.value) is.rest) in
-      elim (picked (nat_lt l.indent h.indent) (node f d (suc l.indent) h us)
-      (elim ((h.indent == l.indent) && is_dash (start_of h.content)) [ true ↦ at_level | false ↦ got (Text l.number false []) (h ∷ us) ]) (Some x) r) [
+      elim (picked (nat_lt l.indent h.indent) _
+      _ _ r) [
         | inl a ↦ (let t = took_first h (λ zs. Node d (suc l.indent) zs x.value) (λ xs w. w)
             (node_sound f d (suc l.indent) h us x (ltb-true l.indent h.indent a.0) a.1) in took_then _ q t (below q.front t.front refl q.is t.is))
-        | inr a ↦ elim (picked ((h.indent == l.indent) && is_dash (start_of h.content)) at_level (got (Text l.number false []) (h ∷ us)) (Some x) a.1) [
+        | inr a ↦ elim (picked ((h.indent == l.indent) && is_dash (start_of h.content)) _ _ _ a.1) [
           | inr b ↦ stop b.1
-          | inl b ↦ (
-              let e = deeper_some d (λ d. items f d l.indent h us >>= λ is. got (Seq h.number is.value) is.rest) x b.1 in
-              let is = bind_some (items f e.0 l.indent h us) (λ is. got (Seq h.number is.value) is.rest) x e.2 in
+          | inl b ↦
               let em = eqb-true h.indent l.indent (and_parts (h.indent == l.indent) (is_dash (start_of h.content)) b.0).0 in
-              let t = took_first h (λ zs. (ys : List Line) × (zs ≡ h ∷ ys) × Sequence e.0 l.indent (h ∷ ys) is.0.value) (λ xs w. (xs, refl, w))
-              (items_sound f e.0 l.indent h us is.0 em is.1) in
-              subst (λ (d : ℕ). Took Line ls x.rest (λ xs. Value d l [] xs x.value)) (sym e.1)
-              (at_got (λ (x : Got Line Tree). Took Line ls x.rest (λ xs. Value (suc e.0) l [] xs x.value)) (Seq h.number is.0.value) is.0.rest x is.2
-              (took_then _ q t (level q.front t.is.0 (ap (λ (r : List Line). q.front ++ r) t.is.1) q.is em t.is.2))))
+              with_deeper d _ x b.1 (λ m e r. with_bind (items f m l.indent h us) _ x r (λ is i r.
+              let t = took_first h (λ zs. (ys : List Line) × (zs ≡ h ∷ ys) × Sequence m l.indent (h ∷ ys) is.value) (λ xs w. (xs, refl, w))
+              (items_sound f m l.indent h us is em i) in
+              rw (e, ← (got_is r)) (took_then _ q t (level q.front t.is.0 (ap (λ (r : List Line). q.front ++ r) t.is.1) q.is em t.is.2))))
         ]
       ]
 
@@ -194,9 +182,9 @@ mutual
       → items_by f b d m l ls ≡ Some x → Took Line ls x.rest (λ xs. Sequence d m (l ∷ xs) x.value)
   items_by_sound zero b d m l ls x eb em h = absurd cc
   items_by_sound (suc f) (Dash k) d m l ls x eb em h =
-      let v = bind_some (item_at f d l k.columns k.tab k.behind ls) (λ t. more_items f d m t.rest >>= λ is. got (item t.value is.value) is.rest) x h in
-      let is = bind_some (more_items f d m v.0.rest) (λ is. got (item v.0.value is.value) is.rest) x v.2 in
-      at_got (λ (x : Got Line Items). Took Line ls x.rest (λ xs. Sequence d m (l ∷ xs) x.value)) (item v.0.value is.0.value) is.0.rest x is.2
+      let v = bind_some (item_at f d l k.columns k.tab k.behind ls) _ x h in
+      let is = bind_some (more_items f d m v.0.rest) _ x v.2 in
+      rw (← (got_is is.2))
       (items_join is.0 em (start_dash l.content k eb)
       (item_at_sound f d l k.columns k.tab k.behind ls v.0 (dash_of_is l.content k (start_dash l.content k eb)).wide v.1)
       (more_items_sound f d m v.0.rest is.0 is.1))
@@ -204,15 +192,14 @@ mutual
 
   more_items_sound : (f d m : ℕ) (ls : List Line) (x : Got Line Items) → more_items f d m ls ≡ Some x → MoreItems d m ls x
   more_items_sound zero d m ls x h = absurd cc
-  more_items_sound (suc f) d m [] x h = inl (at_got (NoMore no_items []) no_items [] x h (record { value = refl; rest = refl }))
+  more_items_sound (suc f) d m [] x h = inl (rw (← (got_is h)) (record { value = refl; rest = refl }))
   more_items_sound (suc f) d m (l ∷ ls) x h =
       let stop : got no_items (l ∷ ls) ≡ Some x → MoreItems d m (l ∷ ls) x =
-      λ e. inl (at_got (NoMore no_items (l ∷ ls)) no_items (l ∷ ls) x e (record { value = refl; rest = refl })) in
-      let on : Option (Got Line Items) = elim (is_dash (start_of l.content)) [ true ↦ items f d m l ls | false ↦ got no_items (l ∷ ls) ] in
-      elim (picked (nat_lt l.indent m) (got no_items (l ∷ ls)) (elim (l.indent == m) [ true ↦ on | false ↦ None ]) (Some x) h) [
+      λ e. inl (rw (← (got_is e)) (record { value = refl; rest = refl })) in
+      elim (picked (nat_lt l.indent m) _ _ _ h) [
         | inl a ↦ stop a.1
-        | inr a ↦ elim (picked (l.indent == m) on None (Some x) a.1) [
-          | inl b ↦ elim (picked (is_dash (start_of l.content)) (items f d m l ls) (got no_items (l ∷ ls)) (Some x) b.1) [
+        | inr a ↦ elim (picked (l.indent == m) _ _ _ a.1) [
+          | inl b ↦ elim (picked (is_dash (start_of l.content)) _ _ _ b.1) [
             | inl c ↦ inr (took_first l _ (λ xs w. w) (items_sound f d m l ls x (eqb-true l.indent m b.0) c.1))
             | inr c ↦ stop c.1
           ]
@@ -233,12 +220,11 @@ mutual
   item_below_sound : (f d : ℕ) (l : Line) (k : ℕ) (tab : Bool) (ls us : List Line) (x : Got Line Tree) → Took Line ls us AreQuiet → item_below f d l us ≡ Some x
       → Took Line ls x.rest (λ xs. Item d l k tab [] xs x.value)
   item_below_sound zero d l k tab ls us x q h = absurd cc
-  item_below_sound (suc f) d l k tab ls [] x q h = at_got (λ (x : Got Line Tree). Took Line ls x.rest (λ xs. Item d l k tab [] xs x.value))
-      (Text l.number false []) [] x h (took_as _ (λ xs a. none a) q)
+  item_below_sound (suc f) d l k tab ls [] x q h = rw (← (got_is h)) (took_as _ (λ xs a. none a) q)
   item_below_sound (suc f) d l k tab ls (h ∷ us) x q r =
-      elim (picked (nat_lt l.indent h.indent) (node f d (suc l.indent) h us) (got (Text l.number false []) (h ∷ us)) (Some x) r) [
+      elim (picked (nat_lt l.indent h.indent) _ _ _ r) [
         | inl a ↦ (let t = took_first h (λ zs. Node d (suc l.indent) zs x.value) (λ xs w. w)
             (node_sound f d (suc l.indent) h us x (ltb-true l.indent h.indent a.0) a.1) in took_then _ q t (under q.front t.front refl q.is t.is))
-        | inr a ↦ at_got (λ (x : Got Line Tree). Took Line ls x.rest (λ xs. Item d l k tab [] xs x.value)) (Text l.number false []) (h ∷ us) x a.1
+        | inr a ↦ rw (← (got_is a.1))
             (took_as _ (λ xs a. none a) q)
       ]

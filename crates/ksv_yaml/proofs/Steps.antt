@@ -1,5 +1,5 @@
 -- What a step of reading that found something says.
-use Rattle.ksv_yaml.proofs.Common.{◌≡◌, ℕ, zero, suc, ◌<◌, Bool, true, false, cond, List, [], ◌∷◌, ◌++◌, Option, Some, None, refl, sym, ap, subst, ◌∙◌}
+use Rattle.ksv_yaml.proofs.Common.{◌≡◌, ◌-◌, ℕ, zero, suc, ◌<◌, Bool, true, false, cond, List, [], ◌∷◌, ◌++◌, Option, Some, None, refl, sym, ap, subst, ◌∙◌}
 use Rattle.ksv_yaml.proofs.Common.{append_assoc, arith, at_true, at_false, AreQuiet, deeper, Got, got, ◌>>=◌, Line, is_quiet, loud}
 use Rattle.std.proofs.Common.{◌==◌}
 
@@ -7,24 +7,33 @@ pub bind_some : {A B : Type 0} (r : Option A) (f : A → Option B) (y : B) → (
 bind_some None f y h = absurd cc
 bind_some (Some x) f y h = (x, refl, h)
 
-pub deeper_some : {A : Type 0} (n : ℕ) (f : ℕ → Option A) (y : A) → deeper n f ≡ Some y → (m : ℕ) × (n ≡ suc m) × (f m ≡ Some y)
-deeper_some zero f y h = absurd cc
-deeper_some (suc n) f y h = (n, refl, h)
+-- the same, and a level deeper, with what follows of a step as an argument
+pub with_bind : {A B P : Type 0} (r : Option A) (f : A → Option B) (y : B) → (r >>= f) ≡ Some y → ((x : A) → r ≡ Some x → f x ≡ Some y → P) → P
+with_bind None f y h k = absurd cc
+with_bind (Some x) f y h k = k x refl h
 
-pub some_is : {L A : Type 0} (x y : Got L A) → (let some : Got L A → Option (Got L A) = λ x. Some x in some x ≡ some y) → x ≡ y
-some_is x y h = cc
+pub with_deeper : {A P : Type 0} (n : ℕ) (f : ℕ → Option A) (y : A) → deeper n f ≡ Some y → ((m : ℕ) → n ≡ suc m → f m ≡ Some y → P) → P
+with_deeper zero f y h k = absurd cc
+with_deeper (suc n) f y h k = k n refl h
 
-pub at_got : {L A : Type 0} (P : Got L A → Type 0) (v : A) (ls : List L) (x : Got L A) → got v ls ≡ Some x → P (record { value = v; rest = ls }) → P x
-at_got P v ls x h u = subst P (some_is (record { value = v; rest = ls }) x h) u
+pub by_test : {P : Type 0} (b : Bool) → (b ≡ true → P) → (b ≡ false → P) → P
+by_test true f g = f refl
+by_test false f g = g refl
+
+pub got_is : {L A : Type 0} {v : A} {ls : List L} {x : Got L A} → got v ls ≡ Some x → record { value = v; rest = ls } ≡ x
+got_is h = cc
 
 pub two_less : (n : ℕ) → 1 < n → (m : ℕ) × (n ≡ suc (suc m))
-two_less zero h = absurd (omega arith)
-two_less (suc zero) h = absurd (omega arith)
-two_less (suc (suc n)) h = (n, refl)
+two_less n h = (n - 2, omega arith)
+
+pub three_less : (n : ℕ) → 2 < n → (m : ℕ) × (n ≡ suc (suc (suc m)))
+three_less n h = (n - 3, omega arith)
+
+pub five_less : (n : ℕ) → 4 < n → (m : ℕ) × (n ≡ suc (suc (suc (suc (suc m)))))
+five_less n h = (n - 5, omega arith)
 
 pub one_less : (n : ℕ) → 0 < n → (m : ℕ) × (n ≡ suc m)
-one_less zero h = absurd (omega arith)
-one_less (suc n) h = (n, refl)
+one_less n h = (n - 1, omega arith)
 
 pub not_level : (a b : ℕ) → a < b → (a == b) ≡ false
 not_level a b h = grind arith

@@ -6,7 +6,7 @@ use Rattle.std.specs.Prelude.{codes}
 use Rattle.std.proofs.lemmas.Slice.Eq.{bytes_eq-Decides}
 use Rattle.ksv_yaml.specs.Grammar.{is_mark, Spelled, bare, marked}
 use Rattle.ksv_yaml.specs.Reading.{whole, body, behind_mark}
-use Rattle.ksv_yaml.proofs.Steps.{bind_some, Took, loud_took, loud_behind, Loud}
+use Rattle.ksv_yaml.proofs.Steps.{with_bind, Took, loud_took, loud_behind, Loud}
 use Rattle.std.proofs.lemmas.Bool.{and_parts}
 use Rattle.ksv_yaml_scan.proofs.Choices.{picked}
 use Rattle.ksv_yaml.proofs.Sound.{node_sound}
@@ -15,30 +15,23 @@ use Rattle.ksv_yaml.proofs.Complete.{node_ok}
 -- ---- from the relation to reading
 
 body_complete : {ls : List Line} {t : Tree} → Node 64 0 ls t → body ls ≡ Some t
-body_complete {ls} {t} n =
+body_complete n =
     let o = node_ok n in
-    let f : ℕ = 8 * weight (o.first ∷ o.others) + 8 in
-    ap body o.is
-    ∙ ap (λ (r : List Line). node f 64 0 o.first r >>= λ x. whole x.value x.rest) (sym (append-nil o.others))
-    ∙ ap (λ (o : Option (Got Line Tree)). o >>= λ x. whole x.value x.rest)
-    (o.reads [] f tt (omega (arith, ap (λ (r : List Line). weight (o.first ∷ r)) (append-nil o.others))))
+    rw (o.is, ← (append-nil o.others), o.reads [] (8 * weight (o.first ∷ (o.others ++ [])) + 8) tt (omega arith))
 
 -- a node begins with a line that says something
 node_loud : {ls : List Line} {t : Tree} → Node 64 0 ls t → Loud ls
-node_loud n = let o = node_ok n in subst Loud (sym o.is) o.loud
+node_loud n = let o = node_ok n in rw o.is o.loud
 
 mark_loud : (l : Line) → is_mark l ≡ true → is_quiet l ≡ false
-mark_loud l h =
-    let e = (bytes_eq-Decides l.content (codes "---")).0 (and_parts (l.indent == 0) (bytes_eq l.content (codes "---")) h).1 in
-    subst (λ (cs : List ℕ). is_nil (shown cs) ≡ false) (sym e) refl
+mark_loud l h = rw ((bytes_eq-Decides l.content (codes "---")).0 (and_parts (l.indent == 0) (bytes_eq l.content (codes "---")) h).1)
 
 pub tree_complete : {ls : List Line} {t : Tree} → Spelled ls t → tree_of ls ≡ Some t
 tree_complete (bare xs l ys split q m n) =
-    ap tree_of split ∙ ap (λ (r : List Line). body (behind_mark r)) (loud_behind xs (l ∷ ys) q (node_loud n))
-    ∙ ap body (pick_false (is_mark l) (loud ys) (l ∷ ys) m) ∙ body_complete n
+    rw (split, loud_behind xs (l ∷ ys) q (node_loud n)) (ap body (pick_false (is_mark l) (loud ys) (l ∷ ys) m) ∙ body_complete n)
 tree_complete (marked xs l ys zs split q m r n) =
-    ap tree_of split ∙ ap (λ (r : List Line). body (behind_mark r)) (loud_behind xs (l ∷ (ys ++ zs)) q (mark_loud l m))
-    ∙ ap body (pick_true (is_mark l) (loud (ys ++ zs)) (l ∷ (ys ++ zs)) m) ∙ ap body (loud_behind ys zs r (node_loud n)) ∙ body_complete n
+    rw (split, loud_behind xs (l ∷ (ys ++ zs)) q (mark_loud l m))
+    (ap body (pick_true (is_mark l) (loud (ys ++ zs)) (l ∷ (ys ++ zs)) m) ∙ rw (loud_behind ys zs r (node_loud n)) (body_complete n))
 
 -- no lines spell two trees
 pub one_tree : (ls : List Line) (t u : Tree) → Spelled ls t → Spelled ls u → t ≡ u
@@ -54,11 +47,11 @@ body_sound : (ls : List Line) (t : Tree) → body ls ≡ Some t → Node 64 0 ls
 body_sound [] t h = absurd cc
 body_sound (l ∷ ls) t h =
     let f : ℕ = 8 * weight (l ∷ ls) + 8 in
-    let x = bind_some (node f 64 0 l ls) (λ x. whole x.value x.rest) t h in
-    let w = whole_some x.0.value x.0.rest t x.2 in
-    let s = node_sound f 64 0 l ls x.0 (omega arith) x.1 in
+    with_bind (node f 64 0 l ls) _ t h (λ x i h.
+    let w = whole_some x.value x.rest t h in
+    let s = node_sound f 64 0 l ls x (omega arith) i in
     let e : s.front ≡ ls = sym (s.cut ∙ ap (λ (r : List Line). s.front ++ r) w.0 ∙ append-nil s.front) in
-    subst (λ (t : Tree). Node 64 0 (l ∷ ls) t) w.1 (subst (λ (r : List Line). Node 64 0 (l ∷ r) x.0.value) e s.is)
+    rw (← w.1) (subst (λ (r : List Line). Node 64 0 (l ∷ r) x.value) e s.is))
 
 from_sound : (ls us : List Line) (t : Tree) → Took Line ls us AreQuiet → body (behind_mark us) ≡ Some t → Spelled ls t
 from_sound ls [] t q h = absurd cc

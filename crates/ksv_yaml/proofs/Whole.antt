@@ -46,31 +46,18 @@ pub refuses_by : (text : List ℕ) (k : YamlKind) (line : ℕ) → IsOfLines k �
 refuses_by text NotUtf8 line o u = absurd o
 refuses_by text TooLong line o u = absurd o
 refuses_by text NoMemory line o u = tt
-refuses_by text Tab line o u = u refl
-refuses_by text Indentation line o u = u refl
-refuses_by text KeyTwice line o u = u refl
-refuses_by text LeftOut line o u = u refl
-refuses_by text NotClosed line o u = u refl
-refuses_by text ValueForKey line o u = u refl
-refuses_by text TooDeep line o u = u refl
+refuses_by text _ line o u = u refl
 
 -- a refusal and a tree exclude each other, but where memory runs out
 pub refuses_memory : (text : List ℕ) (t : Tree) (k : YamlKind) (line : ℕ) → Spells text t → Refuses text k line → k ≡ NoMemory
 refuses_memory text t NoMemory line s r = refl
 refuses_memory text t TooLong line s r = let h = s.small in absurd (omega arith)
 refuses_memory text t NotUtf8 line s r = absurd (r.bad s.utf8)
-refuses_memory text t Tab line s r = absurd (r.none t s)
-refuses_memory text t Indentation line s r = absurd (r.none t s)
-refuses_memory text t KeyTwice line s r = absurd (r.none t s)
-refuses_memory text t LeftOut line s r = absurd (r.none t s)
-refuses_memory text t NotClosed line s r = absurd (r.none t s)
-refuses_memory text t ValueForKey line s r = absurd (r.none t s)
-refuses_memory text t TooDeep line s r = absurd (r.none t s)
+refuses_memory text t _ line s r = absurd (r.none t s)
 
 -- the refusal of a text that was cut
 pub cut_refused : (text : List ℕ) (ls : List CodeLine) (stray : Option ℕ) (k : YamlKind) (n : ℕ) (w : Bool) → IsCut text (lines_view ls) stray → 0 < n
-    → n ≤ max 1 (length ls) → IsOfLines k → (w ≡ true → names_memory k ≡ true) → (w ≡ false → stray ≡ None → tree_of (lines_view ls) ≡ None)
-    → Refuses text k n
+    → n ≤ max 1 (length ls) → IsOfLines k → (w ≡ true → names_memory k ≡ true) → (w ≡ false → stray ≡ None → tree_of (lines_view ls) ≡ None) → Refuses text k n
 cut_refused text ls stray k n true c low high o m h = refuses_by text k n o (λ e. let f = m refl in absurd cc)
 cut_refused text ls stray k n false c low high o m h =
     refuses_by text k n o

@@ -17,66 +17,51 @@ flow_entries-entries-init t c =
     }
 
 pub flow_entries-returns-in-Some-clause-read : goal.flow_entries-returns-in-Some-clause-read
-flow_entries-returns-in-Some-clause-read t c = entries_close (map pair c.entries.entries.items) (tokens_view c.entries.at.now)
-    (tokens_view c.in-Some.behind.now) (sym c.in-Some.ensures.value) c.entries.invariant.is
+flow_entries-returns-in-Some-clause-read t c = entries_close c.entries.invariant.is (sym c.in-Some.ensures.value)
 
 pub flow_entries-returns-in_default-key_at-clause-read : goal.flow_entries-returns-in_default-key_at-clause-read
-flow_entries-returns-in_default-key_at-clause-read t c w =
-    entries_no_key (map pair c.entries.entries.items) (tokens_view c.entries.at.now) (sym c.in_default.ensures.value) (sym c.in_default-key_at.ensures.value)
-    c.entries.invariant.is
+flow_entries-returns-in_default-key_at-clause-read t c w = entries_no_key c.entries.invariant.is (sym c.in_default.ensures.value)
+    (sym c.in_default-key_at.ensures.value)
 
 pub flow_entries-returns-then-not-fresh-clause-read : goal.flow_entries-returns-then-not-fresh-clause-read
-flow_entries-returns-then-not-fresh-clause-read t c w =
-    entries_twice (map pair c.entries.entries.items) (tokens_view c.entries.at.now) c.in-Some-key_at.line c.in-Some-key_at.key.now
-    (tokens_view c.in-Some-key_at.rest.now) (sym c.in-Some-key_at.ensures.value)
+flow_entries-returns-then-not-fresh-clause-read t c w = entries_twice c.entries.invariant.is (sym c.in-Some-key_at.ensures.value)
     (key_tells c.in-Some-key_at.key.now c.entries.entries.items c.in_ok-fresh.fresh _
     (c.in_ok-fresh.ensures.fresh (keys_of (map pair c.entries.entries.items)) c.entries.invariant.keys) c.if-not-fresh.true)
-    c.entries.invariant.is
 
 pub flow_entries-returns-in_err-value-clause-read : goal.flow_entries-returns-in_err-value-clause-read
 flow_entries-returns-in_err-value-clause-read t c =
     let p = err_from_is_err_and c.from_residual-in_err-value.result c.from_residual-in_err-value.ensures.1 in
     rw (p.1, p.2) (fails_on (FlowIs c.args.depth (tokens_view c.in-Some-key_at.rest.now)) (FlowEntriesIs c.args.depth (tokens_view c.args.tokens.now))
-    c.in_err-value.field-0.0
-    (λ v. entries_fail (map pair c.entries.entries.items) (tokens_view c.entries.at.now) c.in-Some-key_at.line c.in-Some-key_at.key.now
-    (tokens_view c.in-Some-key_at.rest.now) (sym c.in-Some-key_at.ensures.value)
+    c.in_err-value.field-0.0 (entries_fail c.entries.invariant.is (sym c.in-Some-key_at.ensures.value)
     (key_tells c.in-Some-key_at.key.now c.entries.entries.items c.in_ok-fresh.fresh _
-    (c.in_ok-fresh.ensures.fresh (keys_of (map pair c.entries.entries.items)) c.entries.invariant.keys) c.if-not-fresh.false) v
-    c.entries.invariant.is)
+    (c.in_ok-fresh.ensures.fresh (keys_of (map pair c.entries.entries.items)) c.entries.invariant.keys) c.if-not-fresh.false))
     c.in_err-value.ensures.read)
 
 pub flow_entries-returns-in-Some-behind_close_map-clause-read : goal.flow_entries-returns-in-Some-behind_close_map-clause-read
 flow_entries-returns-in-Some-behind_close_map-clause-read t c =
     let all = pushed_entry c.push.new.self.items c.entries.entries.items c.make_entry.result c.in-Some-key_at.line c.in_ok-key.key.items
     c.in-Some-key_at.key.now (view c.in_ok-value.value) c.in_ok-push.ensures.items c.make_entry.ensures c.in_ok-key.ensures.items in
-    entries_end (map pair c.entries.entries.items) (map pair c.push.new.self.items) (tokens_view c.entries.at.now) c.in-Some-key_at.line
-    c.in-Some-key_at.key.now (tokens_view c.in-Some-key_at.rest.now) (view c.in_ok-value.value) (tokens_view c.in_ok-value.left.now)
-    (tokens_view c.in-Some-behind_close_map.behind.now) all (sym c.in-Some-key_at.ensures.value)
+    entries_end c.entries.invariant.is (sym c.in-Some-key_at.ensures.value)
     (key_tells c.in-Some-key_at.key.now c.entries.entries.items c.in_ok-fresh.fresh _
     (c.in_ok-fresh.ensures.fresh (keys_of (map pair c.entries.entries.items)) c.entries.invariant.keys) c.if-not-fresh.false)
-    (sym c.in-Some-behind_close_map.ensures.value) c.in_ok-value.ensures.read c.entries.invariant.is
+    c.in_ok-value.ensures.read all (sym c.in-Some-behind_close_map.ensures.value)
 
 pub flow_entries-returns-in_default-behind_comma-clause-read : goal.flow_entries-returns-in_default-behind_comma-clause-read
 flow_entries-returns-in_default-behind_comma-clause-read t c w =
-    entries_stop (map pair c.entries.entries.items) (tokens_view c.entries.at.now) c.in-Some-key_at.line c.in-Some-key_at.key.now
-    (tokens_view c.in-Some-key_at.rest.now) (view c.in_ok-value.value) (tokens_view c.in_ok-value.left.now) (sym c.in-Some-key_at.ensures.value)
+    entries_stop c.entries.invariant.is (sym c.in-Some-key_at.ensures.value)
     (key_tells c.in-Some-key_at.key.now c.entries.entries.items c.in_ok-fresh.fresh _
     (c.in_ok-fresh.ensures.fresh (keys_of (map pair c.entries.entries.items)) c.entries.invariant.keys) c.if-not-fresh.false)
-    (sym c.in_default-behind_close_map.ensures.value) (sym c.in_default-behind_comma.ensures.value) c.in_ok-value.ensures.read
-    c.entries.invariant.is
+    c.in_ok-value.ensures.read (sym c.in_default-behind_close_map.ensures.value) (sym c.in_default-behind_comma.ensures.value)
 
 pub flow_entries-entries-preserved : goal.flow_entries-entries-preserved
 flow_entries-entries-preserved t c =
     let all = pushed_entry c.push.new.self.items c.entries.entries.items c.make_entry.result c.in-Some-key_at.line c.in_ok-key.key.items
     c.in-Some-key_at.key.now (view c.in_ok-value.value) c.in_ok-push.ensures.items c.make_entry.ensures c.in_ok-key.ensures.items in
     record {
-      is = entries_on (map pair c.entries.entries.items) (map pair c.push.new.self.items) (tokens_view c.entries.at.now) c.in-Some-key_at.line
-          c.in-Some-key_at.key.now (tokens_view c.in-Some-key_at.rest.now) (view c.in_ok-value.value) (tokens_view c.in_ok-value.left.now)
-          (tokens_view c.in-Some-behind_comma.behind.now) all (sym c.in-Some-key_at.ensures.value)
+      is = entries_on c.entries.invariant.is (sym c.in-Some-key_at.ensures.value)
           (key_tells c.in-Some-key_at.key.now c.entries.entries.items c.in_ok-fresh.fresh _
-          (c.in_ok-fresh.ensures.fresh (keys_of (map pair c.entries.entries.items)) c.entries.invariant.keys) c.if-not-fresh.false)
-          (sym c.in-Some-behind_comma.ensures.value) c.in_ok-value.ensures.shorter c.in-Some-behind_comma.ensures.shorter c.in_ok-value.ensures.read
-          c.entries.invariant.is;
+          (c.in_ok-fresh.ensures.fresh (keys_of (map pair c.entries.entries.items)) c.entries.invariant.keys) c.if-not-fresh.false) c.in_ok-value.ensures.read all
+          (sym c.in-Some-behind_comma.ensures.value) c.in_ok-value.ensures.shorter c.in-Some-behind_comma.ensures.shorter;
       keys = keys_hold c.add_key.new.keys (map pair c.entries.entries.items) (map pair c.push.new.self.items)
           (record { line = c.in-Some-key_at.line; key = c.in-Some-key_at.key.now; value = view c.in_ok-value.value }) c.in-Some-key_at.key.now all refl
           (c.in_ok-fresh.ensures.holds (keys_of (map pair c.entries.entries.items)) c.entries.invariant.keys);
@@ -93,38 +78,30 @@ pub flow_items-items-init : goal.flow_items-items-init
 flow_items-items-init t c = record { is = items_start (map view c.new-items.result.items) (ap (map view) c.new-items.ensures.items); within = omega arith }
 
 pub flow_items-returns-in-Some-clause-read : goal.flow_items-returns-in-Some-clause-read
-flow_items-returns-in-Some-clause-read t c = items_close (map view c.items.items.items) (tokens_view c.items.at.now) (tokens_view c.in-Some.behind.now)
-    (sym c.in-Some.ensures.value) c.items.invariant.is
+flow_items-returns-in-Some-clause-read t c = items_close c.items.invariant.is (sym c.in-Some.ensures.value)
 
 pub flow_items-returns-in_err-item-clause-read : goal.flow_items-returns-in_err-item-clause-read
 flow_items-returns-in_err-item-clause-read t c =
     let p = err_from_is_err_and c.from_residual.result c.from_residual.ensures.1 in
     rw (p.1, p.2) (fails_on (FlowIs c.args.depth (tokens_view c.items.at.now)) (FlowItemsIs c.args.depth (tokens_view c.args.tokens.now))
-    c.in_err-item.field-0.0
-    (λ v. items_fail (map view c.items.items.items) (tokens_view c.items.at.now) (sym c.in_default.ensures.value) v c.items.invariant.is)
-    c.in_err-item.ensures.read)
+    c.in_err-item.field-0.0 (items_fail c.items.invariant.is (sym c.in_default.ensures.value)) c.in_err-item.ensures.read)
 
 pub flow_items-returns-in-Some-behind_close-clause-read : goal.flow_items-returns-in-Some-behind_close-clause-read
 flow_items-returns-in-Some-behind_close-clause-read t c =
     let all = pushed_item c.push.new.self.items c.items.items.items c.in_ok-item.item c.in_ok-push.ensures.items in
-    items_end (map view c.items.items.items) (map view c.push.new.self.items) (tokens_view c.items.at.now) (view c.in_ok-item.item)
-    (tokens_view c.in_ok-item.left.now) (tokens_view c.in-Some-behind_close.behind.now) all (sym c.in_default.ensures.value)
-    (sym c.in-Some-behind_close.ensures.value) c.in_ok-item.ensures.read c.items.invariant.is
+    items_end c.items.invariant.is (sym c.in_default.ensures.value) c.in_ok-item.ensures.read all (sym c.in-Some-behind_close.ensures.value)
 
 pub flow_items-returns-in_default-behind_comma-clause-read : goal.flow_items-returns-in_default-behind_comma-clause-read
 flow_items-returns-in_default-behind_comma-clause-read t c w =
-    items_stop (map view c.items.items.items) (tokens_view c.items.at.now) (view c.in_ok-item.item) (tokens_view c.in_ok-item.left.now)
-    (sym c.in_default.ensures.value) (sym c.in_default-behind_close.ensures.value) (sym c.in_default-behind_comma.ensures.value) c.in_ok-item.ensures.read
-    c.items.invariant.is
+    items_stop c.items.invariant.is (sym c.in_default.ensures.value) c.in_ok-item.ensures.read (sym c.in_default-behind_close.ensures.value)
+    (sym c.in_default-behind_comma.ensures.value)
 
 pub flow_items-items-preserved : goal.flow_items-items-preserved
 flow_items-items-preserved t c =
     let all = pushed_item c.push.new.self.items c.items.items.items c.in_ok-item.item c.in_ok-push.ensures.items in
     record {
-      is = items_on (map view c.items.items.items) (map view c.push.new.self.items) (tokens_view c.items.at.now) (view c.in_ok-item.item)
-          (tokens_view c.in_ok-item.left.now) (tokens_view c.in-Some-behind_comma.behind.now) all (sym c.in_default.ensures.value)
-          (sym c.in-Some-behind_comma.ensures.value) c.in_ok-item.ensures.shorter c.in-Some-behind_comma.ensures.shorter c.in_ok-item.ensures.read
-          c.items.invariant.is;
+      is = items_on c.items.invariant.is (sym c.in_default.ensures.value) c.in_ok-item.ensures.read all (sym c.in-Some-behind_comma.ensures.value)
+          c.in_ok-item.ensures.shorter c.in-Some-behind_comma.ensures.shorter;
       within = omega (arith, c.in_ok-item.ensures.shorter, c.in-Some-behind_comma.ensures.shorter, c.items.invariant.within);
     }
 
