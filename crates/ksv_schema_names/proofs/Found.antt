@@ -1,9 +1,10 @@
 -- What is found leads somewhere: places in lists, types, names, enums' members.
+use Rattle.std.proofs.Common.{inl, inr}
 use Rattle.ksv_schema_names.proofs.Common.{◌≡◌, ℕ, zero, suc, ◌+◌, ◌<◌, Bool, true, false, cond, ◌&&◌, List, [], ◌∷◌, ◌++◌, map, length, Option, Some, None}
 use Rattle.ksv_schema_names.proofs.Common.{is_none, refl, sym, ap, ◌∙◌, arith, position_from, option_map_or, bytes_eq, Row, row_in}
 use Rattle.std.proofs.Common.{is_some, slice_get, option_and_then}
 use Rattle.std.specs.List.{list_all}
-use Rattle.std.proofs.lemmas.Bool.{and_parts}
+use Rattle.std.proofs.lemmas.Bool.{and_parts, cases_Bool}
 use Rattle.std.proofs.lemmas.Option.{slice_get_within}
 use Rattle.std.proofs.lemmas.Slice.Eq.{bytes_eq-Decides}
 use Rattle.ksv_schema_names.specs.Rows.{is_within}
@@ -42,18 +43,14 @@ pub record IsPlace {A : Type 0} (t : A → Bool) (i : ℕ) (xs : List A) (k : �
   pub there : slice_get xs offset ≡ Some item
   pub passes : t item ≡ true
 
-by_test : {A : Type 0} (t : A → Bool) (i : ℕ) (x : A) (xs : List A) (k : ℕ) → (position_from t (i + 1) xs ≡ Some k → IsPlace t (i + 1) xs k) → (b : Bool)
-    → t x ≡ b → cond b (Some i) (position_from t (i + 1) xs) ≡ Some k → IsPlace t i (x ∷ xs) k
-by_test t i x xs k later true passes found =
-    let same : i ≡ k = cc in
-    record { offset = 0; is = omega arith; item = x; there = refl; passes = passes }
-by_test t i x xs k later false fails found =
-    let p = later found in
-    record { offset = suc p.offset; is = omega arith; item = p.item; there = p.there; passes = p.passes }
-
 pub place_of : {A : Type 0} (t : A → Bool) (i : ℕ) (xs : List A) (k : ℕ) → position_from t i xs ≡ Some k → IsPlace t i xs k
 place_of t i [] k h = absurd (cc)
-place_of t i (x ∷ xs) k h = by_test t i x xs k (place_of t (i + 1) xs k) (t x) refl h
+place_of t i (x ∷ xs) k h = elim (cases_Bool (t x)) [
+  | inl e ↦ let same : i ≡ k = (let j = rw e at h in cc) in record { offset = 0; is = omega arith; item = x; there = refl; passes = e }
+  | inr e ↦
+      let p = place_of t (i + 1) xs k (rw e at h) in
+      record { offset = suc p.offset; is = omega (arith, p.is); item = p.item; there = p.there; passes = p.passes }
+]
 
 pub place_within : {A : Type 0} (t : A → Bool) (xs : List A) (k : ℕ) → position_from t 0 xs ≡ Some k → k < length xs
 place_within t xs k h =
@@ -89,10 +86,10 @@ type_within types n (name ∷ names) k h =
   where
     root_within : (types : List Row) (b : ℕ) → root_named types name ≡ Some b → b < length types
     root_within [] b h = absurd (cc)
-    root_within (root ∷ types) b h = by_name (bytes_eq root.id name) h where
-      by_name : (c : Bool) → cond c (Some 0) None ≡ Some b → b < length (root ∷ types)
-      by_name true found = let same : 0 ≡ b = cc in omega arith
-      by_name false found = absurd (cc)
+    root_within (root ∷ types) b h = elim (cases_Bool (bytes_eq root.id name)) [
+      | inl e ↦ let same : 0 ≡ b = (let j = rw e at h in cc) in omega arith
+      | inr e ↦ absurd (let j = rw e at h in cc)
+    ]
 
     by_search : (o : Option ℕ) → nearest_row types types name n ≡ o → (m : ℕ) → option_map_or Some o (root_named types name) ≡ Some m → m < length types
     by_search None none m found = root_within types m found

@@ -1,4 +1,6 @@
 -- Names that are looked up.
+use Rattle.std.proofs.Common.{inl, inr}
+use Rattle.std.proofs.lemmas.Bool.{cases_Bool}
 use Rattle.ksv_schema_names.proofs.Common.{◌≡◌, ◌∙◌, ap, sym, refl, ℕ, zero, suc, ◌+◌, ◌<◌, Bool, true, false, cond, length, List, [], ◌∷◌, ◌++◌, map, Option}
 use Rattle.ksv_schema_names.proofs.Common.{Some, arith, find, option_map_or, Row, member_of}
 use Rattle.std.proofs.Common.{append_assoc}
@@ -21,8 +23,7 @@ last_name types enums n before (first ∷ next ∷ path) name =
 pub last_named : {S : Type 0} (see : S → List ℕ) (types enums : List Row) (n : ℕ) (path before : List S) (last : S) → path ≡ before ++ last ∷ []
     → enum_from types enums n [] (map see path) ≡ enum_behind types enums n (map see before) (see last)
 last_named see types enums n path before last is =
-    ap (λ (p : List _). enum_from types enums n [] (map see p)) is ∙ ap (enum_from types enums n []) (map-append see before (last ∷ []))
-    ∙ last_name types enums n [] (map see before) (see last)
+    rw (is, map-append see before (last ∷ [])) (last_name types enums n [] (map see before) (see last))
 
 -- one type further outwards
 pub further : (types : List Row) (p : ℕ → Bool) (left step size at m : ℕ) (whole : Option ℕ) → left + step ≡ size → step < size → false ≡ p at
@@ -40,13 +41,7 @@ further types p (suc k) step size at m whole e lt not_here out h = (
 
 as_many : (ms : List MemberOfCode) → length (filter (λ (m : MemberOfCode). is_in_params m.role) ms) ≡ length (filter is_parameter (map member_of ms))
 as_many [] = refl
-as_many (m ∷ ms) = go (is_in_params m.role) (as_many ms)
-  where
-    go : (b : Bool) → length (filter (λ (m : MemberOfCode). is_in_params m.role) ms) ≡ length (filter is_parameter (map member_of ms))
-        → length (cond b (m ∷ filter (λ (m : MemberOfCode). is_in_params m.role) ms) (filter (λ (m : MemberOfCode). is_in_params m.role) ms))
-        ≡ length (cond b (member_of m ∷ filter is_parameter (map member_of ms)) (filter is_parameter (map member_of ms)))
-    go true later = ap suc later
-    go false later = later
+as_many (m ∷ ms) = elim (cases_Bool (is_in_params m.role)) [ inl e ↦ rw e (ap suc (as_many ms)) | inr e ↦ rw e (as_many ms) ]
 
 pub parameters_counted : (ms : List MemberOfCode) → count_by (λ m. is_in_params m.role) ms ≡ length (filter is_parameter (map member_of ms))
 parameters_counted ms = sym (length-filter (λ m. is_in_params m.role) ms) ∙ as_many ms

@@ -29,10 +29,9 @@ module _ {X A : Type 0} (see : X → A) (f : A → List NameFault) (xs : List X)
   pub least_step : (i : ℕ) (x : X) (o p q : Option NameFault) → i < length xs → x ≡ get_or xs i x → p ≡ least o (f (see x))
       → least o (flat_map f (map see (drop i xs))) ≡ q → least p (flat_map f (map see (drop (i + 1) xs))) ≡ q
   least_step i x o p q lt is new now =
-      ap (λ (j : ℕ). least p (flat_map f (map see (drop j xs)))) (add-one i)
-      ∙ ap (λ (p : Option NameFault). least p (flat_map f (map see (drop (suc i) xs)))) (new ∙ ap (λ (y : X). least o (f (see y))) is)
+      rw (add-one i, new) (ap (λ (y : X). least (least o (f (see y))) (flat_map f (map see (drop (suc i) xs)))) is
       ∙ sym (least_append o (f (see (get_or xs i x))) (flat_map f (map see (drop (suc i) xs))))
-      ∙ sym (ap (λ (ys : List X). least o (flat_map f (map see ys))) (drop-cons xs i x lt)) ∙ now
+      ∙ sym (ap (λ (ys : List X). least o (flat_map f (map see ys))) (drop-cons xs i x lt)) ∙ now)
 
   pub least_end : (i : ℕ) (o q : Option NameFault) → length xs ≤ i → least o (flat_map f (map see (drop i xs))) ≡ q → o ≡ q
   least_end i o q le now = sym (least_none o) ∙ ap (λ (ys : List X). least o (flat_map f (map see ys))) (sym (drop_all i xs le)) ∙ now

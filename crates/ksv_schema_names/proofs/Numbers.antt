@@ -40,81 +40,65 @@ module _ (d : Declared) (s : List (List ℕ)) (n : ℕ) where
 
   pub literal_numbered : (l : Literal) → view (made.Literal l) ≡ numbered d s n (view (made.Literal l))
   unfolding numbered
-  literal_numbered l = view_literal l ∙ sym (ap (numbered d s n) (view_literal l))
+  literal_numbered l = rw (view_literal l)
 
   pub name_numbered : (v w : Name) → name_of w ≡ numbered_word s (name_of v) → view (made.Name w) ≡ numbered d s n (view (made.Name v))
   unfolding numbered
-  name_numbered v w is = view_name w ∙ ap named is ∙ sym (ap (numbered d s n) (view_name v))
+  name_numbered v w is = rw (view_name w, view_name v, is)
 
   pub special_numbered : (x : SpecialName) → view (made.Special x) ≡ numbered d s n (view (made.Special x))
   unfolding numbered
-  special_numbered x = view_special x ∙ sym (ap (numbered d s n) (view_special x))
+  special_numbered x = rw (view_special x)
 
   pub member_numbered : (v w : Member) → member_of w ≡ numbered_member d n (member_of v) → view (made.Member w) ≡ numbered d s n (view (made.Member v))
   unfolding numbered
-  member_numbered v w is = view_member w ∙ ap member is ∙ sym (ap (numbered d s n) (view_member v))
+  member_numbered v w is = rw (view_member w, view_member v, is)
 
   pub unary_numbered : (op : UnaryOperator) (p p' : _) (a a' : Expr) → view a' ≡ numbered d s n (view a)
       → view (Unary' op p' a') ≡ numbered d s n (view (Unary' op p a))
   unfolding numbered
-  unary_numbered op p p' a a' is = view_unary op p' a' ∙ ap (unary op) is ∙ sym (ap (numbered d s n) (view_unary op p a))
+  unary_numbered op p p' a a' is = rw (view_unary op p' a', view_unary op p a, is)
 
   pub binary_numbered : (op : BinaryOperator) (p q p' q' : _) (a b a' b' : Expr) → view a' ≡ numbered d s n (view a) → view b' ≡ numbered d s n (view b)
       → view (Binary' op p' a' q' b') ≡ numbered d s n (view (Binary' op p a q b))
   unfolding numbered
-  binary_numbered op p q p' q' a b a' b' left right =
-      view_binary op p' q' a' b' ∙ ap (λ (t : Tree). binary op t (view b')) left ∙ ap (binary op (numbered d s n (view a))) right
-      ∙ sym (ap (numbered d s n) (view_binary op p q a b))
+  binary_numbered op p q p' q' a b a' b' left right = rw (view_binary op p' q' a' b', view_binary op p q a b, left, right)
 
   pub logical_numbered : (op : LogicalOperator) (p q p' q' : _) (a b a' b' : Expr) → view a' ≡ numbered d s n (view a) → view b' ≡ numbered d s n (view b)
       → view (Logical' op p' a' q' b') ≡ numbered d s n (view (Logical' op p a q b))
   unfolding numbered
-  logical_numbered op p q p' q' a b a' b' left right =
-      view_logical op p' q' a' b' ∙ ap (λ (t : Tree). logical op t (view b')) left ∙ ap (logical op (numbered d s n (view a))) right
-      ∙ sym (ap (numbered d s n) (view_logical op p q a b))
+  logical_numbered op p q p' q' a b a' b' left right = rw (view_logical op p' q' a' b', view_logical op p q a b, left, right)
 
   pub choice_numbered : (p q r p' q' r' : _) (a b c a' b' c' : Expr) → view a' ≡ numbered d s n (view a) → view b' ≡ numbered d s n (view b)
       → view c' ≡ numbered d s n (view c) → view (Choice' p' a' q' b' r' c') ≡ numbered d s n (view (Choice' p a q b r c))
   unfolding numbered
-  choice_numbered p q r p' q' r' a b c a' b' c' first second third =
-      view_choice p' q' r' a' b' c' ∙ ap (λ (t : Tree). choice t (view b') (view c')) first
-      ∙ ap (λ (t : Tree). choice (numbered d s n (view a)) t (view c')) second
-      ∙ ap (choice (numbered d s n (view a)) (numbered d s n (view b))) third ∙ sym (ap (numbered d s n) (view_choice p q r a b c))
+  choice_numbered p q r p' q' r' a b c a' b' c' first second third = rw (view_choice p' q' r' a' b' c', view_choice p q r a b c, first, second, third)
 
   pub field_numbered : (p p' : _) (a a' : Expr) (v w : Name) → view a' ≡ numbered d s n (view a) → name_of w ≡ numbered_word s (name_of v)
       → view (Field' p' a' w) ≡ numbered d s n (view (Field' p a v))
   unfolding numbered
-  field_numbered p p' a a' v w object is =
-      view_field p' a' w ∙ ap (λ (t : Tree). field t (name_of w)) object ∙ ap (field (numbered d s n (view a))) is
-      ∙ sym (ap (numbered d s n) (view_field p a v))
+  field_numbered p p' a a' v w object is = rw (view_field p' a' w, view_field p a v, object, is)
 
   pub special_field_numbered : (p p' : _) (a a' : Expr) (x : SpecialName) → view a' ≡ numbered d s n (view a)
       → view (SpecialField' p' a' x) ≡ numbered d s n (view (SpecialField' p a x))
   unfolding numbered
-  special_field_numbered p p' a a' x object =
-      view_special_field p' a' x ∙ ap (λ (t : Tree). special_field t x) object ∙ sym (ap (numbered d s n) (view_special_field p a x))
+  special_field_numbered p p' a a' x object = rw (view_special_field p' a' x, view_special_field p a x, object)
 
   pub call_numbered : (e : Expr) (a a' : Box Expr Global) (m m' : String Global) (es es' : Vec Expr Global) → e ≡ made.Call a m es → m' ≡ m
       → view a'.value ≡ numbered d s n (view a.value) → arguments_of (map view es'.items) ≡ all_numbered d s n (arguments_of (map view es.items))
       → view (made.Call a' m' es') ≡ numbered d s n (view e)
   unfolding numbered
-  call_numbered e a a' m m' es es' is same object all =
-      view_call a' m' es' ∙ ap (λ (x : String Global). call (view a'.value) (string_bytes x) (arguments_of (map view es'.items))) same
-      ∙ ap (λ (t : Tree). call t (string_bytes m) (arguments_of (map view es'.items))) object ∙ ap (call (numbered d s n (view a.value)) (string_bytes m)) all
-      ∙ sym (ap (numbered d s n) (ap view is ∙ view_call a m es))
+  call_numbered e a a' m m' es es' is same object all = rw (view_call a' m' es', is, view_call a m es, same, object, all)
 
   pub index_numbered : (p q p' q' : _) (a b a' b' : Expr) → view a' ≡ numbered d s n (view a) → view b' ≡ numbered d s n (view b)
       → view (Index' p' a' q' b') ≡ numbered d s n (view (Index' p a q b))
   unfolding numbered
-  index_numbered p q p' q' a b a' b' left right =
-      view_index p' q' a' b' ∙ ap (λ (t : Tree). index t (view b')) left ∙ ap (index (numbered d s n (view a))) right
-      ∙ sym (ap (numbered d s n) (view_index p q a b))
+  index_numbered p q p' q' a b a' b' left right = rw (view_index p' q' a' b', view_index p q a b, left, right)
 
   pub cast_numbered : (p p' : _) (a a' : Expr) (t t' : TypeName) → view a' ≡ numbered d s n (view a) → path_of t' ≡ numbered_type d n (path_of t)
       → view (Cast' p' a' t') ≡ numbered d s n (view (Cast' p a t))
   unfolding numbered
-  cast_numbered p p' a a' t t' object is =
-      view_cast p' a' t' ∙ ap (λ (u : Tree). cast u (path_of t')) object ∙ ap (cast (numbered d s n (view a))) is ∙ sym (ap (numbered d s n) (view_cast p a t))
+  cast_numbered p p' a a' t t' object is = rw (view_cast p' a' t', view_cast p a t, object, is)
 
   -- arguments each of which was given its numbers
   pub each_numbered : (xs ys : List Expr) → length xs ≡ length ys
@@ -122,11 +106,9 @@ module _ (d : Declared) (s : List (List ℕ)) (n : ℕ) where
       → arguments_of (map view xs) ≡ all_numbered d s n (arguments_of (map view ys))
   unfolding numbered
   each_numbered [] [] same each = refl
-  each_numbered [] (y ∷ ys) same each = absurd (omega arith)
-  each_numbered (x ∷ xs) [] same each = absurd (omega arith)
   each_numbered (x ∷ xs) (y ∷ ys) same each =
-      ap (λ (t : Tree). argument t (arguments_of (map view xs))) (each 0 x (omega arith))
-      ∙ ap (argument (numbered d s n (view y))) (each_numbered xs ys (omega arith) (λ k z below. each (suc k) z (omega arith)))
+      rw (each 0 x (omega arith), each_numbered xs ys (omega arith) (λ k z below. each (suc k) z (omega arith)))
+  each_numbered _ _ same each = absurd (omega arith)
 
   -- the same of arguments in a vector v, which are written over
   pub refilled : (xs ws : List Expr) (v es : Vec Expr Global) → xs ≡ v.items → v ≡ es → length ws ≡ length xs
