@@ -5,7 +5,7 @@ pub use Rattle.std.proofs.lemmas.Bool.{and_parts}
 pub use Rattle.std.proofs.lemmas.List.{map-append, append-nil}
 pub use Rattle.std.proofs.lemmas.Result.{err_from_is_err_and}
 pub use Rattle.std.specs.Prelude.{◌==◌, take_while, IsUtf8, encode_utf8}
-pub use Rattle.ksv_expr_tree.specs.Tree.{Constant, Tree, literal, unary, binary, choice, call, index, cast, Arguments, no_arguments, argument, view}
+pub use Rattle.ksv_expr_tree.specs.Tree.{Tree, literal, unary, binary, choice, call, index, cast, Arguments, no_arguments, argument, view}
 pub use Rattle.ksv_expr_tree.specs.Tree.{arguments_of, string}
 pub use Rattle.ksv_expr_tree.specs.declared.tree.BinaryOperator.{BinaryOperator}
 pub use Rattle.ksv_expr_tree.specs.declared.tree.UnaryOperator.{UnaryOperator}

@@ -86,9 +86,6 @@ run_digit r c us h = rw h
 run_line : (r : Radix) (us : List ℕ) → run r (95 ∷ us) ≡ run_behind r us
 run_line r us = rw (line_no_digit r)
 
-behind_digit : (r : Radix) (c : ℕ) (us : List ℕ) → is_digit r c ≡ true → run_behind r (c ∷ us) ≡ suc (suc (run r us))
-behind_digit r c us h = rw h
-
 pub first_digit : (r : Radix) (ds : List ℕ) → IsDigits r ds → (c : ℕ) × (us : List ℕ) × (ds ≡ c ∷ us) × (is_digit r c ≡ true)
 first_digit r ds (last_digit {c = c} h) = (c, [], refl, h)
 first_digit r ds (one_digit {c = c} {cs} h k) = (c, cs, refl, h)
