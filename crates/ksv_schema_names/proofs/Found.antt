@@ -1,6 +1,6 @@
 -- What is found leads somewhere: places in lists, types, names, enums' members.
 use Rattle.std.proofs.Common.{inl, inr}
-use Rattle.ksv_schema_names.proofs.Common.{◌≡◌, ℕ, zero, suc, ◌+◌, ◌<◌, Bool, true, false, cond, ◌&&◌, List, [], ◌∷◌, ◌++◌, map, length, Option, Some, None}
+use Rattle.ksv_schema_names.proofs.Common.{◌≡◌, ℕ, zero, suc, ◌+◌, ◌<◌, Bool, true, false, ◌&&◌, List, [], ◌∷◌, ◌++◌, map, length, Option, Some, None}
 use Rattle.ksv_schema_names.proofs.Common.{is_none, refl, sym, ap, ◌∙◌, arith, position_from, option_map_or, bytes_eq, Row, row_in}
 use Rattle.std.proofs.Common.{is_some, slice_get, option_and_then}
 use Rattle.std.specs.List.{list_all}

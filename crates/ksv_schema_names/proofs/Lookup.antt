@@ -1,7 +1,7 @@
 -- Names that are looked up.
 use Rattle.std.proofs.Common.{inl, inr}
 use Rattle.std.proofs.lemmas.Bool.{cases_Bool}
-use Rattle.ksv_schema_names.proofs.Common.{◌≡◌, ◌∙◌, ap, sym, refl, ℕ, zero, suc, ◌+◌, ◌<◌, Bool, true, false, cond, length, List, [], ◌∷◌, ◌++◌, map, Option}
+use Rattle.ksv_schema_names.proofs.Common.{◌≡◌, ◌∙◌, ap, sym, refl, ℕ, zero, suc, ◌+◌, ◌<◌, Bool, false, cond, length, List, [], ◌∷◌, ◌++◌, map, Option}
 use Rattle.ksv_schema_names.proofs.Common.{Some, arith, find, option_map_or, Row, member_of}
 use Rattle.std.proofs.Common.{append_assoc}
 use Rattle.std.specs.Prelude.{filter, count_by}

@@ -1,7 +1,7 @@
 -- An expression whose parts were given their numbers was given its own: what it is at each form.
-use Rattle.ksv_schema_names.proofs.Common.{◌≡◌, ℕ, suc, ◌<◌, List, [], Option, ◌∷◌, map, length, get_or, refl, sym, ap, ◌∙◌, arith, Expr, Tree, view, path_of}
+use Rattle.ksv_schema_names.proofs.Common.{◌≡◌, ℕ, suc, ◌<◌, List, [], Option, ◌∷◌, map, length, get_or, refl, sym, ap, ◌∙◌, arith, Expr, view, path_of}
 use Rattle.ksv_schema_names.proofs.Common.{Declared, numbered, numbered_word}
-use Rattle.std.proofs.Common.{string_bytes, Box, Global, String, Vec}
+use Rattle.std.proofs.Common.{Box, Global, String, Vec}
 use Rattle.std.specs.Vec.{with_items}
 use Rattle.std.proofs.lemmas.List.{with_items_is}
 use Rattle.ksv_expr_tree.specs.declared.tree.Expr.{Unary', Binary', Logical', Choice', Field', SpecialField', Index', Cast'}
@@ -15,8 +15,7 @@ use Rattle.ksv_expr_tree.specs.declared.tree.UnaryOperator.{UnaryOperator}
 use Rattle.ksv_expr_tree.specs.declared.tree.BinaryOperator.{BinaryOperator}
 use Rattle.ksv_expr_tree.specs.declared.tree.LogicalOperator.{LogicalOperator}
 use Rattle.ksv_expr_tree.specs.declared.tree.EnumMember.{EnumMember}
-use Rattle.ksv_expr_tree.specs.Tree.{MemberPath, name_of, member_of, arguments_of, argument, named, member, unary, binary, logical, choice, field}
-use Rattle.ksv_expr_tree.specs.Tree.{special_field, call, index, cast}
+use Rattle.ksv_expr_tree.specs.Tree.{MemberPath, name_of, member_of, arguments_of}
 use Rattle.ksv_schema_names.specs.Numbered.{all_numbered, numbered_type, numbered_member, given_member}
 use Rattle.ksv_desc.proofs.Views.{view_literal, view_name, view_special, view_member, view_unary, view_binary, view_logical, view_choice, view_field}
 use Rattle.ksv_desc.proofs.Views.{view_special_field, view_call, view_index, view_cast}

@@ -1,9 +1,9 @@
 -- The types in a type are smaller than it.
 use Rattle.std.proofs.Common.{inl, inr}
 use Rattle.std.proofs.lemmas.Bool.{cases_Bool}
-use Rattle.ksv_schema_names.proofs.Common.{◌≡◌, ℕ, ◌+◌, ◌≤◌, Bool, true, false, cond, List, [], refl, ap, ◌∙◌, arith, Some, bytes_eq, Row}
-use Rattle.std.specs.Prelude.{codes, option_and_then, unwrap_or}
-use Rattle.ksv_yaml_tree.specs.Tree.{Tree, Text, Seq, Map, Entries, no_entries, entry, Pair, pairs, mapping_of, entry_at}
+use Rattle.ksv_schema_names.proofs.Common.{◌≡◌, ℕ, ◌+◌, ◌≤◌, List, refl, ap, arith, bytes_eq, Row}
+use Rattle.std.specs.Prelude.{codes}
+use Rattle.ksv_yaml_tree.specs.Tree.{Tree, Text, Seq, Map, Entries, no_entries, entry, Pair, pairs}
 use Rattle.ksv_yaml_tree.specs.View.{entries_of}
 use Rattle.ksv_yaml_tree.specs.Keys.{entries_in, entries_at}
 use Rattle.ksv_schema_names.specs.Rows.{with_types, with_key, with_named, with_each}

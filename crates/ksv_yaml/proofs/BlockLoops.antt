@@ -2,8 +2,8 @@
 use Rattle.ksv_yaml.proofs.Common.{◌≡◌, ℕ, zero, suc, ◌+◌, ◌-◌, ◌*◌, ◌≤◌, ◌<◌, Bool, true, false, List, [], ◌∷◌, ◌++◌, length, Option, None, ◌≢◌, refl, sym, ap}
 use Rattle.ksv_yaml.proofs.Common.{subst, ◌∙◌, arith, ◌==◌, ◌&&◌, nat_lt, Tree, Text, Seq, Map, Items, no_items, item, Entries, no_entries, entry, Pair}
 use Rattle.ksv_yaml.proofs.Common.{items_of, entries_of, view, at_column, from_here, deeper, is_among, inlined, unless_level, value_here, node, node_by}
-use Rattle.ksv_yaml.proofs.Common.{entries, entries_by, more_entries, value, value_below, items, items_by, more_items, item_at, item_below, weight, keys_of}
-use Rattle.ksv_yaml.proofs.Common.{at_true, at_false, pick_true, pick_false, Got, got, ◌>>=◌, Line, is_quiet, loud, InlineKind, Dashed, Start, Nothing, Dash}
+use Rattle.ksv_yaml.proofs.Common.{entries, entries_by, more_entries, value, value_below, items, items_by, more_items, weight, keys_of}
+use Rattle.ksv_yaml.proofs.Common.{pick_true, pick_false, Got, got, ◌>>=◌, Line, is_quiet, loud, InlineKind, Dashed, Start, Nothing, Dash}
 use Rattle.ksv_yaml.proofs.Common.{start_of, is_dash, is_key, lines_view}
 use Rattle.std.proofs.Common.{Result, Ok, Err, IfOk}
 use Rattle.std.specs.Borrow.{Bor}

@@ -1,11 +1,11 @@
 -- What is spelled so is read, whatever follows that doesn't go on with it.
 use Rattle.ksv_yaml.proofs.Common.{◌≡◌, ℕ, zero, suc, ◌+◌, ◌*◌, ◌≤◌, ◌<◌, Bool, true, false, List, [], ◌∷◌, ◌++◌, length, Option, Some, refl, sym, ap, subst}
 use Rattle.ksv_yaml.proofs.Common.{◌∙◌, append_assoc, arith, ◌⊎◌, inl, inr, ◌==◌, ◌&&◌, nat_lt, Tree, Text, Seq, Map, Items, no_items, item, Entries}
-use Rattle.ksv_yaml.proofs.Common.{no_entries, entry, AreDistinct, AreQuiet, Inlined, at_column, from_here, Node, is_among, node, node_by, entries, entries_by}
-use Rattle.ksv_yaml.proofs.Common.{more_entries, value, value_below, value_here, items, items_by, more_items, item_at, item_below, weight, unless_level, Got}
-use Rattle.ksv_yaml.proofs.Common.{got, ◌>>=◌, Line, is_nil, shown, is_quiet, loud, InlineKind, Dashed, Start, Nothing, Dash, start_of, is_dash, is_key}
+use Rattle.ksv_yaml.proofs.Common.{no_entries, entry, AreDistinct, AreQuiet, Inlined, at_column, from_here, Node, is_among, node, entries, entries_by}
+use Rattle.ksv_yaml.proofs.Common.{more_entries, value, value_below, items, items_by, more_items, item_at, item_below, weight}
+use Rattle.ksv_yaml.proofs.Common.{got, Line, is_nil, shown, is_quiet, loud, InlineKind, Dashed, Start, Nothing, Dash, start_of, is_dash, is_key}
 use Rattle.ksv_yaml.proofs.Common.{pick_true, pick_false}
-use Rattle.std.proofs.lemmas.Bool.{eq-eqb, lt-ltb, le-ltb, and_from, and_left, and_right}
+use Rattle.std.proofs.lemmas.Bool.{lt-ltb, le-ltb, and_left, and_right}
 use Rattle.ksv_yaml.specs.Grammar.{map, seq, inline, Mapping, last, more, Value, empty, below, level, here, Sequence, only, then, Item, none, under, compact}
 use Rattle.ksv_yaml.specs.Grammar.{tabbed}
 use Rattle.ksv_yaml_scan.specs.Starts.{Key, dash_of, key_of, kind_of, start_by}

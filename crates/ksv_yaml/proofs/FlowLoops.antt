@@ -1,7 +1,7 @@
 -- Where the reader of flow nodes is.
 use Rattle.ksv_yaml.proofs.Common.{◌≡◌, ℕ, suc, ◌+◌, ◌-◌, ◌*◌, ◌≤◌, ◌<◌, true, false, List, [], ◌∷◌, ◌++◌, length, Option, Some, None, ◌≢◌, refl, sym, ap, ◌∙◌}
-use Rattle.ksv_yaml.proofs.Common.{arith, Tree, Seq, Map, Items, no_items, item, Entries, no_entries, entry, Pair, items_of, entries_of, is_among, flow}
-use Rattle.ksv_yaml.proofs.Common.{flow_items, flow_more, flow_entries, flow_others, keys_of, pick_true, pick_false, Got, got, ◌>>=◌, Token, Open, Close}
+use Rattle.ksv_yaml.proofs.Common.{arith, Tree, Seq, Map, Items, item, Entries, entry, Pair, items_of, entries_of, is_among, flow}
+use Rattle.ksv_yaml.proofs.Common.{flow_items, flow_more, flow_entries, flow_others, keys_of, Got, got, ◌>>=◌, Token, Open, Close}
 use Rattle.ksv_yaml.proofs.Common.{OpenMap, CloseMap, Comma, Key}
 use Rattle.ksv_yaml.specs.Code.{behind_close, behind_close_map, behind_comma, key_at, FlowIs, FlowItemsIs, FlowEntriesIs}
 use Rattle.ksv_yaml.proofs.Steps.{one_less, two_less}

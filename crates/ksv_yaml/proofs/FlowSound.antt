@@ -1,7 +1,7 @@
 -- What is read of a flow node is spelled so.
-use Rattle.ksv_yaml.proofs.Common.{◌≡◌, ℕ, zero, suc, List, [], ◌∷◌, ◌++◌, Some, refl, sym, ap, subst, ◌∙◌, append_assoc, ◌⊎◌, inl, inr, Tree, Text, Seq, Map}
+use Rattle.ksv_yaml.proofs.Common.{◌≡◌, ℕ, zero, suc, List, [], ◌∷◌, ◌++◌, Some, refl, sym, ap, subst, ◌∙◌, append_assoc, ◌⊎◌, inl, inr, Tree}
 use Rattle.ksv_yaml.proofs.Common.{Items, no_items, item, Entries, no_entries, entry, is_among, flow, flow_items, flow_more, flow_entries, flow_others, Got}
-use Rattle.ksv_yaml.proofs.Common.{got, ◌>>=◌, Token, Open, Close, OpenMap, CloseMap, Comma, Key, Flow}
+use Rattle.ksv_yaml.proofs.Common.{Token, Open, Close, OpenMap, CloseMap, Comma, Key, Flow}
 use Rattle.ksv_yaml_scan.specs.Tokens.{Scalar}
 use Rattle.ksv_yaml.specs.Flow.{scalar, list, dict, FlowItems, no_more, only, then, FlowEntries, no_others, last, more}
 use Rattle.ksv_yaml.proofs.Steps.{bind_some, with_bind, with_deeper, got_is, Took, took_first}

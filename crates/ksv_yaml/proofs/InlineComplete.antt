@@ -1,15 +1,14 @@
 -- What a scalar or flow node spells is read, whatever follows that is before its column.
-use Rattle.ksv_yaml.proofs.Common.{◌≡◌, ℕ, ◌+◌, ◌*◌, ◌<◌, Bool, true, false, List, [], ◌∷◌, ◌++◌, length, Option, Some, refl, sym, ap, ◌∙◌, append_assoc, arith}
-use Rattle.ksv_yaml.proofs.Common.{append-nil, Tree, Text, AreQuiet, Inlined, inlined, Got, got, ◌>>=◌, Line, is_nil, shown, is_quiet, loud, InlineKind, Token}
+use Rattle.ksv_yaml.proofs.Common.{◌≡◌, ℕ, ◌+◌, ◌*◌, ◌<◌, Bool, true, false, List, [], ◌∷◌, ◌++◌, length, refl, sym, ap, ◌∙◌, append_assoc, arith}
+use Rattle.ksv_yaml.proofs.Common.{append-nil, Tree, AreQuiet, Inlined, inlined, got, Line, is_nil, shown, is_quiet, InlineKind, Token}
 use Rattle.ksv_yaml.proofs.Common.{at_true, at_false}
 use Rattle.std.specs.Prelude.{nat_le}
 use Rattle.std.proofs.lemmas.Bool.{le-leb, or_from, lt-leb}
 use Rattle.ksv_yaml.specs.Grammar.{AreInner, Leaves, AreWithin, GoesOn, ends, goes, plain, quoted, block, flow}
-use Rattle.ksv_yaml.specs.Reading.{all_of, flow_in}
-use Rattle.ksv_yaml_scan.specs.Blocks.{is_blank, block_text, is_inner}
+use Rattle.ksv_yaml.specs.Reading.{flow_in}
+use Rattle.ksv_yaml_scan.specs.Blocks.{is_blank, is_inner}
 use Rattle.ksv_yaml_scan.specs.Lines.{is_within, front, behind}
-use Rattle.ksv_yaml_scan.specs.Plain.{more_of, line_on, goes_on}
-use Rattle.ksv_yaml_scan.specs.Tokens.{tokens_of}
+use Rattle.ksv_yaml_scan.specs.Plain.{goes_on}
 use Rattle.ksv_yaml.proofs.Steps.{Loud, loud_behind}
 use Rattle.ksv_yaml.proofs.FlowComplete.{flow_ok}
 

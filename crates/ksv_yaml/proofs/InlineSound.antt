@@ -1,6 +1,6 @@
 -- What is read of a scalar or flow node is spelled so.
 use Rattle.ksv_yaml.proofs.Common.{◌≡◌, ℕ, Bool, true, false, cond, List, [], ◌∷◌, ◌++◌, Option, Some, None, refl, sym, ap, subst, ◌∙◌, append_assoc}
-use Rattle.ksv_yaml.proofs.Common.{append-nil, Tree, Text, Inlined, inlined, Got, got, ◌>>=◌, Line, is_quiet, loud, InlineKind, Token, Flow}
+use Rattle.ksv_yaml.proofs.Common.{append-nil, Tree, Text, Inlined, inlined, Got, got, Line, is_quiet, loud, InlineKind, Token, Flow}
 use Rattle.std.specs.Prelude.{nat_le}
 use Rattle.std.proofs.lemmas.Bool.{leb-true}
 use Rattle.ksv_yaml.specs.Grammar.{AreInner, Leaves, AreWithin, GoesOn, ends, goes, plain, quoted, block, flow}

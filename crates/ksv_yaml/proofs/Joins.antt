@@ -1,6 +1,6 @@
 -- Items and entries that are pushed one by one.
-use Rattle.ksv_yaml.proofs.Common.{◌≡◌, ℕ, zero, suc, ◌-◌, List, [], ◌∷◌, ◌++◌, Option, Some, None, ◌≢◌, refl, sym, ap, ◌∙◌, arith, Tree, Items, no_items, item}
-use Rattle.ksv_yaml.proofs.Common.{Entries, no_entries, entry, Pair, items_of, entries_of, deeper, keys_of, Got, got, ◌>>=◌}
+use Rattle.ksv_yaml.proofs.Common.{◌≡◌, ℕ, List, [], ◌∷◌, ◌++◌, Option, Some, None, refl, ap, Tree, Items, no_items, item}
+use Rattle.ksv_yaml.proofs.Common.{Entries, no_entries, entry, Pair, items_of, entries_of, keys_of, Got, got, ◌>>=◌}
 
 -- one list of entries after another
 abbrev pub join : Entries → Entries → Entries

@@ -1,8 +1,8 @@
 -- What is read is spelled so.
 use Rattle.ksv_yaml.proofs.Common.{◌≡◌, ℕ, zero, suc, ◌≤◌, ◌<◌, Bool, true, false, cond, List, [], ◌∷◌, ◌++◌, length, Option, Some, None, refl, sym, ap, subst}
-use Rattle.ksv_yaml.proofs.Common.{arith, ◌⊎◌, inl, inr, ◌==◌, ◌&&◌, nat_lt, Tree, Text, Seq, Map, Items, no_items, item, Entries, no_entries, entry, AreQuiet}
-use Rattle.ksv_yaml.proofs.Common.{at_column, from_here, Node, deeper, is_among, inlined, unless_level, node, node_by, entries, entries_by, more_entries, value}
-use Rattle.ksv_yaml.proofs.Common.{value_below, value_here, items, items_by, more_items, item_at, item_below, Got, got, ◌>>=◌, Line, shown, loud, InlineKind}
+use Rattle.ksv_yaml.proofs.Common.{arith, ◌⊎◌, inl, inr, ◌==◌, ◌&&◌, nat_lt, Tree, Text, Seq, Items, no_items, item, Entries, no_entries, entry, AreQuiet}
+use Rattle.ksv_yaml.proofs.Common.{at_column, from_here, Node, is_among, inlined, unless_level, node, node_by, entries, entries_by, more_entries, value}
+use Rattle.ksv_yaml.proofs.Common.{value_below, value_here, items, items_by, more_items, item_at, item_below, Got, got, Line, shown, loud, InlineKind}
 use Rattle.ksv_yaml.proofs.Common.{Dashed, Start, Nothing, Dash, start_of, is_dash, is_key}
 use Rattle.std.proofs.lemmas.Bool.{eqb-true, ltb-true, and_parts}
 use Rattle.ksv_yaml.specs.Grammar.{map, seq, inline, Mapping, last, more, Value, empty, below, level, here, Sequence, only, then, Item, none, under, compact}

@@ -1,5 +1,5 @@
 -- What a step of reading that found something says.
-use Rattle.ksv_yaml.proofs.Common.{◌≡◌, ◌-◌, ℕ, zero, suc, ◌<◌, Bool, true, false, cond, List, [], ◌∷◌, ◌++◌, Option, Some, None, refl, sym, ap, subst, ◌∙◌}
+use Rattle.ksv_yaml.proofs.Common.{◌≡◌, ◌-◌, ℕ, zero, suc, ◌<◌, Bool, true, false, cond, List, [], ◌∷◌, ◌++◌, Option, Some, None, refl, sym, ap, ◌∙◌}
 use Rattle.ksv_yaml.proofs.Common.{append_assoc, arith, at_true, at_false, AreQuiet, deeper, Got, got, ◌>>=◌, Line, is_quiet, loud}
 use Rattle.std.proofs.Common.{◌==◌}
 

@@ -1,6 +1,6 @@
 -- What the lines spell is what is read.
-use Rattle.ksv_yaml.proofs.Common.{◌≡◌, ℕ, ◌+◌, ◌*◌, true, false, List, [], ◌∷◌, ◌++◌, Option, Some, None, refl, sym, ap, subst, ◌∙◌, arith, inl, inr}
-use Rattle.ksv_yaml.proofs.Common.{append-nil, ◌==◌, bytes_eq, Tree, AreQuiet, Node, node, weight, tree_of, Got, ◌>>=◌, Line, is_nil, shown, is_quiet, loud}
+use Rattle.ksv_yaml.proofs.Common.{◌≡◌, ℕ, ◌+◌, ◌*◌, true, false, List, [], ◌∷◌, ◌++◌, Some, None, refl, sym, ap, subst, ◌∙◌, arith, inl, inr}
+use Rattle.ksv_yaml.proofs.Common.{append-nil, ◌==◌, bytes_eq, Tree, AreQuiet, Node, node, weight, tree_of, Line, is_quiet, loud}
 use Rattle.ksv_yaml.proofs.Common.{pick_true, pick_false}
 use Rattle.std.specs.Prelude.{codes}
 use Rattle.std.proofs.lemmas.Slice.Eq.{bytes_eq-Decides}

@@ -3,7 +3,7 @@ use Rattle.ksv_yaml.proofs.Common.{◌≡◌, ℕ, suc, ◌<◌, ◌≤◌, Bool
 use Rattle.ksv_yaml.proofs.Common.{tree_of, at_true, Line, lines_view}
 use Rattle.std.proofs.Common.{max, is_none}
 use Rattle.ksv_yaml.specs.declared.fault.YamlKind.{YamlKind}
-use Rattle.ksv_yaml.specs.declared.fault.YamlKind.TheVariants.{NotUtf8, TooLong, Tab, Indentation, KeyTwice, LeftOut, NotClosed, ValueForKey, TooDeep, NoMemory}
+use Rattle.ksv_yaml.specs.declared.fault.YamlKind.TheVariants.{NotUtf8, TooLong, NoMemory}
 use Rattle.ksv_yaml.specs.Code.{names_memory, IsOfLines}
 use Rattle.ksv_yaml.specs.Faults.{IsUnspelled, Refuses}
 use Rattle.ksv_yaml.specs.Text.{Spells}

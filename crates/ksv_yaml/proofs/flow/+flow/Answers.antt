@@ -60,8 +60,8 @@ flow_entries-entries-preserved t c =
     record {
       is = entries_on c.entries.invariant.is (sym c.in-Some-key_at.ensures.value)
           (key_tells c.in-Some-key_at.key.now c.entries.entries.items c.in_ok-fresh.fresh _
-          (c.in_ok-fresh.ensures.fresh (keys_of (map pair c.entries.entries.items)) c.entries.invariant.keys) c.if-not-fresh.false) c.in_ok-value.ensures.read all
-          (sym c.in-Some-behind_comma.ensures.value) c.in_ok-value.ensures.shorter c.in-Some-behind_comma.ensures.shorter;
+          (c.in_ok-fresh.ensures.fresh (keys_of (map pair c.entries.entries.items)) c.entries.invariant.keys) c.if-not-fresh.false)
+          c.in_ok-value.ensures.read all (sym c.in-Some-behind_comma.ensures.value) c.in_ok-value.ensures.shorter c.in-Some-behind_comma.ensures.shorter;
       keys = keys_hold c.add_key.new.keys (map pair c.entries.entries.items) (map pair c.push.new.self.items)
           (record { line = c.in-Some-key_at.line; key = c.in-Some-key_at.key.now; value = view c.in_ok-value.value }) c.in-Some-key_at.key.now all refl
           (c.in_ok-fresh.ensures.holds (keys_of (map pair c.entries.entries.items)) c.entries.invariant.keys);

@@ -1,6 +1,6 @@
 -- Each step of the reader is one of `BlockLoops`.
-use Rattle.ksv_yaml.proofs.Common.{◌≡◌, ◌+◌, ◌-◌, ◌<◌, ℕ, List, length, map, Option, None, false, refl, sym, ap, ◌∙◌, arith, Tree, Text, view, pair, items_of}
-use Rattle.ksv_yaml.proofs.Common.{entries_of, at_column, inlined, value_here, weight, keys_of, Got, got, Line, Dashed, start_of, line_view, lines_view}
+use Rattle.ksv_yaml.proofs.Common.{◌≡◌, ◌+◌, ◌-◌, ℕ, List, map, Option, None, false, refl, sym, ap, ◌∙◌, arith, Tree, Text, view, pair, items_of}
+use Rattle.ksv_yaml.proofs.Common.{entries_of, at_column, inlined, value_here, weight, keys_of, Got, got, Line, start_of, line_view, lines_view}
 use Rattle.std.proofs.lemmas.Result.{err_from_is_err_and}
 use Rattle.ksv_yaml.specs.Code.{NodeIs, EntriesIs, ValueIs, ItemsIs, ItemIs}
 use Rattle.ksv_yaml.proofs.Answering.{fails_on, gives_on, own_key_tells, keys_none, keys_hold, pushed_item, pushed_entry, empty_nil, not_empty}
