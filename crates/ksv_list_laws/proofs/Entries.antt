@@ -1,0 +1,84 @@
+-- What a node tells is right for an engine to keep.
+use Rattle.std.proofs.Common.{◌≡◌, ◌≢◌, ◌∙◌, ℕ, ◌<◌, Bool, true, false, ◌||◌, List, [], ◌∷◌, length, Result, Ok, Err, refl, sym, ap, subst, arith, Contains, get_or, AllPairs}
+use Rattle.std.proofs.lemmas.List.Elements.{recursion_from_All, Contains-get_or, Contains-append_right}
+use Rattle.std.specs.List.{AllByRecursion, flat_map, list_any}
+use mathlib.Core.Path.{fun_ext}
+use Rattle.ksv_bytes.specs.Uses.{is_use_touched}
+use Rattle.ksv_bytes.specs.declared.uses.Use.{Use}
+use Rattle.ksv_bytes.specs.declared.uses.Use.TheVariants.{Bytes}
+use Rattle.ksv_expr_value.specs.declared.fault.Fault.{Fault}
+use Rattle.ksv_desc.specs.Description.{Description}
+use Rattle.ksv_memo_rules.specs.declared.rules.Outcome.{Outcome}
+use Rattle.ksv_memo_rules.specs.declared.rules.Outcome.TheVariants.{Answered, Circle}
+use Rattle.ksv_memo_rules.specs.Evaluation.{IsAnswered, is_among, tells}
+use Rattle.ksv_memo_rules.specs.Meaning.{Standing, IsSettled, on}
+use Rattle.ksv_memo_rules.specs.Right.{StandsIn}
+use Rattle.ksv_memo_rules.specs.Touched.{tree}
+use Rattle.ksv_memo_rules.specs.Touched as engines
+use Rattle.ksv_memo_rules.proofs.Keeping.{AreDistinct-none, kept-tree}
+use Rattle.ksv_memo_rules.proofs.Standing.{law_on}
+use Rattle.ksv_memo_rules.proofs.Standins.{asks-lower}
+use Rattle.ksv_nodes.specs.Numbers.{node_number}
+use Rattle.ksv_nodes.specs.declared.given.Given.{Given}
+use Rattle.ksv_nodes.specs.declared.node.Node.{Node}
+use Rattle.ksv_rule_meaning.specs.Described.{described}
+use Rattle.ksv_rule_meaning.specs.Direct.{flattened, AreSameUses}
+use Rattle.ksv_rule_meaning.specs.Lemmas.Lawful.{described_lawful}
+use Rattle.ksv_rule_meaning.proofs.Completing.{touch_direct}
+use Rattle.ksv_rule_meaning.proofs.Direct.{answers_are_direct, asks_are_direct}
+use Rattle.ksv_list_laws.specs.Laws.{Tells, IsSingle, EntriesAreRight}
+use Rattle.ksv_list_laws.proofs.Trees.{touched_is}
+
+outcome_is : (o : Outcome Node (Result Given Fault)) (g : Given) → flattened o ≡ Ok g → o ≡ Answered (Ok g)
+outcome_is (Answered a) g e = by a e
+  where
+    by : (r : Result Given Fault) → flattened (Answered r) ≡ Ok g → ◌≡◌ {A = Outcome Node (Result Given Fault)} (Answered r) (Answered (Ok g))
+    by (Ok k) e' = let same : k ≡ g = cc in ap (λ z. Answered (Ok z)) same
+    by (Err f) e' = absurd (cc)
+outcome_is (Circle c) g e = absurd (cc)
+
+turned : (a b : Bool) → (a || b) ≡ (b || a)
+turned true true = refl
+turned true false = refl
+turned false b = or_false b
+  where
+    or_false : (c : Bool) → c ≡ (c || false)
+    or_false true = refl
+    or_false false = refl
+
+module _ (d : Description) (bytes : List ℕ) where
+  abbrev w : Standing Node (Result Given Fault)
+  w = on (described d) bytes
+
+  -- where all that a node asks is kept, and it uses one thing at most
+  pub entries_stand : (kept : List Node) (n : Node) (g : Given) (ns : List Node) (us : List Use) → Tells d bytes [] n g ns us → IsSingle us → AllByRecursion (λ m. is_among node_number kept m ≡ true) ns
+      → StandsIn w kept (record { node = n; answer = Ok g; asked = ns; uses = us })
+  entries_stand kept n g ns us t single all =
+      let outcome : (tells w [] n).outcome ≡ Answered (Ok g) = outcome_is (tells w [] n).outcome g (answers_are_direct d bytes [] n ∙ t.answer) in
+      let direct = asks_are_direct d bytes [] n (record { distinct = AreDistinct-none w; apart = refl }) in
+      let asked = direct.asked ∙ t.asked in
+      let used : AreSameUses (tells w [] n).uses us = subst (λ vs. AreSameUses (tells w [] n).uses vs) t.used direct.uses in
+      let settled : IsSettled w = law_on (described d) (described_lawful d) bytes in
+      let answered : IsAnswered (tells w [] n).outcome = subst (λ (o : Outcome Node (Result Given Fault)). IsAnswered o) (sym outcome) tt in
+      let own : Contains (tree w n) n = subst (λ ms. Contains ms n) (sym (kept-tree w settled n answered)) (Contains-append_right (flat_map (tree w) (tells w [] n).asked) (n ∷ []) n (Contains-get_or (n ∷ []) 0 n (omega arith))) in
+      record {
+        outcome = outcome;
+        closed = subst (AllByRecursion (λ m. is_among node_number kept m ≡ true)) (sym asked) all;
+        named = all;
+        lower = subst (AllByRecursion (λ m. length (tree w m) < length (tree w n))) asked (asks-lower w settled n answered);
+        touched = λ change. touch_direct d bytes change n ∙ touched_is d bytes change n g ns us t
+            ∙ ap (λ p. list_any p ns || list_any (is_use_touched change) us) (fun_ext (λ m. sym (touch_direct d bytes change m)))
+            ∙ turned (list_any (engines.is_touched w change) ns) (list_any (is_use_touched change) us);
+        few = (let same = ap length asked in omega arith);
+        once = once us single;
+        bytes = λ from to. ((used (Bytes from to)).1, (used (Bytes from to)).0);
+        made = recursion_from_All _ us (λ k v lt. (own.0, n, own.1, own.2, (used (get_or us k v)).1 (Contains-get_or us k v lt)));
+      }
+    where
+      once : (vs : List Use) → IsSingle vs → AllPairs (λ a b. a ≢ b) vs
+      once [] h = λ i j z a b. absurd (omega (arith, a, b))
+      once (v ∷ []) h = λ i j z a b. absurd (omega (arith, a, b))
+      once (u ∷ v ∷ vs) h = absurd h
+
+pub entries_are_right : EntriesAreRight
+entries_are_right d bytes kept n g ns us t single all = entries_stand d bytes kept n g ns us t single all

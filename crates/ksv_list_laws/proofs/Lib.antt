@@ -1,0 +1,12 @@
+-- The lemmas of this crate.
+pub mod Says
+pub mod Chains
+pub mod Paths
+pub mod Plain
+pub mod Rules
+pub mod Fields
+pub mod Places
+pub mod Telling
+pub mod Trees
+pub mod Entries
+pub mod Guards

@@ -1,0 +1,86 @@
+-- Where elements and fields begin, in order; and the ranks of nodes.
+use Rattle.std.proofs.Common.{◌≡◌, ◌∙◌, ℕ, zero, suc, ◌+◌, ◌*◌, ◌-◌, ◌==◌, ◌<◌, ◌≤◌, Bool, true, false, if◌then◌else◌, List, [], ◌∷◌, Option, Some, None, inl, inr, refl, sym, ap, arith}
+use Rattle.std.proofs.lemmas.Bool.Decides.{nat_tests}
+use Rattle.std.proofs.lemmas.Bool.{cases_lt}
+use Rattle.std.specs.Prelude.{unwrap_or}
+use Rattle.ksv_expr_value.specs.Trail.{Trail, child, trail_of-steps}
+use Rattle.ksv_expr_value.specs.declared.step.Step.{Step}
+use Rattle.ksv_expr_value.specs.declared.step.Step.TheVariants as steps
+use Rattle.ksv_nodes.specs.declared.node.Node.{Node}
+use Rattle.ksv_nodes.specs.declared.node.NodeKind.{NodeKind}
+use Rattle.ksv_nodes.specs.declared.node.NodeKind.TheVariants as nodes
+use Rattle.ksv_list_laws.specs.Lists.{Layout, place_of, size_at}
+use Rattle.ksv_list_laws.specs.Nodes.{Listing, field_start}
+
+-- ---- places
+
+pub field_low : (y : Layout) (n a j k : ℕ) → j ≤ k → field_start y n a j ≤ field_start y n a k
+field_low y n a j zero le = let same : j ≡ 0 = omega (arith, le) in let e : field_start y n a j ≡ field_start y n a 0 = ap (field_start y n a) same in omega (arith, e)
+field_low y n a j (suc k) le = elim (cases_lt k j) [
+  | inl less ↦ (let same : j ≡ suc k = omega (arith, le, less) in let e : field_start y n a j ≡ field_start y n a (suc k) = ap (field_start y n a) same in omega (arith, e))
+  | inr more ↦ (let e = field_low y n a j k more in omega (arith, e))
+]
+
+-- the first field takes bytes, so its object does
+pub first_some : (y : Layout) (n a m k : ℕ) → size_at y 0 ≡ Some m → 0 < m → a < field_start y n a (suc k)
+first_some y n a m k size some =
+    let first : field_start y n a 1 ≡ a + m = ap (λ o. a + unwrap_or o n) size in
+    let low = field_low y n a 1 (suc k) (omega arith) in omega (arith, first, low, some)
+
+-- ---- ranks
+
+-- a number that is so many times another, without a product of variables
+abbrev pub turns : ℕ → ℕ → ℕ
+turns w zero = 0
+turns w (suc i) = turns w i + w
+
+pub turns_low : (w i j : ℕ) → i < j → turns w i + w ≤ turns w j
+turns_low w i zero lt = absurd (omega (arith, lt))
+turns_low w i (suc j) lt = elim (cases_lt i j) [
+  | inl less ↦ (let e = turns_low w i j less in omega (arith, e))
+  | inr more ↦ (let same : i ≡ j = omega (arith, lt, more) in let e : turns w i ≡ turns w j = ap (turns w) same in omega (arith, e))
+]
+
+pub place_is : (name : ℕ → ℕ) (k j : ℕ) → j ≤ k → ((i : ℕ) → i ≤ k → name i ≡ name j → i ≡ j) → place_of name (name j) k ≡ j
+place_is name zero j le one = omega (arith, le)
+place_is name (suc k) j le one = by (name (suc k) == name j) refl (λ few. place_is name k j few (λ i low. one i (omega (arith, low))))
+  where
+    by : (b : Bool) → (name (suc k) == name j) ≡ b → (j ≤ k → place_of name (name j) k ≡ j) → (if b then suc k else place_of name (name j) k) ≡ j
+    by true e lower = one (suc k) (omega arith) (grind (arith, nat_tests))
+    by false e lower = elim (cases_lt k j) [
+      | inl less ↦ absurd (let same : suc k ≡ j = omega (arith, le, less) in let equal : name (suc k) ≡ name j = ap name same in let never : (name (suc k) == name j) ≡ true = grind (arith, nat_tests) in cc)
+      | inr more ↦ lower more
+    ]
+
+-- a node's rank: those of an element go from its head to its end, with three a field between them; rests come last, the last of them first
+abbrev pub width : Listing → ℕ
+width x = 3 * x.layout.last + 5
+
+abbrev pub element_rank : Listing → NodeKind → ℕ → ℕ
+element_rank x nodes.Head i = turns (width x) i
+element_rank x nodes.Value i = 0
+element_rank x nodes.End i = turns (width x) i + 3 * x.layout.last + 4
+element_rank x nodes.Rest i = turns (width x) x.count + (x.count - i)
+
+abbrev pub kind_rank : NodeKind → ℕ
+kind_rank nodes.Head = 1
+kind_rank nodes.End = 2
+kind_rank nodes.Value = 3
+kind_rank nodes.Rest = 0
+
+abbrev pub steps_rank : Listing → NodeKind → List Step → ℕ
+steps_rank x k (steps.Index i ∷ up) = element_rank x k i
+steps_rank x k (steps.Name n ∷ steps.Index i ∷ up) = turns (width x) i + 3 * place_of x.layout.name n x.layout.last + kind_rank k
+steps_rank x k _ = 0
+
+abbrev pub rank : Listing → Node → ℕ
+rank x m = steps_rank x m.kind m.path.upward
+
+pub rank_element : (x : Listing) (k : NodeKind) (l p : Trail) (i : ℕ) → child l (steps.Index i) ≡ Some p → steps_rank x k p.upward ≡ element_rank x k i
+rank_element x k l p i is = ap (steps_rank x k) (sym (trail_of-steps (steps.Index i ∷ l.upward) p is))
+
+pub rank_field : (x : Listing) (k : NodeKind) (l p q : Trail) (i j : ℕ) → child l (steps.Index i) ≡ Some p → child p (steps.Name (x.layout.name j)) ≡ Some q → place_of x.layout.name (x.layout.name j) x.layout.last ≡ j
+    → steps_rank x k q.upward ≡ turns (width x) i + 3 * j + kind_rank k
+rank_field x k l p q i j is was at =
+    ap (steps_rank x k) (sym (ap (λ u. steps.Name (x.layout.name j) ∷ u) (trail_of-steps (steps.Index i ∷ l.upward) p is) ∙ trail_of-steps (steps.Name (x.layout.name j) ∷ p.upward) q was))
+    ∙ ap (λ n. turns (width x) i + 3 * n + kind_rank k) at

@@ -1,0 +1,60 @@
+-- Laws of plain lists: what the nodes of their elements answer, ask and use from nothing, and which changes touch them. They are stated over
+-- the definitions of ksv_rule_meaning alone.
+use Rattle.std.specs.Prelude.{◌≡◌, ℕ, true, ◌||◌, List, [], ◌∷◌, ◌++◌, Option, Some, None, Result, Ok}
+use Rattle.std.specs.List.{AllByRecursion, flat_map, list_any}
+use Rattle.ksv_bytes.specs.declared.uses.Use.{Use}
+use Rattle.ksv_bytes.specs.declared.uses.Change.{Change}
+use Rattle.ksv_bytes.specs.Uses.{is_use_touched}
+use Rattle.ksv_desc.specs.Description.{Description}
+use Rattle.ksv_memo_rules.specs.Evaluation.{is_among}
+use Rattle.ksv_memo_rules.specs.Meaning.{on}
+use Rattle.ksv_memo_rules.specs.Right.{StandsIn}
+use Rattle.ksv_nodes.specs.declared.node.Node.{Node}
+use Rattle.ksv_nodes.specs.declared.given.Given.{Given}
+use Rattle.ksv_nodes.specs.Numbers.{node_number}
+use Rattle.ksv_nodes.specs.Rule.{head_node}
+use Rattle.ksv_rule_meaning.specs.Completed.{completed}
+use Rattle.ksv_rule_meaning.specs.Described.{described}
+use Rattle.ksv_rule_meaning.specs.FromNothing.{from_nothing, asks, uses}
+use Rattle.ksv_rule_meaning.specs.Kept.{is_touched}
+use Rattle.ksv_list_laws.specs.Nodes.{Listing, Which, node_at, nodes_of, answer_at, asked_by, uses_at, guard_of, reach_of, IsPlain, IsThere}
+
+-- what a node answers, asks and uses from nothing
+pub record Tells (d : Description) (bytes : List ℕ) (opened : List Node) (n : Node) (g : Given) (ns : List Node) (us : List Use) : Type 0 where
+  pub answer : from_nothing d bytes opened n ≡ Ok g
+  pub asked : asks d bytes opened n ≡ ns
+  pub used : uses d bytes opened n ≡ us
+
+-- Each node of a plain list has a path, and tells what it is to.
+abbrev pub NodesArePaths : Type 0
+NodesArePaths = (d : Description) (bytes : List ℕ) (x : Listing) → IsPlain d bytes x → (k : Which) → IsThere bytes x k → (n : Node) × (node_at x k ≡ Some n)
+
+abbrev pub NodesTell : Type 0
+NodesTell = (d : Description) (bytes : List ℕ) (x : Listing) → IsPlain d bytes x → (k : Which) → IsThere bytes x k → (n : Node) → node_at x k ≡ Some n
+    → Tells d bytes [] n (answer_at bytes x k) (nodes_of x (asked_by x k)) (uses_at bytes x k)
+
+-- the list's head, or the node of this number
+abbrev pub guard_node : Listing → Option Which → Option Node
+guard_node x None = Some (head_node x.path)
+guard_node x (Some k) = node_at x k
+
+-- A change touches the tree of a node just where it touches that of its guard, or the farthest place to which it reads.
+abbrev pub GuardsTell : Type 0
+GuardsTell = (d : Description) (bytes : List ℕ) (x : Listing) → IsPlain d bytes x → (k : Which) → IsThere bytes x k → (n m : Node) → node_at x k ≡ Some n → guard_node x (guard_of x k) ≡ Some m
+    → (change : Change) → is_touched d bytes change n ≡ (is_touched d bytes change m || list_any (is_use_touched change) (reach_of bytes x k))
+
+-- What evaluating a node completes is what each node that it asks completes, and then it.
+abbrev pub TreesAreAsked : Type 0
+TreesAreAsked = (d : Description) (bytes : List ℕ) (n : Node) (g : Given) (ns : List Node) (us : List Use) → Tells d bytes [] n g ns us
+    → completed d bytes [] n ≡ flat_map (completed d bytes []) ns ++ n ∷ []
+
+-- at most one use
+abbrev pub IsSingle : List Use → Type 0
+IsSingle [] = Unit {0}
+IsSingle (u ∷ []) = Unit {0}
+IsSingle (u ∷ v ∷ us) = ⊥
+
+-- What a node tells is right for an engine to keep, where all that it asks is kept.
+abbrev pub EntriesAreRight : Type 0
+EntriesAreRight = (d : Description) (bytes : List ℕ) (kept : List Node) (n : Node) (g : Given) (ns : List Node) (us : List Use) → Tells d bytes [] n g ns us → IsSingle us
+    → AllByRecursion (λ m. is_among node_number kept m ≡ true) ns → StandsIn (on (described d) bytes) kept (record { node = n; answer = Ok g; asked = ns; uses = us })

@@ -1,0 +1,4 @@
+-- The definitions, and the laws' statements.
+pub mod Lists
+pub mod Nodes
+pub mod Laws

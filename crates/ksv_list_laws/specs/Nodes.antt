@@ -1,0 +1,262 @@
+-- The nodes of a plain list's elements, and what each of them is to answer, to ask and to use: in closed form, by numbers alone.
+use Rattle.std.specs.Prelude.{◌≡◌, ℕ, zero, suc, ◌+◌, ◌-◌, ◌==◌, ◌<◌, ◌≤◌, nat_lt, nat_le, Bool, true, false, if◌then◌else◌, List, [], ◌∷◌, length, Option, Some, None, is_some, option_map, option_and_then, unwrap_or, Ok, pos, slice_range}
+use Rattle.ksv_basics.specs.Plan.{Answer}
+use Rattle.ksv_bytes.specs.declared.uses.Use.{Use}
+use Rattle.ksv_bytes.specs.declared.uses.Use.TheVariants as uses_are
+use Rattle.ksv_expr_value.specs.Places.{at_byte}
+use Rattle.ksv_expr_value.specs.Trail.{Trail, child, element_limit}
+use Rattle.ksv_expr_value.specs.declared.fault.FaultKind.TheVariants as kinds
+use Rattle.ksv_expr_value.specs.declared.step.Step.TheVariants as steps
+use Rattle.ksv_expr_value.specs.declared.value.Value.{Value}
+use Rattle.ksv_expr_value.specs.declared.value.Value.TheVariants as values
+use Rattle.ksv_desc.specs.Description.{Description, Attribute, Choice, Always}
+use Rattle.ksv_desc.specs.Description as contents
+use Rattle.ksv_memo_rules.specs.Slots.{with_first}
+use Rattle.ksv_nodes.specs.declared.node.Node.{Node}
+use Rattle.ksv_nodes.specs.declared.given.Given.{Given}
+use Rattle.ksv_nodes.specs.declared.given.Given.TheVariants as givens
+use Rattle.ksv_nodes.specs.declared.given.Head.TheVariants as heads
+use Rattle.ksv_nodes.specs.declared.given.List as lists
+use Rattle.ksv_nodes.specs.declared.given.Object.{Object}
+use Rattle.ksv_nodes.specs.declared.given.ObjectEnd.TheVariants as endings
+use Rattle.ksv_nodes.specs.declared.given.Origin.{Origin}
+use Rattle.ksv_nodes.specs.Reading.{end_in}
+use Rattle.ksv_nodes.specs.Rule.{Rule, raise, head_node, value_node, end_node, rest_node}
+use Rattle.ksv_rule_meaning.specs.Fields.{Sought}
+use Rattle.ksv_rule_meaning.specs.Heads.{origin_of, is_past}
+use Rattle.ksv_rule_meaning.specs.Values.{number_in}
+use Rattle.ksv_rule_meaning.specs.FromNothing.{from_nothing}
+use Rattle.ksv_list_laws.specs.Lists.{Layout, size_at, is_named_to, before, list_layout}
+
+-- A list at a path, the layout of its elements, the byte where it begins, how many of its elements are looked at, from the first on, and the
+-- number by which each element says the size of its fields.
+pub record Listing : Type 0 where
+  pub path : Trail
+  pub list : lists.List
+  pub layout : Layout
+  pub first : ℕ
+  pub count : ℕ
+  pub says : ℕ → ℕ
+
+-- ---- places
+
+-- where the field j begins of an element that begins at a and says this number
+abbrev pub field_start : Layout → ℕ → ℕ → ℕ → ℕ
+field_start y n a zero = a
+field_start y n a (suc j) = field_start y n a j + unwrap_or (size_at y j) n
+
+-- where the element i begins, and where its field j does
+abbrev pub start : Listing → ℕ → ℕ
+start x zero = x.first
+start x (suc i) = field_start x.layout (x.says i) (start x i) (suc x.layout.last)
+
+abbrev pub place : Listing → ℕ → ℕ → ℕ
+place x i j = field_start x.layout (x.says i) (start x i) j
+
+-- ---- nodes
+
+-- a node of a list: the head, the end and the rest of an element; the head and the end of its field j; and the value that says a size
+pub data Which : Type 0 where
+  ElementHead : ℕ → Which
+  ElementEnd : ℕ → Which
+  Rest : ℕ → Which
+  FieldHead : ℕ → ℕ → Which
+  FieldEnd : ℕ → ℕ → Which
+  SizeValue : ℕ → Which
+
+abbrev pub element_path : Listing → ℕ → Option Trail
+element_path x i = child x.path (steps.Index i)
+
+abbrev pub field_path : Listing → ℕ → ℕ → Option Trail
+field_path x i j = option_and_then (λ p. child p (steps.Name (x.layout.name j))) (element_path x i)
+
+abbrev pub node_at : Listing → Which → Option Node
+node_at x (ElementHead i) = option_map head_node (element_path x i)
+node_at x (ElementEnd i) = option_map end_node (element_path x i)
+node_at x (Rest i) = option_map rest_node (element_path x i)
+node_at x (FieldHead i j) = option_map head_node (field_path x i j)
+node_at x (FieldEnd i j) = option_map end_node (field_path x i j)
+node_at x (SizeValue i) = option_map value_node (field_path x i x.layout.sizer)
+
+-- such nodes; where none is said it is the list's own head
+abbrev pub nodes_of : Listing → List (Option Which) → List Node
+nodes_of x [] = []
+nodes_of x (None ∷ ks) = head_node x.path ∷ nodes_of x ks
+nodes_of x (Some k ∷ ks) = with_first (node_at x k) (nodes_of x ks)
+
+-- ---- answers
+
+-- the object that is read at a byte
+abbrev pub object_from : lists.List → ℕ → ℕ → Object
+object_from g t a = record { origin = Some (record g.origin { case = None }); type_number = t; stream = g.stream; start = at_byte a; ending = endings.ByFields }
+
+-- what is read from a byte to another
+abbrev pub leaf_from : Origin → ℕ → ℕ → Given
+leaf_from origin a z = givens.Head (heads.Leaf (record { origin = origin; from = at_byte a; to = at_byte z; end = at_byte z }))
+
+abbrev pub element_from : lists.List → Option ℕ → ℕ → ℕ → Given
+element_from g None a z = leaf_from (record g.origin { case = None }) a z
+element_from g (Some t) a z = givens.Head (heads.Object (object_from g t a))
+
+abbrev pub sought_at : Layout → ℕ → Sought
+sought_at y j = record { member = y.member j; before = before y j; kind = Attribute (y.field j) }
+
+-- by a list's count: the element i, which ends at z, is the last; and what its end depends on itself
+abbrev pub is_last_at : Option ℕ → List ℕ → Option ℕ → ℕ → ℕ → Bool
+is_last_at None bytes to i z = nat_le (end_in bytes to) z
+is_last_at (Some n) bytes to i z = n == i + 1
+
+abbrev pub stream_uses : List ℕ → Option ℕ → ℕ → List Use
+stream_uses bytes None z = (if nat_lt z (length bytes) then uses_are.Reach (z + 1) else uses_are.Size) ∷ []
+stream_uses bytes (Some t) z = []
+
+abbrev pub end_uses : Option ℕ → List ℕ → Option ℕ → ℕ → List Use
+end_uses None bytes to z = stream_uses bytes to z
+end_uses (Some n) bytes to z = []
+
+abbrev pub is_last : List ℕ → Listing → ℕ → Bool
+is_last bytes x i = is_last_at x.list.count bytes x.list.stream.to i (start x (suc i))
+
+abbrev pub answer_at : List ℕ → Listing → Which → Given
+answer_at bytes x (ElementHead i) = element_from x.list x.layout.type_number (start x i) (start x (suc i))
+answer_at bytes x (ElementEnd i) = givens.End (at_byte (start x (suc i))) (is_last bytes x i)
+answer_at bytes x (Rest i) = givens.Rest x.count (at_byte (start x x.count))
+answer_at bytes x (FieldHead i j) = leaf_from (origin_of (object_from x.list (unwrap_or x.layout.type_number 0) (start x i)) (sought_at x.layout j)) (place x i j) (place x i (suc j))
+answer_at bytes x (FieldEnd i j) = givens.End (at_byte (place x i (suc j))) false
+answer_at bytes x (SizeValue i) = givens.Value (values.Int (pos (x.says i)))
+
+-- ---- what is asked
+
+-- the end of the element or the field before, if there is one
+abbrev pub prior_end : ℕ → List (Option Which)
+prior_end zero = []
+prior_end (suc i) = Some (ElementEnd i) ∷ []
+
+abbrev pub prior_field : ℕ → ℕ → List (Option Which) → List (Option Which)
+prior_field i zero ks = ks
+prior_field i (suc j) ks = Some (FieldEnd i j) ∷ ks
+
+-- the value that says a size, where none is known
+abbrev pub size_asked : ℕ → Option ℕ → List (Option Which)
+size_asked i None = Some (SizeValue i) ∷ []
+size_asked i (Some n) = []
+
+-- an object ends with its last field
+abbrev pub last_asked : Option ℕ → ℕ → ℕ → List (Option Which)
+last_asked None i j = None ∷ []
+last_asked (Some t) i j = Some (FieldEnd i j) ∷ None ∷ []
+
+-- from the first element on the list is asked, and behind an element that isn't the last the rest from the next one on
+abbrev pub rest_asked : ℕ → List (Option Which) → List (Option Which)
+rest_asked zero ks = None ∷ ks
+rest_asked (suc i) ks = ks
+
+abbrev pub later_asked : ℕ → ℕ → List (Option Which)
+later_asked n i = if nat_le n (suc i) then [] else Some (Rest (suc i)) ∷ []
+
+abbrev pub asked_by : Listing → Which → List (Option Which)
+asked_by x (ElementHead i) = None ∷ prior_end i
+asked_by x (ElementEnd i) = Some (ElementHead i) ∷ last_asked x.layout.type_number i x.layout.last
+asked_by x (Rest i) = rest_asked i (Some (ElementEnd i) ∷ later_asked x.count i)
+asked_by x (FieldHead i j) = Some (ElementHead i) ∷ prior_field i j (size_asked i (size_at x.layout j))
+asked_by x (FieldEnd i j) = Some (FieldHead i j) ∷ []
+asked_by x (SizeValue i) = Some (FieldHead i x.layout.sizer) ∷ []
+
+-- ---- what is used
+
+abbrev pub element_uses : Option ℕ → ℕ → List Use
+element_uses None z = uses_are.Reach z ∷ []
+element_uses (Some t) z = []
+
+abbrev pub uses_at : List ℕ → Listing → Which → List Use
+uses_at bytes x (ElementHead i) = element_uses x.layout.type_number (start x (suc i))
+uses_at bytes x (ElementEnd i) = end_uses x.list.count bytes x.list.stream.to (start x (suc i))
+uses_at bytes x (Rest i) = []
+uses_at bytes x (FieldHead i j) = uses_are.Reach (place x i (suc j)) ∷ []
+uses_at bytes x (FieldEnd i j) = []
+uses_at bytes x (SizeValue i) = uses_are.Bytes (place x i x.layout.sizer) (place x i (suc x.layout.sizer)) ∷ []
+
+-- ---- guards
+
+-- The guard of a node: the last value behind which it is that says a size, or else the list's head. Where the element before says sizes, the
+-- next one is behind its value.
+abbrev pub prior_guard : Listing → ℕ → Option Which
+prior_guard x zero = None
+prior_guard x (suc i) = if is_named_to x.layout x.layout.last then Some (SizeValue i) else None
+
+abbrev pub field_guard : Listing → ℕ → ℕ → Option Which
+field_guard x i j = if is_named_to x.layout j then Some (SizeValue i) else prior_guard x i
+
+abbrev pub guard_of : Listing → Which → Option Which
+guard_of x (ElementHead i) = prior_guard x i
+guard_of x (ElementEnd i) = prior_guard x (suc i)
+guard_of x (Rest i) = prior_guard x x.count
+guard_of x (FieldHead i j) = field_guard x i j
+guard_of x (FieldEnd i j) = field_guard x i j
+guard_of x (SizeValue i) = Some (SizeValue i)
+
+-- and the farthest place to which it reads: that of a last element depends on the size of a stream that the file ends
+abbrev pub stream_reach : List ℕ → Option ℕ → ℕ → Use
+stream_reach bytes None z = if nat_lt z (length bytes) then uses_are.Reach (z + 1) else uses_are.Size
+stream_reach bytes (Some t) z = uses_are.Reach z
+
+abbrev pub end_reach : Option ℕ → List ℕ → Option ℕ → ℕ → Use
+end_reach None bytes to z = stream_reach bytes to z
+end_reach (Some n) bytes to z = uses_are.Reach z
+
+abbrev pub prior_reach : List ℕ → Listing → ℕ → List Use
+prior_reach bytes x zero = []
+prior_reach bytes x (suc i) = end_reach x.list.count bytes x.list.stream.to (start x (suc i)) ∷ []
+
+abbrev pub element_reach : List ℕ → Listing → Option ℕ → ℕ → List Use
+element_reach bytes x None i = uses_are.Reach (start x (suc i)) ∷ []
+element_reach bytes x (Some t) i = prior_reach bytes x i
+
+abbrev pub reach_of : List ℕ → Listing → Which → List Use
+reach_of bytes x (ElementHead i) = element_reach bytes x x.layout.type_number i
+reach_of bytes x (ElementEnd i) = prior_reach bytes x (suc i)
+reach_of bytes x (Rest i) = prior_reach bytes x x.count
+reach_of bytes x (FieldHead i j) = uses_are.Reach (place x i (suc j)) ∷ []
+reach_of bytes x (FieldEnd i j) = uses_are.Reach (place x i (suc j)) ∷ []
+reach_of bytes x (SizeValue i) = []
+
+-- ---- which nodes are there
+
+-- the integer that bytes write
+abbrev pub integer_in : Choice → List ℕ → Rule Value
+integer_in (Always (contents.Number is_signed size order enum)) bytes = number_in is_signed order enum bytes
+integer_in _ bytes = raise kinds.BadType
+
+-- The element i is whole: its bytes are in the stream, the list's count doesn't exclude it, and where a field has a size that another says,
+-- that one says this number.
+pub record IsWhole (bytes : List ℕ) (x : Listing) (i : ℕ) : Type 0 where
+  pub room : start x (suc i) ≤ end_in bytes x.list.stream.to
+  pub counted : is_past x.list.count i ≡ false
+  pub says : is_named_to x.layout x.layout.last ≡ true
+      → integer_in (x.layout.field x.layout.sizer).choice (slice_range bytes (place x i x.layout.sizer) (place x i (suc x.layout.sizer)))
+          ≡ Answer (values.Int (pos (x.says i)))
+
+-- A plain list, the first elements of which are whole. Its path is short enough for paths of fields; it begins at a byte; and its stream
+-- ends in the file.
+pub record IsPlain (d : Description) (bytes : List ℕ) (x : Listing) : Type 0 where
+  pub laid : list_layout d x.list ≡ Some x.layout
+  pub listed : from_nothing d bytes [] (head_node x.path) ≡ Ok (givens.Head (heads.List x.list))
+  pub short : length x.path.upward < 63
+  pub few : x.count ≤ element_limit
+  pub begins : x.list.start ≡ at_byte x.first
+  pub filled : x.list.is_empty ≡ false
+  pub within : end_in bytes x.list.stream.to ≤ length bytes
+  pub whole : (i : ℕ) → i < x.count → IsWhole bytes x i
+
+-- a field of an element that has fields
+abbrev pub IsField : Listing → ℕ → ℕ → Type 0
+IsField x i j = (i < x.count) × (j ≤ x.layout.last) × (is_some x.layout.type_number ≡ true)
+
+-- which nodes there are: rests if the last element that is looked at is the list's last
+abbrev pub IsThere : List ℕ → Listing → Which → Type 0
+IsThere bytes x (ElementHead i) = i < x.count
+IsThere bytes x (ElementEnd i) = i < x.count
+IsThere bytes x (Rest i) = (i < x.count) × (is_last bytes x (x.count - 1) ≡ true)
+IsThere bytes x (FieldHead i j) = IsField x i j
+IsThere bytes x (FieldEnd i j) = IsField x i j
+IsThere bytes x (SizeValue i) = IsField x i x.layout.sizer × (is_named_to x.layout x.layout.last ≡ true)
