@@ -56,6 +56,10 @@ some_is : (o : Option ℕ) → is_some o ≡ true → o ≡ Some (unwrap_or o 0)
 some_is None h = absurd (cc)
 some_is (Some n) h = refl
 
+or_true : (b : Bool) → (b || true) ≡ true
+or_true true = refl
+or_true false = refl
+
 none_is : (o : Option ℕ) → not (is_some o) ≡ true → o ≡ None
 none_is None h = refl
 none_is (Some n) h = absurd (cc)
@@ -246,16 +250,9 @@ module _ (d : Description) (bytes : List ℕ) (x : Listing) (plain : IsPlain d b
     | inr more ↦ ap (λ b. b || not (is_some (size_at x.layout (suc k)))) (named_more j k more h)
   ]
 
-  pub named_by : (j : ℕ) → j ≤ x.layout.last → size_at x.layout j ≡ None → is_named_to x.layout x.layout.last ≡ true
-  named_by j low e = named_more j x.layout.last low (here j e)
-    where
-      or_true : (b : Bool) → (b || true) ≡ true
-      or_true true = refl
-      or_true false = refl
-
-      here : (k : ℕ) → size_at x.layout k ≡ None → is_named_to x.layout k ≡ true
-      here zero e' = ap (λ o. not (is_some o)) e'
-      here (suc k) e' = ap (λ o. is_named_to x.layout k || not (is_some o)) e' ∙ or_true (is_named_to x.layout k)
+  pub named_here : (j : ℕ) → size_at x.layout j ≡ None → is_named_to x.layout j ≡ true
+  named_here zero e = ap (λ o. not (is_some o)) e
+  named_here (suc j) e = ap (λ o. is_named_to x.layout j || not (is_some o)) e ∙ or_true (is_named_to x.layout j)
 
   -- the field that says them is an integer
   pub sizer_is : is_some x.layout.type_number ≡ true → is_named_to x.layout x.layout.last ≡ true → IsNumber (x.layout.field x.layout.sizer) × (n : ℕ) × (size_at x.layout x.layout.sizer ≡ Some n) × (0 < n)
@@ -419,7 +416,7 @@ module _ (d : Description) (bytes : List ℕ) (x : Listing) (plain : IsPlain d b
               let sizer : IsField x i x.layout.sizer = (there.0, omega (arith, before, few), there.2) in
               let s = field_is x.path p i (x.layout.name x.layout.sizer) plain.short is ((laid there.2).named x.layout.sizer sizer.1) in
               let path = field_path_is i x.layout.sizer p s.0 is s.1 in
-              let valued = lower (SizeValue i) (value_node s.0) (let u = field_rank nodes.Value i x.layout.sizer sizer p s.0 is s.1 in omega (arith, u, before, at)) ((sizer, named_by j there.1 e), ap (option_map value_node) path) in
+              let valued = lower (SizeValue i) (value_node s.0) (let u = field_rank nodes.Value i x.layout.sizer sizer p s.0 is s.1 in omega (arith, u, before, at)) ((sizer, named_more j x.layout.last there.1 (named_here j e)), ap (option_map value_node) path) in
               subst (λ ns. fields.Reads met bytes d x.list t x.layout (laid there.2) p (start x i) plain.within j there.1 q was (headed lt) (place x i j) (x.says i) ns) (sym (node_next (SizeValue i) (value_node s.0) [] (ap (option_map value_node) path)))
               (fields.read_named met bytes d x.list t x.layout (laid there.2) p (start x i) plain.within j there.1 q was (headed lt) (place x i j) (x.says i) (x.layout.name x.layout.sizer) s.0 z.1 s.1 valued (omega (arith, far, room)))
 
