@@ -1,5 +1,5 @@
 -- What the rules of an element's fields say, and of the value that says the size of some; and how an element is read.
-use Rattle.std.proofs.Common.{◌≡◌, ◌∙◌, ℕ, zero, suc, ◌+◌, ◌<◌, ◌≤◌, nat_lt, nat_le, Bool, true, false, if◌then◌else◌, List, [], ◌∷◌, ◌++◌, length, Option, Some, None, Result, Ok, refl, sym, ap, arith}
+use Rattle.std.proofs.Common.{◌≡◌, ◌∙◌, ℕ, suc, ◌+◌, ◌<◌, ◌≤◌, nat_lt, nat_le, true, false, if◌then◌else◌, List, [], ◌∷◌, length, Option, Some, None, Result, Ok, refl, sym, ap, arith}
 use Rattle.std.proofs.lemmas.Bool.Decides.{nat_tests}
 use Rattle.std.specs.Prelude.{◌==◌, pos, slice_range}
 use Rattle.ksv_basics.specs.Plan.{Answer, Ask, bind, translate}
@@ -38,8 +38,8 @@ use Rattle.ksv_nodes.specs.Rule.{Rule, See, Here, head_node, value_node, end_nod
 use Rattle.ksv_rule_meaning.specs.Choosing.{choose, content_of}
 use Rattle.ksv_rule_meaning.specs.Checks.{value_checked, member_checked, checked_if}
 use Rattle.ksv_rule_meaning.specs.Ends.{place_of, end_at, end_of}
-use Rattle.ksv_rule_meaning.specs.Fields.{in_sought, in_field, member_named, field_of, kind_of}
-use Rattle.ksv_rule_meaning.specs.Heads.{leaf, content_at, chosen_at, shape_at, bytes_at, sized_leaf, object_at, part_end, is_of_bits, start_after, attribute_start, attribute_setting, member_setting, origin_of, attribute_head, attribute_at, repeated, member_at, member_head, head_at, head_of}
+use Rattle.ksv_rule_meaning.specs.Fields.{in_sought, in_field, member_named, field_of}
+use Rattle.ksv_rule_meaning.specs.Heads.{leaf, content_at, chosen_at, shape_at, bytes_at, sized_leaf, part_end, is_of_bits, start_after, attribute_start, attribute_setting, member_setting, origin_of, attribute_head, attribute_at, repeated, member_at, member_head, head_at, head_of}
 use Rattle.ksv_rule_meaning.specs.Meaning.{meaning_of, rule_of}
 use Rattle.ksv_rule_meaning.specs.Values.{value_of, value_at, leaf_value, content_value, number_value, number_in}
 use Rattle.ksv_rule_meaning.specs.Wanted.{holds, wanted, expression, integer_of, in_integer, size_of, in_size}
@@ -70,7 +70,7 @@ shape_is at origin w s f c n e z = ap (λ x. bind (choose at x) (λ y. chosen_at
 
 -- ---- what is asked first
 
-member_rule : (d : Description) (p x : Trail) (n : ℕ) → child p (steps.Name n) ≡ Some x → rule_of d (head_node x) ≡ bind (member_head d x p n) (λ h. Answer (givens.Head h))
+pub member_rule : (d : Description) (p x : Trail) (n : ℕ) → child p (steps.Name n) ≡ Some x → rule_of d (head_node x) ≡ bind (member_head d x p n) (λ h. Answer (givens.Head h))
 unfolding rule_of meaning_of head_of
 member_rule d p x n is =
     let up = part_of p x (steps.Name n) is in

@@ -2,7 +2,7 @@
 use Rattle.std.proofs.Common.{◌≡◌, ◌∙◌, ℕ, zero, suc, ◌+◌, ◌-◌, ◌<◌, ◌≤◌, nat_lt, nat_le, Bool, true, false, not, if◌then◌else◌, ◌||◌, List, [], ◌∷◌, length, Option, Some, None, refl, sym, ap, subst, arith}
 use Rattle.std.proofs.lemmas.Bool.Decides.{nat_tests}
 use Rattle.std.specs.List.{list_any}
-use Rattle.std.specs.Prelude.{is_some, unwrap_or}
+use Rattle.std.specs.Prelude.{is_some}
 use Rattle.ksv_bytes.specs.Uses.{is_use_touched}
 use Rattle.ksv_bytes.specs.declared.uses.Change.{Change}
 use Rattle.ksv_bytes.specs.declared.uses.Change.TheVariants.{Overwrite, Insert, Delete, Append}
@@ -13,12 +13,11 @@ use Rattle.ksv_memo_rules.specs.Slots.{with_first}
 use Rattle.ksv_nodes.specs.Reading.{end_in}
 use Rattle.ksv_nodes.specs.Rule.{head_node}
 use Rattle.ksv_nodes.specs.declared.node.Node.{Node}
-use Rattle.ksv_rule_meaning.specs.Heads.{is_past}
 use Rattle.ksv_rule_meaning.specs.Kept.{is_touched}
 use Rattle.ksv_list_laws.specs.Lists.{size_at, is_named_to}
-use Rattle.ksv_list_laws.specs.Nodes.{Listing, start, place, Which, ElementHead, ElementEnd, Rest, FieldHead, FieldEnd, SizeValue, node_at, nodes_of, stream_uses, end_uses, is_last, prior_end, size_asked, last_asked, later_asked, asked_by, element_uses, uses_at, prior_guard, field_guard, guard_of, stream_reach, end_reach, prior_reach, element_reach, reach_of, IsPlain, IsField, IsThere}
+use Rattle.ksv_list_laws.specs.Nodes.{Listing, start, place, Which, ElementHead, ElementEnd, Rest, FieldHead, FieldEnd, SizeValue, node_at, nodes_of, end_uses, is_last, size_asked, last_asked, later_asked, asked_by, element_uses, uses_at, prior_guard, field_guard, guard_of, stream_reach, end_reach, prior_reach, element_reach, reach_of, IsPlain, IsField, IsThere}
 use Rattle.ksv_list_laws.specs.Laws.{guard_node, GuardsTell}
-use Rattle.ksv_list_laws.proofs.Places.{field_low, first_some}
+use Rattle.ksv_list_laws.proofs.Places.{first_some}
 use Rattle.ksv_list_laws.proofs.Plain.{IsElementOf, IsRead}
 use Rattle.ksv_list_laws.proofs.Telling.{first_size, start_less, field_room, named_more, named_here, sizer_low, read, tells, node_is}
 use Rattle.ksv_list_laws.proofs.Trees.{touched_is}

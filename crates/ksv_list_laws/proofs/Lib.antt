@@ -10,3 +10,4 @@ pub mod Telling
 pub mod Trees
 pub mod Entries
 pub mod Guards
+pub mod Examples

@@ -1,5 +1,5 @@
 -- Paths of elements and of their fields.
-use Rattle.std.proofs.Common.{◌≡◌, ◌∙◌, ℕ, ◌<◌, ◌^◌, true, ◌∷◌, length, Option, Some, None, refl, sym, ap, arith}
+use Rattle.std.proofs.Common.{◌≡◌, ℕ, ◌<◌, ◌^◌, true, ◌∷◌, length, Option, Some, None, refl, sym, ap, arith}
 use Rattle.std.proofs.lemmas.Bool.Decides.{nat_tests}
 use Rattle.std.specs.Prelude.{option_map, option_and_then}
 use Rattle.ksv_expr_value.specs.Trail.{Trail, child, parent, last, element_limit, all_but_last, first_step, same_trail, step_fits, fits, fits-more, trail_of-steps, trail_of-true}

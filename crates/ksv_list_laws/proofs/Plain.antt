@@ -1,19 +1,17 @@
 -- What the test of a plain list says: how its elements are read, and their fields.
-use Rattle.std.proofs.Common.{◌≡◌, ◌∙◌, ℕ, zero, suc, ◌+◌, ◌-◌, ◌<◌, ◌≤◌, ◌^◌, nat_lt, ◌==◌, Bool, true, false, not, ◌&&◌, if◌then◌else◌, List, [], ◌∷◌, length, Option, Some, None, inl, inr, refl, sym, ap, subst, arith}
+use Rattle.std.proofs.Common.{◌≡◌, ◌∙◌, ℕ, zero, suc, ◌+◌, ◌<◌, ◌≤◌, ◌^◌, nat_lt, ◌==◌, Bool, true, false, not, ◌&&◌, if◌then◌else◌, List, [], ◌∷◌, Option, Some, None, inl, inr, refl, sym, ap, subst, arith}
 use Rattle.std.proofs.lemmas.Bool.Decides.{nat_tests}
 use Rattle.std.proofs.lemmas.Bool.{cases_lt}
 use Rattle.std.specs.Cmp.{first_so, second_so}
 use Rattle.std.specs.Prelude.{is_some, unwrap_or, slice_get, option_and_then}
-use Rattle.std.specs.Option.{option_map_or}
-use Rattle.ksv_basics.specs.Plan.{Answer, bind}
+use Rattle.ksv_basics.specs.Plan.{Answer}
 use Rattle.ksv_expr_tree.specs.Tree.{Arguments, Word, named}
-use Rattle.ksv_expr_tree.specs.Tree as trees
 use Rattle.ksv_desc.specs.Description.{Description, MemberOfType, MemberKind, Parameter, Attribute, ParseInstance, ValueInstance, Field, Content, Choice, Always, Switch, Extent, Sized, SizeEos, ByItself, Repeat, Once, Eos, Expr, Until, field_in, field_at}
 use Rattle.ksv_desc.specs.Description as contents
 use Rattle.ksv_desc.specs.declared.order.ByteOrder.{ByteOrder}
 use Rattle.ksv_nodes.specs.declared.given.List as lists
 use Rattle.ksv_rule_meaning.specs.Fields.{Sought, members_of, behind, sought, is_attribute, last_attribute, in_field, field_of, in_kind, kind_of}
-use Rattle.ksv_list_laws.specs.Lists.{Layout, content_size, choice_size, extent_name, size_name, is_integer, size_at, before, whole, found, found_field, no_field, layout_of, same_name, is_once, is_sized, is_alone, is_in_order, is_plain_field, all_to, is_plain_type, repeats, object_layout, whole_layout, content_layout, field_layout, list_layout}
+use Rattle.ksv_list_laws.specs.Lists.{Layout, content_size, choice_size, extent_name, size_name, is_integer, size_at, before, whole, found, no_field, layout_of, same_name, is_once, is_sized, is_alone, is_in_order, is_plain_field, all_to, is_plain_type, repeats, object_layout, whole_layout, content_layout, field_layout, list_layout}
 use Rattle.ksv_list_laws.specs.Nodes.{sought_at}
 
 -- ---- what there is to know of fields

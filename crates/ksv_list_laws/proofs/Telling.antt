@@ -1,17 +1,14 @@
 -- The nodes of a plain list are a chain.
-use Rattle.std.proofs.Common.{◌≡◌, ◌∙◌, ℕ, zero, suc, ◌+◌, ◌-◌, ◌*◌, ◌==◌, ◌<◌, ◌≤◌, nat_le, Bool, true, false, not, if◌then◌else◌, ◌||◌, List, [], ◌∷◌, ◌++◌, length, Option, Some, None, Result, Ok, ◌⊎◌, inl, inr, refl, sym, ap, subst, arith}
+use Rattle.std.proofs.Common.{◌≡◌, ◌∙◌, ℕ, zero, suc, ◌+◌, ◌-◌, ◌*◌, ◌<◌, ◌≤◌, nat_le, Bool, true, false, not, if◌then◌else◌, ◌||◌, List, [], ◌∷◌, length, Option, Some, None, Result, Ok, ◌⊎◌, inl, inr, refl, sym, ap, subst, arith}
 use Rattle.std.proofs.lemmas.Bool.Decides.{nat_tests}
 use Rattle.std.proofs.lemmas.Bool.{cases_lt}
-use Rattle.std.specs.Prelude.{is_some, option_map, option_and_then, unwrap_or, slice_range, pos}
+use Rattle.std.specs.Prelude.{is_some, option_map, option_and_then, unwrap_or}
 use Rattle.ksv_basics.specs.Plan.{Answer, bind}
-use Rattle.ksv_bytes.specs.declared.uses.Use.{Use}
-use Rattle.ksv_bytes.specs.declared.uses.Use.TheVariants as uses_are
 use Rattle.ksv_expr_value.proofs.Places.{byte_of_byte}
-use Rattle.ksv_expr_value.specs.Places.{Place, at_byte, aligned}
+use Rattle.ksv_expr_value.specs.Places.{at_byte, aligned}
 use Rattle.ksv_expr_value.specs.Trail.{Trail, child, parent, trail_of-steps}
 use Rattle.ksv_expr_value.specs.declared.step.Step.{Step}
 use Rattle.ksv_expr_value.specs.declared.step.Step.TheVariants as steps
-use Rattle.ksv_expr_value.specs.declared.value.Value.TheVariants as values
 use Rattle.ksv_desc.specs.Description.{Description, Field, Content, Choice, Always}
 use Rattle.ksv_desc.specs.Description as contents
 use Rattle.ksv_memo_rules.specs.Slots.{with_first}
@@ -25,21 +22,19 @@ use Rattle.ksv_nodes.specs.declared.given.Head.{Head}
 use Rattle.ksv_nodes.specs.declared.given.Head.TheVariants as heads
 use Rattle.ksv_nodes.specs.declared.given.List as lists
 use Rattle.ksv_nodes.specs.Reading.{end_in}
-use Rattle.ksv_nodes.specs.Rule.{Rule, head_node, value_node, end_node, rest_node, in_path, ask_head, ask_end}
+use Rattle.ksv_nodes.specs.Rule.{head_node, value_node, end_node, rest_node, in_path, ask_end}
 use Rattle.ksv_rule_meaning.specs.Choosing.{choose}
 use Rattle.ksv_rule_meaning.specs.Ends.{start_of, place_of, rest_from, element_end, object_end, fields_end}
-use Rattle.ksv_rule_meaning.specs.Fields.{field_of}
-use Rattle.ksv_rule_meaning.specs.FromNothing.{from_nothing}
 use Rattle.ksv_rule_meaning.specs.Heads.{is_past, is_of_bits, part_end, shape_at, content_at, chosen_at, object_at, element_setting, leaf}
 use Rattle.ksv_rule_meaning.specs.Meaning.{rule_of}
 use Rattle.ksv_list_laws.specs.Lists.{Layout, size_at, is_named_to, content_size, choice_size}
 use Rattle.ksv_list_laws.specs.Lists as layouts
-use Rattle.ksv_list_laws.specs.Nodes.{Listing, start, place, field_start, Which, ElementHead, ElementEnd, Rest, FieldHead, FieldEnd, SizeValue, element_path, field_path, node_at, nodes_of, object_from, element_from, is_last_at, is_last, end_uses, answer_at, prior_end, size_asked, last_asked, later_asked, asked_by, element_uses, uses_at, IsWhole, IsPlain, IsField, IsThere}
+use Rattle.ksv_list_laws.specs.Nodes.{Listing, start, place, field_start, Which, ElementHead, ElementEnd, Rest, FieldHead, FieldEnd, SizeValue, element_path, field_path, node_at, nodes_of, object_from, element_from, is_last_at, is_last, answer_at, size_asked, last_asked, later_asked, asked_by, element_uses, uses_at, IsPlain, IsField, IsThere}
 use Rattle.ksv_list_laws.specs.Laws.{Tells, NodesArePaths, NodesTell}
 use Rattle.ksv_list_laws.proofs.Chains.{AsksFirst, Chain, IsPart, IsChain, chain_tells}
 use Rattle.ksv_list_laws.proofs.Fields as fields
-use Rattle.ksv_list_laws.proofs.Paths.{part_of, element_is, field_is, mapped, then_is}
-use Rattle.ksv_list_laws.proofs.Places.{field_low, first_some, turns, turns_low, place_is, width, element_rank, kind_rank, rank, rank_element, rank_field}
+use Rattle.ksv_list_laws.proofs.Paths.{element_is, field_is, mapped, then_is}
+use Rattle.ksv_list_laws.proofs.Places.{field_low, first_some, turns, turns_low, place_is, width, kind_rank, rank, rank_element, rank_field}
 use Rattle.ksv_list_laws.proofs.Plain.{IsNumber, IsLaidOut, IsSized, IsElementOf, IsRead, is_read}
 use Rattle.ksv_list_laws.proofs.Rules as rules
 use Rattle.ksv_list_laws.proofs.Says.{Says, says_answer, says_given, says_by}

@@ -2,3 +2,4 @@
 pub mod Lists
 pub mod Nodes
 pub mod Laws
+pub mod Examples

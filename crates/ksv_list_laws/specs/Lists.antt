@@ -1,6 +1,6 @@
 -- What a list may be: plain lists. Such a list goes on to the end of its stream, or has a count. All its elements take the same bytes, or they
 -- are objects of one type that end with their fields; each field takes always the same bytes, or is bytes whose size one earlier field says.
-use Rattle.std.specs.Prelude.{ℕ, zero, suc, ◌+◌, ◌-◌, ◌^◌, ◌==◌, nat_lt, Bool, true, false, not, ◌&&◌, ◌||◌, if◌then◌else◌, List, [], length, Option, Some, None, is_some, unwrap_or, slice_get}
+use Rattle.std.specs.Prelude.{ℕ, zero, suc, ◌-◌, ◌^◌, ◌==◌, nat_lt, Bool, true, false, not, ◌&&◌, ◌||◌, if◌then◌else◌, length, Option, Some, None, is_some, unwrap_or, slice_get}
 use Rattle.ksv_expr_tree.specs.Tree.{named}
 use Rattle.ksv_desc.specs.Description.{Description, Field, Attribute, Parameter, Content, Choice, Always, Switch, Extent, Sized, ByItself, Repeat, Once, Eos, Expr, field_at, field_in, fields}
 use Rattle.ksv_desc.specs.Description as contents

@@ -1,5 +1,6 @@
 //! The laws, each a contract of a function that does nothing.
 
+ghost use Rattle.ksv_list_laws.specs.Examples.{NumbersArePlain, CountedArePlain, ItemsArePlain, ItemsAreNamed};
 ghost use Rattle.ksv_list_laws.specs.Laws.{NodesArePaths, NodesTell, GuardsTell, TreesAreAsked, EntriesAreRight};
 
 /// Each node.
@@ -21,4 +22,12 @@ pub fn trees_are_asked()
 /// Entries.
 pub fn entries_are_right()
     ensures { EntriesAreRight }
+{}
+
+/// Examples.
+pub fn examples_are_plain()
+    ensures numbers { NumbersArePlain }
+    ensures counted { CountedArePlain }
+    ensures items { ItemsArePlain }
+    ensures named { ItemsAreNamed }
 {}

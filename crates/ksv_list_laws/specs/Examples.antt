@@ -1,0 +1,88 @@
+-- Three plain lists, each the only attribute of a file: three integers of a byte to the file's end, the same by a count, and two items, each
+-- a byte and then as many bytes as it says.
+use Rattle.std.specs.Prelude.{◌≡◌, ℕ, zero, suc, ◌-◌, Bool, true, false, List, [], ◌∷◌, Option, Some, None}
+use Rattle.ksv_expr_tree.specs.Tree.{Constant, integer, literal, named, no_arguments}
+use Rattle.ksv_expr_value.specs.Places.{at_byte}
+use Rattle.ksv_expr_value.specs.Trail.{Trail, root, child}
+use Rattle.ksv_expr_value.specs.declared.step.Step.TheVariants as steps
+use Rattle.ksv_desc.specs.Description.{Description, MemberOfType, Field, Attribute, Content, Always, Repeat, Once, Eos, Expr, Extent, Sized, ByItself}
+use Rattle.ksv_desc.specs.Description as contents
+use Rattle.ksv_desc.specs.declared.order.ByteOrder.TheVariants.{Big}
+use Rattle.ksv_nodes.specs.declared.given.List as lists
+use Rattle.ksv_rule_meaning.specs.Wanted.{whole}
+use Rattle.ksv_list_laws.specs.Lists.{Layout, is_named_to, layout_of}
+use Rattle.ksv_list_laws.specs.Lists as layouts
+use Rattle.ksv_list_laws.specs.Nodes.{Listing, is_last, IsPlain}
+
+-- ---- descriptions
+
+-- the members of a type have the names 0, 1, .. of the file, in its order
+abbrev pub field : Repeat → Content → Extent → Field
+field repeat c extent = record { condition = None; repeat = repeat; choice = Always c; extent = extent; terminator = None; valid = None }
+
+abbrev pub attribute : ℕ → Field → MemberOfType
+attribute name f = record { name = name; kind = Attribute f }
+
+-- one byte
+abbrev pub byte : Content
+byte = contents.Number false 1 Big None
+
+-- the file is a list; its elements are of the second type where they are objects
+abbrev pub of_list : Field → Description
+of_list f = record {
+  types = record { id = []; members = attribute 0 f ∷ [] }
+      ∷ record { id = []; members = attribute 1 (field Once byte ByItself) ∷ attribute 2 (field Once contents.Bytes (Sized (named (record { text = []; number = Some 1 })))) ∷ [] } ∷ [];
+  enums = [];
+  names = [] ∷ [] ∷ [] ∷ [];
+  known = 3;
+}
+
+abbrev pub numbers : Field
+numbers = field Eos byte ByItself
+
+abbrev pub three : Field
+three = field (Expr (literal (integer 3))) byte ByItself
+
+abbrev pub items : Field
+items = field Eos (contents.Object 1 no_arguments) ByItself
+
+-- ---- files, and the lists in them
+
+abbrev pub of_three : List ℕ
+of_three = 7 ∷ 8 ∷ 9 ∷ []
+
+abbrev pub of_two : List ℕ
+of_two = 1 ∷ 7 ∷ 2 ∷ 8 ∷ 9 ∷ []
+
+abbrev pub says : ℕ → ℕ
+says zero = 1
+says (suc i) = 2
+
+-- the list at a path, from the file's first byte on, by a count or to the file's end
+abbrev pub listing : Trail → Option ℕ → Layout → ℕ → Listing
+listing l count y n = record {
+  path = l;
+  list = record { origin = record { member = record { type_number = 0; member = 0 }; case = None; home = whole }; stream = whole; start = at_byte 0; count = count; is_empty = false };
+  layout = y;
+  first = 0;
+  count = n;
+  says = says;
+}
+
+-- such a list is plain, and it has these elements
+pub record IsListOf (f : Field) (bytes : List ℕ) (x : Listing) : Type 0 where
+  pub plain : IsPlain (of_list f) bytes x
+  pub full : is_last bytes x (x.count - 1) ≡ true
+
+abbrev pub NumbersArePlain : Type 0
+NumbersArePlain = (l : Trail) → child root (steps.Name 0) ≡ Some l → IsListOf numbers of_three (listing l None (layouts.whole numbers) 3)
+
+abbrev pub CountedArePlain : Type 0
+CountedArePlain = (l : Trail) → child root (steps.Name 0) ≡ Some l → IsListOf three of_three (listing l (Some 3) (layouts.whole three) 3)
+
+-- the first of an item's fields says the size of the other
+abbrev pub ItemsArePlain : Type 0
+ItemsArePlain = (l : Trail) → child root (steps.Name 0) ≡ Some l → IsListOf items of_two (listing l None (layout_of (of_list items) 1) 2)
+
+abbrev pub ItemsAreNamed : Type 0
+ItemsAreNamed = is_named_to (layout_of (of_list items) 1) 1 ≡ true
