@@ -47,6 +47,10 @@ module _ (met : Node → Result Given NodeFault) (here : Trail) (bytes : List �
   pub says_by : {A : Type 0} (p q : Rule A) (a : A) (ns : List Node) (us : List Use) → p ≡ q → Says q a ns us → Says p a ns us
   says_by p q a ns us e s = subst (λ x. Says x a ns us) (sym e) s
 
+  -- what it asks, said otherwise
+  pub says_asking : {A : Type 0} (p : Rule A) (a : A) (ms ns : List Node) (us : List Use) → ms ≡ ns → Says p a ns us → Says p a ms us
+  says_asking p a ms ns us e s = record { answer = s.answer; asked = s.asked ∙ sym e; used = s.used }
+
 -- ---- readings
 
 pub reaches : (bytes : List ℕ) (w : Stream) (t : ℕ) → end_in bytes w.to ≤ length bytes → t ≤ end_in bytes w.to → look (Reach w t) bytes ≡ gives tt (uses_are.Reach t ∷ [])

@@ -37,7 +37,7 @@ use Rattle.ksv_list_laws.proofs.Paths.{element_is, field_is, mapped, then_is}
 use Rattle.ksv_list_laws.proofs.Places.{field_low, first_some, turns, turns_low, place_is, width, kind_rank, rank, rank_element, rank_field}
 use Rattle.ksv_list_laws.proofs.Plain.{IsNumber, IsLaidOut, IsSized, IsElementOf, IsRead, is_read}
 use Rattle.ksv_list_laws.proofs.Rules as rules
-use Rattle.ksv_list_laws.proofs.Says.{Says, says_answer, says_given, says_by}
+use Rattle.ksv_list_laws.proofs.Says.{Says, says_answer, says_given, says_by, says_asking}
 
 -- ---- kinds and lengths
 
@@ -64,15 +64,6 @@ fixed_no_bits (contents.Bits width enum) n e = absurd (cc)
 fixed_no_bits _ n e = refl
 
 module _ (d : Description) (bytes : List ℕ) (x : Listing) (plain : IsPlain d bytes x) where
-  abbrev y : Layout
-  y = x.layout
-
-  abbrev g : lists.List
-  g = x.list
-
-  abbrev l : Trail
-  l = x.path
-
   abbrev t : ℕ
   t = unwrap_or x.layout.type_number 0
 
@@ -116,15 +107,22 @@ module _ (d : Description) (bytes : List ℕ) (x : Listing) (plain : IsPlain d b
 
   -- ---- paths
 
-  pub path_of : (i : ℕ) → i < x.count → (p : Trail) × (child x.path (steps.Index i) ≡ Some p)
+  -- the path of an element, and of a field of the object at a path
+  abbrev At : ℕ → Trail → Type 0
+  At i p = child x.path (steps.Index i) ≡ Some p
+
+  abbrev Below : Trail → ℕ → Trail → Type 0
+  Below p j q = child p (steps.Name (x.layout.name j)) ≡ Some q
+
+  pub path_of : (i : ℕ) → i < x.count → (p : Trail) × (At i p)
   path_of i low = element_is x.path i plain.short (let few = plain.few in omega (arith, low, few))
 
-  pub below : (i j : ℕ) → IsField x i j → (p : Trail) × (q : Trail) × (child x.path (steps.Index i) ≡ Some p) × (child p (steps.Name (x.layout.name j)) ≡ Some q)
+  pub below : (i j : ℕ) → IsField x i j → (p : Trail) × (q : Trail) × (At i p) × (Below p j q)
   below i j there =
       let p = path_of i there.0 in
       let q = field_is x.path p.0 i (x.layout.name j) plain.short p.1 ((laid there.2).named j there.1) in (p.0, q.0, p.1, q.1)
 
-  field_path_is : (i j : ℕ) (p q : Trail) → child x.path (steps.Index i) ≡ Some p → child p (steps.Name (x.layout.name j)) ≡ Some q → field_path x i j ≡ Some q
+  field_path_is : (i j : ℕ) (p q : Trail) → At i p → Below p j q → field_path x i j ≡ Some q
   field_path_is i j p q is was = ap (λ o. option_and_then (λ r. child r (steps.Name (x.layout.name j))) o) is ∙ was
 
   -- ---- the chain
@@ -152,16 +150,16 @@ module _ (d : Description) (bytes : List ℕ) (x : Listing) (plain : IsPlain d b
   place_at j low some = place_is x.layout.name x.layout.last j low (λ i few same. (laid some).distinct i j few low same)
 
   -- the ranks of an element's own nodes, and of its fields'
-  head_rank : (i : ℕ) (p : Trail) → child x.path (steps.Index i) ≡ Some p → rank x (head_node p) ≡ turns (width x) i
+  head_rank : (i : ℕ) (p : Trail) → At i p → rank x (head_node p) ≡ turns (width x) i
   head_rank i p is = rank_element x nodes.Head x.path p i is
 
-  end_rank : (i : ℕ) (p : Trail) → child x.path (steps.Index i) ≡ Some p → rank x (end_node p) ≡ turns (width x) i + 3 * x.layout.last + 4
+  end_rank : (i : ℕ) (p : Trail) → At i p → rank x (end_node p) ≡ turns (width x) i + 3 * x.layout.last + 4
   end_rank i p is = rank_element x nodes.End x.path p i is
 
-  rest_rank : (i : ℕ) (p : Trail) → child x.path (steps.Index i) ≡ Some p → rank x (rest_node p) ≡ turns (width x) x.count + (x.count - i)
+  rest_rank : (i : ℕ) (p : Trail) → At i p → rank x (rest_node p) ≡ turns (width x) x.count + (x.count - i)
   rest_rank i p is = rank_element x nodes.Rest x.path p i is
 
-  field_rank : (k : NodeKind) (i j : ℕ) → IsField x i j → (p q : Trail) → child x.path (steps.Index i) ≡ Some p → child p (steps.Name (x.layout.name j)) ≡ Some q
+  field_rank : (k : NodeKind) (i j : ℕ) → IsField x i j → (p q : Trail) → At i p → Below p j q
       → rank x (record { kind = k; path = q }) ≡ turns (width x) i + 3 * j + kind_rank k
   field_rank k i j there p q is was = rank_field x k x.path p q i j is was (place_at j there.1 there.2)
 
@@ -195,7 +193,7 @@ module _ (d : Description) (bytes : List ℕ) (x : Listing) (plain : IsPlain d b
 
   -- the paths of a field that is there
   abbrev FieldPaths : ℕ → ℕ → (Trail → Node) → Node → Type 0
-  FieldPaths i j f m = (p : Trail) × (q : Trail) × (child x.path (steps.Index i) ≡ Some p) × (child p (steps.Name (x.layout.name j)) ≡ Some q) × (f q ≡ m)
+  FieldPaths i j f m = (p : Trail) × (q : Trail) × (At i p) × (Below p j q) × (f q ≡ m)
 
   field_paths : (i j : ℕ) (f : Trail → Node) (m : Node) → option_map f (field_path x i j) ≡ Some m → FieldPaths i j f m
   field_paths i j f m h =
@@ -276,13 +274,16 @@ module _ (d : Description) (bytes : List ℕ) (x : Listing) (plain : IsPlain d b
 
   module _ (r : ℕ) (met : Node → Result Given NodeFault) (listed : met (head_node x.path) ≡ Ok (givens.Head (heads.List x.list)))
       (lower : (k : Which) (m : Node) → rank x m < r → Is k m → met m ≡ Ok (answer_at bytes x k)) where
-    head_heard : (i : ℕ) (p : Trail) → i < x.count → child x.path (steps.Index i) ≡ Some p → turns (width x) i < r → met (head_node p) ≡ Ok (answer_at bytes x (ElementHead i))
+    abbrev Said : Which → Node → Type 0
+    Said k m = Says met m.path bytes (rule_of d m) (answer_at bytes x k) (nodes_of x (asked_by x k)) (uses_at bytes x k)
+
+    head_heard : (i : ℕ) (p : Trail) → i < x.count → At i p → turns (width x) i < r → met (head_node p) ≡ Ok (answer_at bytes x (ElementHead i))
     head_heard i p low is lt = lower (ElementHead i) (head_node p) (let e = head_rank i p is in omega (arith, e, lt)) (low, ap (option_map head_node) is)
 
-    end_heard : (i : ℕ) (p : Trail) → i < x.count → child x.path (steps.Index i) ≡ Some p → turns (width x) i + 3 * x.layout.last + 4 < r → met (end_node p) ≡ Ok (answer_at bytes x (ElementEnd i))
+    end_heard : (i : ℕ) (p : Trail) → i < x.count → At i p → turns (width x) i + 3 * x.layout.last + 4 < r → met (end_node p) ≡ Ok (answer_at bytes x (ElementEnd i))
     end_heard i p low is lt = lower (ElementEnd i) (end_node p) (let e = end_rank i p is in omega (arith, e, lt)) (low, ap (option_map end_node) is)
 
-    field_end_heard : (i j : ℕ) (p q : Trail) → IsField x i j → child x.path (steps.Index i) ≡ Some p → child p (steps.Name (x.layout.name j)) ≡ Some q → turns (width x) i + 3 * j + 2 < r
+    field_end_heard : (i j : ℕ) (p q : Trail) → IsField x i j → At i p → Below p j q → turns (width x) i + 3 * j + 2 < r
         → met (end_node q) ≡ Ok (answer_at bytes x (FieldEnd i j))
     field_end_heard i j p q there is was lt = lower (FieldEnd i j) (end_node q) (let e = field_rank nodes.End i j there p q is was in omega (arith, e, lt)) (there, ap (option_map end_node) (field_path_is i j p q is was))
 
@@ -312,23 +313,22 @@ module _ (d : Description) (bytes : List ℕ) (x : Listing) (plain : IsPlain d b
             ∙ ap (λ z. bind z (λ h. Answer (givens.Head h))) (fields.shape_is at x.list.origin x.list.stream (at_byte (start x i)) (IsRead.field read) e.1 e.2 e.3 e.4))
             (rules.leaf_says met p bytes (record x.list.origin { case = None }) x.list.stream (start x i) e.2 plain.within (omega (arith, far, room))))
 
-    says_head : (i : ℕ) (p : Trail) → i < x.count → child x.path (steps.Index i) ≡ Some p → r ≡ turns (width x) i
-        → Says met p bytes (rule_of d (head_node p)) (answer_at bytes x (ElementHead i)) (nodes_of x (asked_by x (ElementHead i))) (uses_at bytes x (ElementHead i))
+    says_head : (i : ℕ) (p : Trail) → i < x.count → At i p → r ≡ turns (width x) i
+        → Said (ElementHead i) (head_node p)
     says_head zero p low is at = rules.first_head met bytes d x.list x.path p listed x.first _ _ is plain.filled (plain.whole 0 low).counted plain.begins (read_says 0 p low)
     says_head (suc i) p low is at =
         let few : i < x.count = omega (arith, low) in
         let q = path_of i few in
         let ended = end_heard i q.0 few q.1 (omega (arith, at)) ∙ ap (λ b. Ok (givens.End (at_byte (start x (suc i))) b)) (not_last i low) in
-        subst (λ ns. Says met p bytes (rule_of d (head_node p)) (answer_at bytes x (ElementHead (suc i))) ns (uses_at bytes x (ElementHead (suc i))))
-        (ap (λ ns. head_node x.path ∷ ns) (sym (node_next (ElementEnd i) (end_node q.0) [] (ap (option_map end_node) q.1))))
+        says_asking met p bytes _ _ _ _ _ (ap (λ ns. head_node x.path ∷ ns) (node_next (ElementEnd i) (end_node q.0) [] (ap (option_map end_node) q.1)))
         (rules.next_head met bytes d x.list x.path p listed i (start x (suc i)) q.0 _ _ is q.1 plain.filled (plain.whole (suc i) low).counted ended (read_says (suc i) p low))
 
-    says_end : (i : ℕ) (p : Trail) → i < x.count → child x.path (steps.Index i) ≡ Some p → r ≡ turns (width x) i + 3 * x.layout.last + 4
-        → Says met p bytes (rule_of d (end_node p)) (answer_at bytes x (ElementEnd i)) (nodes_of x (asked_by x (ElementEnd i))) (uses_at bytes x (ElementEnd i))
+    says_end : (i : ℕ) (p : Trail) → i < x.count → At i p → r ≡ turns (width x) i + 3 * x.layout.last + 4
+        → Said (ElementEnd i) (end_node p)
     unfolding place_of object_end fields_end part_end bind
     says_end i p low is at =
         says_by met p bytes _ _ _ _ _ (rules.end_rule d x.path p i is)
-        (subst (λ ns. Says met p bytes (rules.ending d x.path p i) (answer_at bytes x (ElementEnd i)) ns (uses_at bytes x (ElementEnd i))) (sym (node_next (ElementHead i) (head_node p) _ (ap (option_map head_node) is)))
+        (says_asking met p bytes _ _ _ _ _ (node_next (ElementHead i) (head_node p) _ (ap (option_map head_node) is))
         (by x.layout.type_number refl (IsRead.element read) (head_heard i p low is (omega (arith, at)))))
       where
         closes : (h : Head) → start_of h ≡ at_byte (start x i) → Says met p bytes (rules.as_end (element_end d p x.path (parent x.path) i h (at_byte (start x (suc i))))) (answer_at bytes x (ElementEnd i)) (head_node x.path ∷ []) (uses_at bytes x (ElementEnd i))
@@ -343,10 +343,9 @@ module _ (d : Description) (bytes : List ℕ) (x : Listing) (plain : IsPlain d b
         by (Some k) same e headed =
             let there : IsField x i x.layout.last = (low, omega arith, has_fields k same) in
             let q = below i x.layout.last there in
-            let one : child p (steps.Name (x.layout.name x.layout.last)) ≡ Some q.1 = ap (λ o. option_and_then (λ z. child z (steps.Name (x.layout.name x.layout.last))) o) (sym is) ∙ field_path_is i x.layout.last q.0 q.1 q.2 q.3 in
+            let one : Below p x.layout.last q.1 = ap (λ o. option_and_then (λ z. child z (steps.Name (x.layout.name x.layout.last))) o) (sym is) ∙ field_path_is i x.layout.last q.0 q.1 q.2 q.3 in
             let h : Head = heads.Object (object_from x.list k (start x i)) in
-            subst (λ ns. Says met p bytes (rules.ending d x.path p i) (answer_at bytes x (ElementEnd i)) (head_node p ∷ ns) (uses_at bytes x (ElementEnd i)))
-            (sym (node_next (FieldEnd i x.layout.last) (end_node q.1) (None ∷ []) (ap (option_map end_node) (field_path_is i x.layout.last p q.1 is one))))
+            says_asking met p bytes _ _ _ _ _ (ap (λ ns. head_node p ∷ ns) (node_next (FieldEnd i x.layout.last) (end_node q.1) (None ∷ []) (ap (option_map end_node) (field_path_is i x.layout.last p q.1 is one))))
             (says_given met p bytes (head_node p) _ (givens.Head h) _ (end_node q.1 ∷ head_node x.path ∷ []) _ headed
             (says_by met p bytes _ _ _ (end_node q.1 ∷ head_node x.path ∷ []) _
             (ap (λ v. rules.as_end (bind (fields_end p (at_byte (start x i)) v) (λ z. element_end d p x.path (parent x.path) i h z))) e.3.ends
@@ -356,12 +355,12 @@ module _ (d : Description) (bytes : List ℕ) (x : Listing) (plain : IsPlain d b
 
     -- ---- rests
 
-    says_behind : (i : ℕ) (p : Trail) → IsThere bytes x (Rest i) → child x.path (steps.Index i) ≡ Some p → r ≡ turns (width x) x.count + (x.count - i)
+    says_behind : (i : ℕ) (p : Trail) → IsThere bytes x (Rest i) → At i p → r ≡ turns (width x) x.count + (x.count - i)
         → Says met p bytes (rules.as_rest (rest_from p x.path i)) (answer_at bytes x (Rest i)) (nodes_of x (Some (ElementEnd i) ∷ later_asked x.count i)) []
     says_behind i p there is at =
         let low = there.0 in
         let lt : turns (width x) i + 3 * x.layout.last + 4 < r = (let e = turns_low (width x) i x.count low in omega (arith, e, at)) in
-        subst (λ ns. Says met p bytes (rules.as_rest (rest_from p x.path i)) (answer_at bytes x (Rest i)) ns []) (sym (node_next (ElementEnd i) (end_node p) _ (ap (option_map end_node) is)))
+        says_asking met p bytes _ _ _ _ _ (node_next (ElementEnd i) (end_node p) _ (ap (option_map end_node) is))
         (by (nat_le x.count (suc i)) refl (end_heard i p low is lt))
       where
         by : (b : Bool) → nat_le x.count (suc i) ≡ b → met (end_node p) ≡ Ok (answer_at bytes x (ElementEnd i))
@@ -377,18 +376,18 @@ module _ (d : Description) (bytes : List ℕ) (x : Listing) (plain : IsPlain d b
             let q = path_of (suc i) more in
             let most = plain.few in
             let beneath : rank x (rest_node q.0) < r = (let z = rest_rank (suc i) q.0 q.1 in omega (arith, z, at, more)) in
-            subst (λ ns. Says met p bytes (rules.as_rest (rest_from p x.path i)) (answer_at bytes x (Rest i)) (end_node p ∷ ns) []) (sym (node_next (Rest (suc i)) (rest_node q.0) [] (ap (option_map rest_node) q.1)))
+            says_asking met p bytes _ _ _ _ _ (ap (λ ns. end_node p ∷ ns) (node_next (Rest (suc i)) (rest_node q.0) [] (ap (option_map rest_node) q.1)))
             (rules.more_rest met bytes d x.list x.path p listed i (at_byte (start x (suc i))) q.0 q.1 (omega (arith, more, most)) (ended ∙ ap (λ b. Ok (givens.End (at_byte (start x (suc i))) b)) (not_last i more))
             x.count (at_byte (start x x.count)) (lower (Rest (suc i)) (rest_node q.0) beneath ((more, there.1), ap (option_map rest_node) q.1)))
 
-    says_rest : (i : ℕ) (p : Trail) → IsThere bytes x (Rest i) → child x.path (steps.Index i) ≡ Some p → r ≡ turns (width x) x.count + (x.count - i)
-        → Says met p bytes (rule_of d (rest_node p)) (answer_at bytes x (Rest i)) (nodes_of x (asked_by x (Rest i))) []
+    says_rest : (i : ℕ) (p : Trail) → IsThere bytes x (Rest i) → At i p → r ≡ turns (width x) x.count + (x.count - i)
+        → Said (Rest i) (rest_node p)
     says_rest zero p there is at = rules.whole_says met bytes d x.list x.path p listed _ _ is plain.filled (says_behind 0 p there is at)
     says_rest (suc i) p there is at = rules.rest_says met bytes d x.list x.path p listed i _ _ is (says_behind (suc i) p there is at)
 
     -- ---- fields
 
-    module _ (i j : ℕ) (there : IsField x i j) (p q : Trail) (is : child x.path (steps.Index i) ≡ Some p) (was : child p (steps.Name (x.layout.name j)) ≡ Some q) where
+    module _ (i j : ℕ) (there : IsField x i j) (p q : Trail) (is : At i p) (was : Below p j q) where
       headed : turns (width x) i < r → met (head_node p) ≡ Ok (givens.Head (heads.Object (object_from x.list t (start x i))))
       headed lt = head_heard i p there.0 is lt ∙ ap (λ o. Ok (element_from x.list o (start x i) (start x (suc i)))) (some_is x.layout.type_number there.2)
 
@@ -415,32 +414,31 @@ module _ (d : Description) (bytes : List ℕ) (x : Listing) (plain : IsPlain d b
               subst (λ ns. fields.Reads met bytes d x.list t x.layout (laid there.2) p (start x i) plain.within j there.1 q was (headed lt) (place x i j) (x.says i) ns) (sym (node_next (SizeValue i) (value_node s.0) [] (ap (option_map value_node) path)))
               (fields.read_named met bytes d x.list t x.layout (laid there.2) p (start x i) plain.within j there.1 q was (headed lt) (place x i j) (x.says i) (x.layout.name x.layout.sizer) s.0 z.1 s.1 valued (omega (arith, far, room)))
 
-    says_field : (i j : ℕ) (there : IsField x i j) (p q : Trail) → child x.path (steps.Index i) ≡ Some p → child p (steps.Name (x.layout.name j)) ≡ Some q → turns (width x) i + 3 * j + 1 ≡ r
-        → Says met q bytes (rule_of d (head_node q)) (answer_at bytes x (FieldHead i j)) (nodes_of x (asked_by x (FieldHead i j))) (uses_at bytes x (FieldHead i j))
+    says_field : (i j : ℕ) (there : IsField x i j) (p q : Trail) → At i p → Below p j q → turns (width x) i + 3 * j + 1 ≡ r
+        → Said (FieldHead i j) (head_node q)
     says_field i zero there p q is was at =
         let lt : turns (width x) i < r = omega (arith, at) in
-        subst (λ ns. Says met q bytes (rule_of d (head_node q)) (answer_at bytes x (FieldHead i 0)) ns (uses_at bytes x (FieldHead i 0))) (sym (node_next (ElementHead i) (head_node p) _ (ap (option_map head_node) is)))
+        says_asking met q bytes _ _ _ _ _ (node_next (ElementHead i) (head_node p) _ (ap (option_map head_node) is))
         (fields.first_part met bytes d x.list t x.layout (laid there.2) p (start x i) plain.within 0 there.1 q was (headed i 0 there p q is was lt) _ _ refl (reads i 0 there p q is was at lt))
     says_field i (suc j) there p q is was at =
         let lt : turns (width x) i < r = omega (arith, at) in
         let high = there.1 in
         let few : IsField x i j = (there.0, omega (arith, high), there.2) in
         let s = field_is x.path p i (x.layout.name j) plain.short is ((laid there.2).named j few.1) in
-        subst (λ ns. Says met q bytes (rule_of d (head_node q)) (answer_at bytes x (FieldHead i (suc j))) ns (uses_at bytes x (FieldHead i (suc j))))
-        (sym (node_next (ElementHead i) (head_node p) (Some (FieldEnd i j) ∷ size_asked i (size_at x.layout (suc j))) (ap (option_map head_node) is)
-        ∙ ap (λ ns. head_node p ∷ ns) (node_next (FieldEnd i j) (end_node s.0) (size_asked i (size_at x.layout (suc j))) (ap (option_map end_node) (field_path_is i j p s.0 is s.1)))))
+        says_asking met q bytes _ _ _ _ _ (node_next (ElementHead i) (head_node p) (Some (FieldEnd i j) ∷ size_asked i (size_at x.layout (suc j))) (ap (option_map head_node) is)
+        ∙ ap (λ ns. head_node p ∷ ns) (node_next (FieldEnd i j) (end_node s.0) (size_asked i (size_at x.layout (suc j))) (ap (option_map end_node) (field_path_is i j p s.0 is s.1))))
         (fields.next_part met bytes d x.list t x.layout (laid there.2) p (start x i) plain.within (suc j) there.1 q was (headed i (suc j) there p q is was lt) j (place x i (suc j)) _ s.0 _ refl s.1
         (field_end_heard i j p s.0 few is s.1 (omega (arith, at))) (no_bits (suc j) (size_at x.layout (suc j)) ((laid there.2).sized (suc j) there.1)) (reads i (suc j) there p q is was at lt))
 
-    says_field_end : (i j : ℕ) (there : IsField x i j) (p q : Trail) → child x.path (steps.Index i) ≡ Some p → child p (steps.Name (x.layout.name j)) ≡ Some q → turns (width x) i + 3 * j + 2 ≡ r
-        → Says met q bytes (rule_of d (end_node q)) (answer_at bytes x (FieldEnd i j)) (nodes_of x (asked_by x (FieldEnd i j))) []
+    says_field_end : (i j : ℕ) (there : IsField x i j) (p q : Trail) → At i p → Below p j q → turns (width x) i + 3 * j + 2 ≡ r
+        → Said (FieldEnd i j) (end_node q)
     says_field_end i j there p q is was at =
         let path = ap (option_map head_node) (field_path_is i j p q is was) in
-        subst (λ ns. Says met q bytes (rule_of d (end_node q)) (answer_at bytes x (FieldEnd i j)) ns []) (sym (node_next (FieldHead i j) (head_node q) [] path))
+        says_asking met q bytes _ _ _ _ _ (node_next (FieldHead i j) (head_node q) [] path)
         (fields.part_ends met bytes d x.list t x.layout (laid there.2) p (x.layout.name j) q _ was (lower (FieldHead i j) (head_node q) (let e = field_rank nodes.Head i j there p q is was in omega (arith, e, at)) (there, path)))
 
-    says_value : (i : ℕ) (there : IsThere bytes x (SizeValue i)) (p q : Trail) → child x.path (steps.Index i) ≡ Some p → child p (steps.Name (x.layout.name x.layout.sizer)) ≡ Some q → turns (width x) i + 3 * x.layout.sizer + 3 ≡ r
-        → Says met q bytes (rule_of d (value_node q)) (answer_at bytes x (SizeValue i)) (nodes_of x (asked_by x (SizeValue i))) (uses_at bytes x (SizeValue i))
+    says_value : (i : ℕ) (there : IsThere bytes x (SizeValue i)) (p q : Trail) → At i p → Below p x.layout.sizer q → turns (width x) i + 3 * x.layout.sizer + 3 ≡ r
+        → Said (SizeValue i) (value_node q)
     says_value i there p q is was at =
         let path = ap (option_map head_node) (field_path_is i x.layout.sizer p q is was) in
         let by = sizer_is there.0.2 there.1 in
@@ -449,7 +447,7 @@ module _ (d : Description) (bytes : List ℕ) (x : Listing) (plain : IsPlain d b
         let far : place x i (suc x.layout.sizer) ≡ place x i x.layout.sizer + by.1 = ap (λ o. place x i x.layout.sizer + unwrap_or o (x.says i)) size in
         let room = field_room i x.layout.sizer there.0.0 there.0.1 in
         let within = plain.within in
-        subst (λ ns. Says met q bytes (rule_of d (value_node q)) (answer_at bytes x (SizeValue i)) ns (uses_at bytes x (SizeValue i))) (sym (node_next (FieldHead i x.layout.sizer) (head_node q) [] path))
+        says_asking met q bytes _ _ _ _ _ (node_next (FieldHead i x.layout.sizer) (head_node q) [] path)
         (fields.value_says met bytes d x.list t x.layout (laid there.0.2) p (start x i) x.layout.sizer (place x i x.layout.sizer) (place x i (suc x.layout.sizer)) (x.says i) there.0.1 q by.0
         (lower (FieldHead i x.layout.sizer) (head_node q) (let e = field_rank nodes.Head i x.layout.sizer there.0 p q is was in omega (arith, e, at)) (there.0, path))
         (omega (arith, far, some)) (omega (arith, room, within)) ((plain.whole i there.0.0).says there.1))
