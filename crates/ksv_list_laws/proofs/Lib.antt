@@ -11,3 +11,4 @@ pub mod Trees
 pub mod Entries
 pub mod Guards
 pub mod Examples
+pub mod Rising

@@ -55,7 +55,7 @@ or_true : (b : Bool) → (b || true) ≡ true
 or_true true = refl
 or_true false = refl
 
-none_is : (o : Option ℕ) → not (is_some o) ≡ true → o ≡ None
+pub none_is : (o : Option ℕ) → not (is_some o) ≡ true → o ≡ None
 none_is None h = refl
 none_is (Some n) h = absurd (cc)
 
