@@ -1,5 +1,5 @@
 -- What a node tells is right for an engine to keep.
-use Rattle.std.proofs.Common.{◌≡◌, ◌≢◌, ◌∙◌, ℕ, ◌<◌, Bool, true, false, ◌||◌, List, [], ◌∷◌, length, Result, Ok, Err, refl, sym, ap, subst, arith, Contains, get_or, AllPairs}
+use Rattle.std.proofs.Common.{◌≡◌, ◌≢◌, ◌∙◌, ℕ, ◌<◌, Bool, true, false, ◌||◌, List, [], ◌∷◌, ◌++◌, length, Result, Ok, Err, refl, sym, ap, subst, arith, Contains, get_or, AllPairs}
 use Rattle.std.proofs.lemmas.List.Elements.{recursion_from_All, Contains-get_or, Contains-append_right}
 use Rattle.std.specs.List.{AllByRecursion, flat_map, list_any}
 use mathlib.Core.Path.{fun_ext}
@@ -37,7 +37,7 @@ outcome_is (Answered a) g e = by a e
     by (Err f) e' = absurd (cc)
 outcome_is (Circle c) g e = absurd (cc)
 
-turned : (a b : Bool) → (a || b) ≡ (b || a)
+pub turned : (a b : Bool) → (a || b) ≡ (b || a)
 turned true true = refl
 turned true false = refl
 turned false b = or_false b
@@ -50,35 +50,53 @@ module _ (d : Description) (bytes : List ℕ) where
   abbrev w : Standing Node (Result Given Fault)
   w = on (described d) bytes
 
-  -- where all that a node asks is kept, and it uses one thing at most
-  pub entries_stand : (kept : List Node) (n : Node) (g : Given) (ns : List Node) (us : List Use) → Tells d bytes [] n g ns us → IsSingle us → AllByRecursion (λ m. is_among node_number kept m ≡ true) ns
-      → StandsIn w kept (record { node = n; answer = Ok g; asked = ns; uses = us })
-  entries_stand kept n g ns us t single all =
-      let outcome : (tells w [] n).outcome ≡ Answered (Ok g) = outcome_is (tells w [] n).outcome g (answers_are_direct d bytes [] n ∙ t.answer) in
+  -- what an engine knows of a node that tells
+  pub record Known (n : Node) (g : Given) (ns : List Node) (us : List Use) : Type 0 where
+    pub outcome : (tells w [] n).outcome ≡ Answered (Ok g)
+    pub answered : IsAnswered (tells w [] n).outcome
+    pub asked : (tells w [] n).asked ≡ ns
+    pub used : AreSameUses (tells w [] n).uses us
+    pub whole : tree w n ≡ flat_map (tree w) ns ++ n ∷ []
+    pub own : Contains (tree w n) n
+    pub lower : AllByRecursion (λ m. length (tree w m) < length (tree w n)) ns
+
+  pub known : (n : Node) (g : Given) (ns : List Node) (us : List Use) → Tells d bytes [] n g ns us → Known n g ns us
+  known n g ns us t =
       let direct = asks_are_direct d bytes [] n (record { distinct = AreDistinct-none w; apart = refl }) in
-      let asked = direct.asked ∙ t.asked in
-      let used : AreSameUses (tells w [] n).uses us = subst (λ vs. AreSameUses (tells w [] n).uses vs) t.used direct.uses in
       let settled : IsSettled w = law_on (described d) (described_lawful d) bytes in
+      let outcome : (tells w [] n).outcome ≡ Answered (Ok g) = outcome_is (tells w [] n).outcome g (answers_are_direct d bytes [] n ∙ t.answer) in
       let answered : IsAnswered (tells w [] n).outcome = subst (λ (o : Outcome Node (Result Given Fault)). IsAnswered o) (sym outcome) tt in
-      let own : Contains (tree w n) n = subst (λ ms. Contains ms n) (sym (kept-tree w settled n answered)) (Contains-append_right (flat_map (tree w) (tells w [] n).asked) (n ∷ []) n (Contains-get_or (n ∷ []) 0 n (omega arith))) in
+      let asked = direct.asked ∙ t.asked in
+      let whole = kept-tree w settled n answered ∙ ap (λ ms. flat_map (tree w) ms ++ n ∷ []) asked in
       record {
         outcome = outcome;
-        closed = subst (AllByRecursion (λ m. is_among node_number kept m ≡ true)) (sym asked) all;
-        named = all;
+        answered = answered;
+        asked = asked;
+        used = subst (λ vs. AreSameUses (tells w [] n).uses vs) t.used direct.uses;
+        whole = whole;
+        own = subst (λ ms. Contains ms n) (sym whole) (Contains-append_right (flat_map (tree w) ns) (n ∷ []) n (Contains-get_or (n ∷ []) 0 n (omega arith)));
         lower = subst (AllByRecursion (λ m. length (tree w m) < length (tree w n))) asked (asks-lower w settled n answered);
-        touched = λ change. touch_direct d bytes change n ∙ touched_is d bytes change n g ns us t
-            ∙ ap (λ p. list_any p ns || list_any (is_use_touched change) us) (fun_ext (λ m. sym (touch_direct d bytes change m)))
-            ∙ turned (list_any (engines.is_touched w change) ns) (list_any (is_use_touched change) us);
-        few = (let same = ap length asked in omega arith);
-        once = once us single;
-        bytes = λ from to. ((used (Bytes from to)).1, (used (Bytes from to)).0);
-        made = recursion_from_All _ us (λ k v lt. (own.0, n, own.1, own.2, (used (get_or us k v)).1 (Contains-get_or us k v lt)));
       }
-    where
-      once : (vs : List Use) → IsSingle vs → AllPairs (λ a b. a ≢ b) vs
-      once [] h = λ i j z a b. absurd (omega (arith, a, b))
-      once (v ∷ []) h = λ i j z a b. absurd (omega (arith, a, b))
-      once (u ∷ v ∷ vs) h = absurd h
+
+pub single_once : (us : List Use) → IsSingle us → AllPairs (λ a b. a ≢ b) us
+single_once [] h = λ i j z a b. absurd (omega (arith, a, b))
+single_once (v ∷ []) h = λ i j z a b. absurd (omega (arith, a, b))
+single_once (u ∷ v ∷ vs) h = absurd h
 
 pub entries_are_right : EntriesAreRight
-entries_are_right d bytes kept n g ns us t single all = entries_stand d bytes kept n g ns us t single all
+entries_are_right d bytes kept n g ns us t single all =
+    let w = on (described d) bytes in
+    let own = known d bytes n g ns us t in
+    record {
+      outcome = own.outcome;
+      closed = subst (AllByRecursion (λ m. is_among node_number kept m ≡ true)) (sym own.asked) all;
+      named = all;
+      lower = own.lower;
+      touched = λ change. touch_direct d bytes change n ∙ touched_is d bytes change n g ns us t
+          ∙ ap (λ p. list_any p ns || list_any (is_use_touched change) us) (fun_ext (λ m. sym (touch_direct d bytes change m)))
+          ∙ turned (list_any (engines.is_touched w change) ns) (list_any (is_use_touched change) us);
+      few = (let same = ap length own.asked in omega arith);
+      once = single_once us single;
+      bytes = λ from to. ((own.used (Bytes from to)).1, (own.used (Bytes from to)).0);
+      made = recursion_from_All _ us (λ k v lt. (own.own.0, n, own.own.1, own.own.2, (own.used (get_or us k v)).1 (Contains-get_or us k v lt)));
+    }

@@ -12,3 +12,4 @@ pub mod Entries
 pub mod Guards
 pub mod Examples
 pub mod Rising
+pub mod Folding

@@ -1,6 +1,6 @@
 -- Laws of plain lists: what the nodes of their elements answer, ask and use from nothing, and which changes touch them. They are stated over
 -- the definitions of ksv_rule_meaning alone.
-use Rattle.std.specs.Prelude.{◌≡◌, ℕ, true, ◌||◌, List, [], ◌∷◌, ◌++◌, Option, Some, None, Ok}
+use Rattle.std.specs.Prelude.{◌≡◌, ℕ, Bool, true, false, ◌||◌, List, [], ◌∷◌, ◌++◌, Option, Some, None, Ok}
 use Rattle.std.specs.List.{AllByRecursion, flat_map, list_any}
 use Rattle.ksv_bytes.specs.declared.uses.Use.{Use}
 use Rattle.ksv_bytes.specs.declared.uses.Change.{Change}
@@ -17,7 +17,7 @@ use Rattle.ksv_rule_meaning.specs.Completed.{completed}
 use Rattle.ksv_rule_meaning.specs.Described.{described}
 use Rattle.ksv_rule_meaning.specs.FromNothing.{from_nothing, asks, uses}
 use Rattle.ksv_rule_meaning.specs.Kept.{is_touched}
-use Rattle.ksv_list_laws.specs.Nodes.{Listing, Which, node_at, nodes_of, answer_at, asked_by, uses_at, guard_of, reach_of, IsPlain, IsThere}
+use Rattle.ksv_list_laws.specs.Nodes.{Listing, Which, SizeValue, node_at, nodes_of, answer_at, asked_by, uses_at, guard_of, reach_of, IsPlain, IsThere}
 
 -- what a node answers, asks and uses from nothing
 pub record Tells (d : Description) (bytes : List ℕ) (opened : List Node) (n : Node) (g : Given) (ns : List Node) (us : List Use) : Type 0 where
@@ -58,3 +58,15 @@ IsSingle (u ∷ v ∷ us) = ⊥
 abbrev pub EntriesAreRight : Type 0
 EntriesAreRight = (d : Description) (bytes : List ℕ) (kept : List Node) (n : Node) (g : Given) (ns : List Node) (us : List Use) → Tells d bytes [] n g ns us → IsSingle us
     → AllByRecursion (λ m. is_among node_number kept m ≡ true) ns → StandsIn (on (described d) bytes) kept (record { node = n; answer = Ok g; asked = ns; uses = us })
+
+-- all nodes but the values that say sizes, which are some nodes' guards
+abbrev pub is_folded : Which → Bool
+is_folded (SizeValue i) = false
+is_folded _ = true
+
+-- An entry that names a node's guard alone, and has the farthest place as its only use, stands in for the node, where its guard is kept and
+-- all that it asks. So an engine needn't hold what such a node asked.
+abbrev pub FoldedStandIn : Type 0
+FoldedStandIn = (d : Description) (bytes : List ℕ) (x : Listing) → IsPlain d bytes x → (k : Which) → IsThere bytes x k → is_folded k ≡ true → (n m : Node) → node_at x k ≡ Some n → guard_node x (guard_of x k) ≡ Some m
+    → (kept : List Node) → AllByRecursion (λ o. is_among node_number kept o ≡ true) (nodes_of x (asked_by x k)) → is_among node_number kept m ≡ true
+    → StandsIn (on (described d) bytes) kept (record { node = n; answer = Ok (answer_at bytes x k); asked = m ∷ []; uses = reach_of bytes x k })

@@ -1,7 +1,7 @@
 //! The laws, each a contract of a function that does nothing.
 
 ghost use Rattle.ksv_list_laws.specs.Examples.{NumbersArePlain, CountedArePlain, ItemsArePlain, ItemsAreNamed};
-ghost use Rattle.ksv_list_laws.specs.Laws.{NodesArePaths, NodesTell, GuardsTell, TreesAreAsked, EntriesAreRight};
+ghost use Rattle.ksv_list_laws.specs.Laws.{NodesArePaths, NodesTell, GuardsTell, TreesAreAsked, EntriesAreRight, FoldedStandIn};
 
 /// Each node.
 pub fn nodes_tell()
@@ -21,7 +21,8 @@ pub fn trees_are_asked()
 
 /// Entries.
 pub fn entries_are_right()
-    ensures { EntriesAreRight }
+    ensures own { EntriesAreRight }
+    ensures folded { FoldedStandIn }
 {}
 
 /// Examples.
