@@ -28,20 +28,9 @@ use Rattle.ksv_rule_meaning.specs.Meaning.{rule_of}
 use Rattle.ksv_rule_meaning.proofs.Direct.{answers_follow_rules}
 use Rattle.ksv_list_laws.specs.Laws.{Tells}
 use Rattle.ksv_list_laws.proofs.Says.{Says}
+use Rattle.ksv_list_laws.proofs.Truth.{or_true, true_or}
 
 -- ---- lists of nodes
-
-or_right : (b c : Bool) → c ≡ true → (b || c) ≡ true
-or_right true c h = refl
-or_right false c h = h
-
-or_left : (b c : Bool) → b ≡ true → (b || c) ≡ true
-or_left true c h = refl
-or_left false c h = absurd (cc)
-
-or_case : (b c : Bool) → (b || c) ≡ true → (b ≡ true) ⊎ (c ≡ true)
-or_case true c h = inl refl
-or_case false c h = inr h
 
 or_none : (b c : Bool) → (b ≡ true → ⊥) → c ≡ false → (b || c) ≡ false
 or_none true c never e = absurd (never refl)
@@ -131,7 +120,7 @@ module _ (d : Description) (bytes : List ℕ) (root : Node) (given : Given) (c :
 
   member_is : (r : ℕ) (os : List Node) (m : Node) → AreFrom r os → is_among node_number os m ≡ true → IsPart c m
   member_is r [] m all h = absurd (cc)
-  member_is r (o ∷ os) m all h = elim (or_case (nat_eq (node_number m) (node_number o)) (is_among node_number os m) h) [
+  member_is r (o ∷ os) m all h = elim (true_or (nat_eq (node_number m) (node_number o)) (is_among node_number os m) h) [
     | inl e ↦ subst (IsPart c) (sym (same_node m o e)) all.0.1
     | inr e ↦ member_is r os m all.1 e
   ]
@@ -167,7 +156,7 @@ module _ (d : Description) (bytes : List ℕ) (root : Node) (given : Given) (c :
   leads (suc fuel) (suc depth) opened m g lt a up h =
       let ran = ruled d bytes depth opened m g h in
       let met = answer_within d bytes depth (m ∷ opened) in
-      let above : is_among node_number (m ∷ opened) root ≡ true = or_right (nat_eq (node_number root) (node_number m)) (is_among node_number opened root) up in
+      let above : is_among node_number (m ∷ opened) root ≡ true = or_true (nat_eq (node_number root) (node_number m)) (is_among node_number opened root) (inr up) in
       elim (chain.first m a) [
         | inl x ↦ no_answer met m root g x (λ y e. (let shut = sym (open_is d bytes depth (m ∷ opened) root above) ∙ e in cc)) ran.1
         | inr x ↦ no_answer met m x.0 g x.3 (λ y e. leads fuel depth (m ∷ opened) x.0 y (let below = x.2 in omega (arith, below, lt)) x.1 above e) ran.1
@@ -179,16 +168,16 @@ module _ (d : Description) (bytes : List ℕ) (root : Node) (given : Given) (c :
   Extra opened others = (m : Node) → is_among node_number others m ≡ true → (is_among node_number opened m ≡ true) ⊎ IsPart c m
 
   extra_both : (n : Node) (opened others : List Node) → Extra opened others → Extra (n ∷ opened) (n ∷ others)
-  extra_both n opened others extra m h = elim (or_case (nat_eq (node_number m) (node_number n)) (is_among node_number others m) h) [
-    | inl e ↦ inl (or_left (nat_eq (node_number m) (node_number n)) (is_among node_number opened m) e)
+  extra_both n opened others extra m h = elim (true_or (nat_eq (node_number m) (node_number n)) (is_among node_number others m) h) [
+    | inl e ↦ inl (or_true (nat_eq (node_number m) (node_number n)) (is_among node_number opened m) (inl e))
     | inr e ↦ elim (extra m e) as (λ _. (is_among node_number (n ∷ opened) m ≡ true) ⊎ IsPart c m) [
-      | inl x ↦ inl (or_right (nat_eq (node_number m) (node_number n)) (is_among node_number opened m) x)
+      | inl x ↦ inl (or_true (nat_eq (node_number m) (node_number n)) (is_among node_number opened m) (inr x))
       | inr x ↦ inr x
     ]
   ]
 
   no_part : (depth : ℕ) (opened : List Node) (n : Node) (g : Given) → is_among node_number (n ∷ opened) root ≡ true → answer_within d bytes depth opened n ≡ Ok g → IsPart c n → ⊥
-  no_part depth opened n g held h a = elim (or_case (nat_eq (node_number root) (node_number n)) (is_among node_number opened root) held) [
+  no_part depth opened n g held h a = elim (true_or (nat_eq (node_number root) (node_number n)) (is_among node_number opened root) held) [
     | inl e ↦ chain.apart (subst (IsPart c) (sym (same_node root n e)) a)
     | inr e ↦ leads (suc (c.rank n)) depth opened n g (omega arith) a e h
   ]
@@ -201,7 +190,7 @@ module _ (d : Description) (bytes : List ℕ) (root : Node) (given : Given) (c :
       let r = ruled d bytes depth opened n g h in
       let rule = answer_of (answer_within d bytes depth (n ∷ others)) n.path bytes (rule_of d n) in
       let same : rule ≡ Ok g = same_answer (answer_within d bytes depth (n ∷ opened)) (answer_within d bytes depth (n ∷ others)) n.path bytes
-      (λ m g' e. stays depth (n ∷ opened) (n ∷ others) m g' (or_right (nat_eq (node_number root) (node_number m)) (is_among node_number (n ∷ opened) root) held)
+      (λ m g' e. stays depth (n ∷ opened) (n ∷ others) m g' (or_true (nat_eq (node_number root) (node_number m)) (is_among node_number (n ∷ opened) root) (inr held))
       (extra_both n opened others extra) e) (rule_of d n) g r.1 in
       ap (λ b. cond b (circle n) rule) (free r.0 (is_among node_number others n) refl) ∙ same
     where
@@ -214,7 +203,7 @@ module _ (d : Description) (bytes : List ℕ) (root : Node) (given : Given) (c :
 
   root_stays : (r : ℕ) (os : List Node) → AreFrom r os → from_nothing d bytes [] root ≡ Ok given → from_nothing d bytes os root ≡ Ok given
   unfolding from_nothing
-  root_stays r os all h = stays node_bound [] os root given (or_left (nat_eq (node_number root) (node_number root)) false (eq_self (node_number root))) (λ m e. inr (member_is r os m all e)) h
+  root_stays r os all h = stays node_bound [] os root given (or_true (nat_eq (node_number root) (node_number root)) false (inl (eq_self (node_number root)))) (λ m e. inr (member_is r os m all e)) h
 
   -- ---- what the nodes tell
 

@@ -1,5 +1,5 @@
 -- What a node tells is right for an engine to keep.
-use Rattle.std.proofs.Common.{◌≡◌, ◌≢◌, ◌∙◌, ℕ, ◌<◌, Bool, true, false, ◌||◌, List, [], ◌∷◌, ◌++◌, length, Result, Ok, Err, refl, sym, ap, subst, arith, Contains, get_or, AllPairs}
+use Rattle.std.proofs.Common.{◌≡◌, ◌≢◌, ◌∙◌, ℕ, ◌<◌, true, ◌||◌, List, [], ◌∷◌, ◌++◌, length, Result, Ok, Err, refl, sym, ap, subst, arith, Contains, get_or, AllPairs}
 use Rattle.std.proofs.lemmas.List.Elements.{recursion_from_All, Contains-get_or, Contains-append_right}
 use Rattle.std.specs.List.{AllByRecursion, flat_map, list_any}
 use mathlib.Core.Path.{fun_ext}
@@ -12,7 +12,6 @@ use Rattle.ksv_memo_rules.specs.declared.rules.Outcome.{Outcome}
 use Rattle.ksv_memo_rules.specs.declared.rules.Outcome.TheVariants.{Answered, Circle}
 use Rattle.ksv_memo_rules.specs.Evaluation.{IsAnswered, is_among, tells}
 use Rattle.ksv_memo_rules.specs.Meaning.{Standing, IsSettled, on}
-use Rattle.ksv_memo_rules.specs.Right.{StandsIn}
 use Rattle.ksv_memo_rules.specs.Touched.{tree}
 use Rattle.ksv_memo_rules.specs.Touched as engines
 use Rattle.ksv_memo_rules.proofs.Keeping.{AreDistinct-none, kept-tree}
@@ -28,6 +27,7 @@ use Rattle.ksv_rule_meaning.proofs.Completing.{touch_direct}
 use Rattle.ksv_rule_meaning.proofs.Direct.{answers_are_direct, asks_are_direct}
 use Rattle.ksv_list_laws.specs.Laws.{Tells, IsSingle, EntriesAreRight}
 use Rattle.ksv_list_laws.proofs.Trees.{touched_is}
+use Rattle.ksv_list_laws.proofs.Truth.{turned}
 
 outcome_is : (o : Outcome Node (Result Given Fault)) (g : Given) → flattened o ≡ Ok g → o ≡ Answered (Ok g)
 outcome_is (Answered a) g e = by a e
@@ -36,15 +36,6 @@ outcome_is (Answered a) g e = by a e
     by (Ok k) e' = let same : k ≡ g = cc in ap (λ z. Answered (Ok z)) same
     by (Err f) e' = absurd (cc)
 outcome_is (Circle c) g e = absurd (cc)
-
-pub turned : (a b : Bool) → (a || b) ≡ (b || a)
-turned true true = refl
-turned true false = refl
-turned false b = or_false b
-  where
-    or_false : (c : Bool) → c ≡ (c || false)
-    or_false true = refl
-    or_false false = refl
 
 module _ (d : Description) (bytes : List ℕ) where
   abbrev w : Standing Node (Result Given Fault)

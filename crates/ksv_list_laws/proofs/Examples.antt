@@ -1,8 +1,8 @@
 -- The lists of the examples are plain: their heads answer them, and their elements are whole.
-use Rattle.std.proofs.Common.{◌≡◌, ◌∙◌, ℕ, zero, suc, ◌<◌, true, false, List, [], ◌∷◌, length, Option, Some, None, Ok, refl, sym, ap, arith}
+use Rattle.std.proofs.Common.{◌≡◌, ◌∙◌, ℕ, zero, suc, ◌<◌, false, List, [], ◌∷◌, length, Some, None, Ok, refl, sym, ap, arith}
 use Rattle.ksv_basics.specs.Plan.{Answer, bind}
 use Rattle.ksv_bytes.specs.declared.uses.Use.{Use}
-use Rattle.ksv_expr_value.specs.Places.{Place, at_byte}
+use Rattle.ksv_expr_value.specs.Places.{at_byte}
 use Rattle.ksv_expr_value.specs.Trail.{Trail, root, child, trail_of-steps}
 use Rattle.ksv_expr_value.specs.declared.step.Step.TheVariants as steps
 use Rattle.ksv_expr_meaning.specs.Meaning.{value_of}
@@ -20,16 +20,15 @@ use Rattle.ksv_nodes.specs.declared.given.List as lists
 use Rattle.ksv_nodes.specs.Reading.{Done}
 use Rattle.ksv_nodes.specs.Rule.{Rule, head_node}
 use Rattle.ksv_rule_meaning.specs.Described.{described}
-use Rattle.ksv_rule_meaning.specs.Direct.{IsFree}
 use Rattle.ksv_rule_meaning.specs.Fields.{members_of, sought, member_named}
 use Rattle.ksv_rule_meaning.specs.FromNothing.{from_nothing}
-use Rattle.ksv_rule_meaning.specs.Heads.{root_head, head_of, member_head, member_at, attribute_head, attribute_start, attribute_setting, origin_of, attribute_at, repeated, until_eos, counted, count_of}
+use Rattle.ksv_rule_meaning.specs.Heads.{root_head, head_of, member_head, member_at, attribute_head, attribute_start, attribute_at, repeated, until_eos, counted, count_of}
 use Rattle.ksv_rule_meaning.specs.Integers.{integer_value}
 use Rattle.ksv_rule_meaning.specs.Meaning.{meaning_of, rule_of}
 use Rattle.ksv_rule_meaning.specs.Wanted.{whole, holds, size_of, integer_of, expression}
 use Rattle.ksv_rule_meaning.proofs.Direct.{answers_follow_rules}
 use Rattle.ksv_list_laws.specs.Lists as layouts
-use Rattle.ksv_list_laws.specs.Nodes.{Listing, IsWhole, IsPlain}
+use Rattle.ksv_list_laws.specs.Nodes.{IsWhole}
 use Rattle.ksv_list_laws.specs.Examples.{of_list, numbers, three, items, of_three, of_two, listing, NumbersArePlain, CountedArePlain, ItemsArePlain, ItemsAreNamed}
 use Rattle.ksv_list_laws.proofs.Chains.{none_among}
 use Rattle.ksv_list_laws.proofs.Fields.{member_rule}

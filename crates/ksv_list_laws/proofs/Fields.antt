@@ -1,5 +1,5 @@
 -- What the rules of an element's fields say, and of the value that says the size of some; and how an element is read.
-use Rattle.std.proofs.Common.{◌≡◌, ◌∙◌, ℕ, suc, ◌+◌, ◌<◌, ◌≤◌, nat_lt, nat_le, true, false, if◌then◌else◌, List, [], ◌∷◌, length, Option, Some, None, Result, Ok, refl, sym, ap, arith}
+use Rattle.std.proofs.Common.{◌≡◌, ◌∙◌, ℕ, suc, ◌+◌, ◌<◌, ◌≤◌, nat_lt, nat_le, true, false, if◌then◌else◌, List, [], ◌∷◌, length, Some, None, Result, Ok, refl, sym, ap, arith}
 use Rattle.std.proofs.lemmas.Bool.Decides.{nat_tests}
 use Rattle.std.specs.Prelude.{◌==◌, pos, slice_range}
 use Rattle.ksv_basics.specs.Plan.{Answer, Ask, bind, translate}
@@ -50,11 +50,9 @@ use Rattle.ksv_list_laws.proofs.Paths.{part_of}
 use Rattle.ksv_list_laws.proofs.Plain.{IsNumber, IsNamed, IsLaidOut}
 use Rattle.ksv_list_laws.proofs.Rules.{leaf_says}
 use Rattle.ksv_list_laws.proofs.Says.{Says, says_answer, says_given, says_seen, says_by}
+use Rattle.ksv_list_laws.proofs.Truth.{some_is}
 
 -- ---- what is read at a place
-
-some_is : {A : Type 0} (x y : A) → ◌≡◌ {A = Option A} (Some x) (Some y) → x ≡ y
-some_is x y e = cc
 
 content_is : (at : Setting) (origin : Origin) (w : Stream) (s : Place) (f : Field) (c : Content) (n : ℕ) → content_size c ≡ Some n → content_at at origin w s f c ≡ leaf origin w s n
 unfolding content_at

@@ -1,6 +1,6 @@
 -- An entry with a node's guard and the farthest place to which it reads stands in for the node.
-use Rattle.std.proofs.Common.{◌≡◌, ◌∙◌, ℕ, zero, suc, ◌+◌, ◌<◌, ◌≤◌, nat_lt, Bool, true, false, if◌then◌else◌, ◌||◌, List, [], ◌∷◌, ◌++◌, length, length-append, Option, Some, None, Result, Ok, ◌⊎◌, inl, inr, refl, sym, ap, subst, arith, Contains, get_or}
-use Rattle.std.proofs.lemmas.List.Elements.{recursion_from_All, All-from_recursion, All-contains, Contains-get_or, Contains-append_left, Contains-append_right}
+use Rattle.std.proofs.Common.{◌≡◌, ◌∙◌, ℕ, zero, suc, ◌+◌, ◌<◌, ◌≤◌, nat_lt, Bool, true, false, if◌then◌else◌, ◌||◌, List, [], ◌∷◌, length, length-append, Option, Some, None, Result, ◌⊎◌, inl, inr, refl, sym, ap, subst, arith, Contains}
+use Rattle.std.proofs.lemmas.List.Elements.{All-from_recursion, All-contains, Contains-get_or, Contains-append_left, Contains-append_right}
 use Rattle.std.specs.List.{AllByRecursion, flat_map, list_any}
 use Rattle.ksv_bytes.specs.Uses.{is_use_touched}
 use Rattle.ksv_bytes.specs.declared.uses.Use.{Use}
@@ -20,7 +20,7 @@ use Rattle.ksv_rule_meaning.proofs.Completing.{touch_direct}
 use Rattle.ksv_list_laws.specs.Lists.{is_named_to}
 use Rattle.ksv_list_laws.specs.Nodes.{Listing, start, Which, ElementHead, ElementEnd, Rest, FieldHead, FieldEnd, SizeValue, node_at, nodes_of, end_uses, answer_at, asked_by, element_uses, uses_at, prior_guard, guard_of, end_reach, prior_reach, element_reach, reach_of, IsPlain, IsThere}
 use Rattle.ksv_list_laws.specs.Laws.{guard_node, IsSingle, is_folded, FoldedStandIn}
-use Rattle.ksv_list_laws.proofs.Entries.{Known, known, turned, single_once}
+use Rattle.ksv_list_laws.proofs.Entries.{Known, known, single_once}
 use Rattle.ksv_list_laws.proofs.Guards.{guards_tell}
 use Rattle.ksv_list_laws.proofs.Rising.{AnyOf, Rises, guard_rises, reach_rises}
 use Rattle.ksv_list_laws.proofs.Telling.{node_is}

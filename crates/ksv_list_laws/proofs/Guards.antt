@@ -15,12 +15,13 @@ use Rattle.ksv_nodes.specs.Rule.{head_node}
 use Rattle.ksv_nodes.specs.declared.node.Node.{Node}
 use Rattle.ksv_rule_meaning.specs.Kept.{is_touched}
 use Rattle.ksv_list_laws.specs.Lists.{size_at, is_named_to}
-use Rattle.ksv_list_laws.specs.Nodes.{Listing, start, place, Which, ElementHead, ElementEnd, Rest, FieldHead, FieldEnd, SizeValue, node_at, nodes_of, end_uses, is_last, size_asked, last_asked, later_asked, asked_by, element_uses, uses_at, prior_guard, field_guard, guard_of, end_reach, prior_reach, element_reach, reach_of, IsPlain, IsField, IsThere}
+use Rattle.ksv_list_laws.specs.Nodes.{Listing, start, place, Which, ElementHead, ElementEnd, Rest, FieldHead, FieldEnd, SizeValue, node_at, nodes_of, end_uses, is_last, size_asked, last_asked, later_asked, asked_by, element_uses, uses_at, prior_guard, field_guard, guard_of, end_reach, prior_reach, element_reach, reach_of, IsPlain, IsThere}
 use Rattle.ksv_list_laws.specs.Laws.{guard_node, GuardsTell}
 use Rattle.ksv_list_laws.proofs.Places.{first_some}
-use Rattle.ksv_list_laws.proofs.Rising.{AnyOf, Rises, first_fixed, none_named, named_some, head_value, head_guard, last_end, end_later, guard_rises, reach_rises}
+use Rattle.ksv_list_laws.proofs.Rising.{AnyOf, Rises, none_named, head_value, head_guard, end_later, guard_rises, reach_rises}
 use Rattle.ksv_list_laws.proofs.Telling.{first_size, start_less, field_room, named_more, named_here, tells, node_is}
 use Rattle.ksv_list_laws.proofs.Trees.{touched_is}
+use Rattle.ksv_list_laws.proofs.Truth.{or_true, true_or, same_truth}
 
 -- ---- changes
 
@@ -38,20 +39,6 @@ size_more (Delete at n) a h = refl
 size_more Append a h = absurd (cc)
 
 -- ---- truth values
-
-pub same_truth : (a b : Bool) → (a ≡ true → b ≡ true) → (b ≡ true → a ≡ true) → a ≡ b
-same_truth true b f g = sym (f refl)
-same_truth false true f g = g refl
-same_truth false false f g = refl
-
-or_true : (a b : Bool) → (a ≡ true) ⊎ (b ≡ true) → (a || b) ≡ true
-or_true true b h = refl
-or_true false b (inl e) = absurd (cc)
-or_true false b (inr e) = e
-
-true_or : (a b : Bool) → (a || b) ≡ true → (a ≡ true) ⊎ (b ≡ true)
-true_or true b e = inl refl
-true_or false b e = inr e
 
 any_true : {A : Type 0} (p : A → Bool) (xs : List A) → AnyOf (λ a. p a ≡ true) xs → list_any p xs ≡ true
 any_true p [] h = absurd h

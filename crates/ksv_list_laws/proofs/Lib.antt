@@ -1,4 +1,5 @@
 -- The lemmas of this crate.
+pub mod Truth
 pub mod Says
 pub mod Chains
 pub mod Paths

@@ -1,5 +1,5 @@
 -- What the test of a plain list says: how its elements are read, and their fields.
-use Rattle.std.proofs.Common.{◌≡◌, ◌∙◌, ℕ, zero, suc, ◌+◌, ◌<◌, ◌≤◌, ◌^◌, nat_lt, ◌==◌, Bool, true, false, not, ◌&&◌, if◌then◌else◌, List, [], ◌∷◌, Option, Some, None, inl, inr, refl, sym, ap, subst, arith}
+use Rattle.std.proofs.Common.{◌≡◌, ◌∙◌, ℕ, zero, suc, ◌+◌, ◌<◌, ◌≤◌, ◌^◌, nat_lt, ◌==◌, Bool, true, false, ◌&&◌, if◌then◌else◌, List, [], ◌∷◌, Option, Some, None, inl, inr, refl, sym, ap, subst, arith}
 use Rattle.std.proofs.lemmas.Bool.Decides.{nat_tests}
 use Rattle.std.proofs.lemmas.Bool.{cases_lt}
 use Rattle.std.specs.Cmp.{first_so, second_so}
@@ -11,8 +11,9 @@ use Rattle.ksv_desc.specs.Description as contents
 use Rattle.ksv_desc.specs.declared.order.ByteOrder.{ByteOrder}
 use Rattle.ksv_nodes.specs.declared.given.List as lists
 use Rattle.ksv_rule_meaning.specs.Fields.{Sought, members_of, behind, sought, is_attribute, last_attribute, in_field, field_of, in_kind, kind_of}
-use Rattle.ksv_list_laws.specs.Lists.{Layout, content_size, choice_size, extent_name, size_name, is_integer, size_at, before, whole, found, no_field, layout_of, same_name, is_once, is_sized, is_alone, is_in_order, is_plain_field, all_to, is_plain_type, repeats, object_layout, whole_layout, content_layout, field_layout, list_layout}
+use Rattle.ksv_list_laws.specs.Lists.{Layout, no_attribute, content_size, choice_size, extent_name, size_name, is_integer, size_at, before, whole, found, no_field, layout_of, same_name, is_once, is_sized, is_alone, is_in_order, is_plain_field, all_to, is_plain_type, repeats, object_layout, whole_layout, content_layout, field_layout, list_layout}
 use Rattle.ksv_list_laws.specs.Nodes.{sought_at}
+use Rattle.ksv_list_laws.proofs.Truth.{none_is, some_is}
 
 -- ---- what there is to know of fields
 
@@ -62,10 +63,6 @@ pub record IsRead (d : Description) (g : lists.List) (y : Layout) : Type 0 where
 
 both : (a b : Bool) → (a && b) ≡ true → (a ≡ true) × (b ≡ true)
 both a b h = (first_so a b h, second_so a b h)
-
-none_is : {A : Type 0} (o : Option A) → not (is_some o) ≡ true → o ≡ None
-none_is None h = refl
-none_is (Some a) h = absurd (cc)
 
 once_is : (r : Repeat) → is_once r ≡ true → r ≡ Once
 once_is Once h = refl
@@ -139,10 +136,10 @@ kind_found x i b (m ∷ ms) s h = by (m.name == x) h (kind_found x (i + 1) (behi
     by false e later = let z = later e in (suc z.0, z.1, (let n = z.2 in omega (arith, n)), z.3, z.4)
 
 -- the attribute that was found
-attribute_is : (o : Option Sought) (b : Option ℕ) → is_attribute (unwrap_or o (record { member = 0; before = None; kind = Parameter })).kind ≡ true
-    → (unwrap_or o (record { member = 0; before = None; kind = Parameter })).before ≡ b
-    → o ≡ Some (record { member = (unwrap_or o (record { member = 0; before = None; kind = Parameter })).member; before = b;
-        kind = Attribute (unwrap_or (field_in (unwrap_or o (record { member = 0; before = None; kind = Parameter })).kind) no_field) })
+attribute_is : (o : Option Sought) (b : Option ℕ) → is_attribute (unwrap_or o no_attribute).kind ≡ true
+    → (unwrap_or o no_attribute).before ≡ b
+    → o ≡ Some (record { member = (unwrap_or o no_attribute).member; before = b;
+        kind = Attribute (unwrap_or (field_in (unwrap_or o no_attribute).kind) no_field) })
 attribute_is None b h e = absurd (cc)
 attribute_is (Some s) b h e = by s.kind refl h
   where
@@ -184,16 +181,13 @@ module _ (d : Description) (t : ℕ) (ok : is_plain_type d t (layout_of d t) ≡
 
   before_is : (j k : ℕ) → j ≤ y.last → k ≤ y.last → y.name j ≡ y.name k → before y j ≡ before y k
   before_is j k low few same =
-      sym (name_is _ _ (in_order j low).1) ∙ ap (λ x. (unwrap_or (sought x 0 None (members_of d t)) (record { member = 0; before = None; kind = Parameter })).before) same ∙ name_is _ _ (in_order k few).1
-
-  some_name : (x z : ℕ) → ◌≡◌ {A = Option ℕ} (Some x) (Some z) → x ≡ z
-  some_name x z e = cc
+      sym (name_is _ _ (in_order j low).1) ∙ ap (λ x. (unwrap_or (sought x 0 None (members_of d t)) no_attribute).before) same ∙ name_is _ _ (in_order k few).1
 
   distinct_are : (j k : ℕ) → j ≤ y.last → k ≤ y.last → y.name j ≡ y.name k → j ≡ k
   distinct_are zero zero low few same = refl
   distinct_are zero (suc k) low few same = let e : ◌≡◌ {A = Option ℕ} None (Some (y.name k)) = before_is zero (suc k) low few same in absurd (cc)
   distinct_are (suc j) zero low few same = let e : ◌≡◌ {A = Option ℕ} (Some (y.name j)) None = before_is (suc j) zero low few same in absurd (cc)
-  distinct_are (suc j) (suc k) low few same = ap suc (distinct_are j k (omega (arith, low)) (omega (arith, few)) (some_name (y.name j) (y.name k) (before_is (suc j) (suc k) low few same)))
+  distinct_are (suc j) (suc k) low few same = ap suc (distinct_are j k (omega (arith, low)) (omega (arith, few)) (some_is (y.name j) (y.name k) (before_is (suc j) (suc k) low few same)))
 
   pub laid_out : IsLaidOut d t y
   laid_out = record {
@@ -210,16 +204,13 @@ module _ (d : Description) (t : ℕ) (ok : is_plain_type d t (layout_of d t) ≡
 
 -- ---- lists
 
-some_layout : (y z : Layout) → ◌≡◌ {A = Option Layout} (Some y) (Some z) → y ≡ z
-some_layout y z e = cc
-
 module _ (d : Description) (f : Field) (y : Layout) where
   abbrev Is : Type 0
   Is = IsElementOf d f y y.type_number
 
   by_object : (t : ℕ) (given : Arguments) (b : Bool) → f.choice ≡ Always (contents.Object t given) → f.extent ≡ ByItself → is_plain_type d t (layout_of d t) ≡ b
       → (if b then Some (layout_of d t) else None) ≡ Some y → Is
-  by_object t given true c e ok is = subst (λ z. IsElementOf d f z z.type_number) (some_layout (layout_of d t) y is) (given, c, e, laid_out d t ok)
+  by_object t given true c e ok is = subst (λ z. IsElementOf d f z z.type_number) (some_is (layout_of d t) y is) (given, c, e, laid_out d t ok)
   by_object t given false c e ok is = absurd (cc)
 
   by_content : (c : Content) (x : Extent) → f.choice ≡ Always c → f.extent ≡ x → object_layout d c x ≡ Some y → Is
@@ -227,7 +218,7 @@ module _ (d : Description) (f : Field) (y : Layout) where
   by_content _ x e h is = absurd (cc)
 
   by_size : (c : Content) (n : ℕ) (b : Bool) → f.choice ≡ Always c → content_size c ≡ Some n → nat_lt 0 n ≡ b → (if b then Some (whole f) else None) ≡ Some y → Is
-  by_size c n true e h some is = subst (λ z. IsElementOf d f z z.type_number) (some_layout (whole f) y is) (refl, c, n, e, h, ap choice_size e ∙ h, (grind (arith, nat_tests)))
+  by_size c n true e h some is = subst (λ z. IsElementOf d f z z.type_number) (some_is (whole f) y is) (refl, c, n, e, h, ap choice_size e ∙ h, (grind (arith, nat_tests)))
   by_size c n false e h some is = absurd (cc)
 
   by_sizes : (c : Content) (o : Option ℕ) → f.choice ≡ Always c → content_size c ≡ o → (if is_some o then whole_layout f o else object_layout d c f.extent) ≡ Some y → Is

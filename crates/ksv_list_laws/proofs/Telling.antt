@@ -20,7 +20,6 @@ use Rattle.ksv_nodes.specs.declared.given.Given.{Given}
 use Rattle.ksv_nodes.specs.declared.given.Given.TheVariants as givens
 use Rattle.ksv_nodes.specs.declared.given.Head.{Head}
 use Rattle.ksv_nodes.specs.declared.given.Head.TheVariants as heads
-use Rattle.ksv_nodes.specs.declared.given.List as lists
 use Rattle.ksv_nodes.specs.Reading.{end_in}
 use Rattle.ksv_nodes.specs.Rule.{head_node, value_node, end_node, rest_node, in_path, ask_end}
 use Rattle.ksv_rule_meaning.specs.Choosing.{choose}
@@ -38,6 +37,7 @@ use Rattle.ksv_list_laws.proofs.Places.{field_low, first_some, turns, turns_low,
 use Rattle.ksv_list_laws.proofs.Plain.{IsNumber, IsLaidOut, IsSized, IsElementOf, IsRead, is_read}
 use Rattle.ksv_list_laws.proofs.Rules as rules
 use Rattle.ksv_list_laws.proofs.Says.{Says, says_answer, says_given, says_by, says_asking}
+use Rattle.ksv_list_laws.proofs.Truth.{none_is, or_true}
 
 -- ---- kinds and lengths
 
@@ -47,17 +47,9 @@ longer s up e = let n : length (s ∷ up) ≡ length up = ap length e in omega (
 longer_two : (s u : Step) (up : List Step) → s ∷ u ∷ up ≡ up → ⊥
 longer_two s u up e = let n : length (s ∷ u ∷ up) ≡ length up = ap length e in omega (arith, n)
 
-some_is : (o : Option ℕ) → is_some o ≡ true → o ≡ Some (unwrap_or o 0)
-some_is None h = absurd (cc)
-some_is (Some n) h = refl
-
-or_true : (b : Bool) → (b || true) ≡ true
-or_true true = refl
-or_true false = refl
-
-pub none_is : (o : Option ℕ) → not (is_some o) ≡ true → o ≡ None
-none_is None h = refl
-none_is (Some n) h = absurd (cc)
+is_there : (o : Option ℕ) → is_some o ≡ true → o ≡ Some (unwrap_or o 0)
+is_there None h = absurd (cc)
+is_there (Some n) h = refl
 
 fixed_no_bits : (c : Content) (n : ℕ) → content_size c ≡ Some n → is_of_bits (Always c) ≡ false
 fixed_no_bits (contents.Bits width enum) n e = absurd (cc)
@@ -245,7 +237,7 @@ module _ (d : Description) (bytes : List ℕ) (x : Listing) (plain : IsPlain d b
 
   pub named_here : (j : ℕ) → size_at x.layout j ≡ None → is_named_to x.layout j ≡ true
   named_here zero e = ap (λ o. not (is_some o)) e
-  named_here (suc j) e = ap (λ o. is_named_to x.layout j || not (is_some o)) e ∙ or_true (is_named_to x.layout j)
+  named_here (suc j) e = ap (λ o. is_named_to x.layout j || not (is_some o)) e ∙ or_true (is_named_to x.layout j) true (inr refl)
 
   -- the field that says them is an integer
   pub sizer_is : is_some x.layout.type_number ≡ true → is_named_to x.layout x.layout.last ≡ true → IsNumber (x.layout.field x.layout.sizer) × (n : ℕ) × (size_at x.layout x.layout.sizer ≡ Some n) × (0 < n)
@@ -389,7 +381,7 @@ module _ (d : Description) (bytes : List ℕ) (x : Listing) (plain : IsPlain d b
 
     module _ (i j : ℕ) (there : IsField x i j) (p q : Trail) (is : At i p) (was : Below p j q) where
       headed : turns (width x) i < r → met (head_node p) ≡ Ok (givens.Head (heads.Object (object_from x.list t (start x i))))
-      headed lt = head_heard i p there.0 is lt ∙ ap (λ o. Ok (element_from x.list o (start x i) (start x (suc i)))) (some_is x.layout.type_number there.2)
+      headed lt = head_heard i p there.0 is lt ∙ ap (λ o. Ok (element_from x.list o (start x i) (start x (suc i)))) (is_there x.layout.type_number there.2)
 
       -- reading it where it begins says this
       reads : turns (width x) i + 3 * j + 1 ≡ r → (lt : turns (width x) i < r)

@@ -1,14 +1,13 @@
 -- Three plain lists, each the only attribute of a file: three integers of a byte to the file's end, the same by a count, and two items, each
 -- a byte and then as many bytes as it says.
-use Rattle.std.specs.Prelude.{◌≡◌, ℕ, zero, suc, ◌-◌, Bool, true, false, List, [], ◌∷◌, Option, Some, None}
-use Rattle.ksv_expr_tree.specs.Tree.{Constant, integer, literal, named, no_arguments}
+use Rattle.std.specs.Prelude.{◌≡◌, ℕ, zero, suc, ◌-◌, true, false, List, [], ◌∷◌, Option, Some, None}
+use Rattle.ksv_expr_tree.specs.Tree.{integer, literal, named, no_arguments}
 use Rattle.ksv_expr_value.specs.Places.{at_byte}
 use Rattle.ksv_expr_value.specs.Trail.{Trail, root, child}
 use Rattle.ksv_expr_value.specs.declared.step.Step.TheVariants as steps
 use Rattle.ksv_desc.specs.Description.{Description, MemberOfType, Field, Attribute, Content, Always, Repeat, Once, Eos, Expr, Extent, Sized, ByItself}
 use Rattle.ksv_desc.specs.Description as contents
 use Rattle.ksv_desc.specs.declared.order.ByteOrder.TheVariants.{Big}
-use Rattle.ksv_nodes.specs.declared.given.List as lists
 use Rattle.ksv_rule_meaning.specs.Wanted.{whole}
 use Rattle.ksv_list_laws.specs.Lists.{Layout, is_named_to, layout_of}
 use Rattle.ksv_list_laws.specs.Lists as layouts

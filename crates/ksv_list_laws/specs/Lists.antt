@@ -77,8 +77,11 @@ sizer_of name field zero = 0
 sizer_of name field (suc j) = elim (size_name (field (suc j)).choice (field (suc j)).extent) [ None ↦ sizer_of name field j | Some x ↦ place_of name x j ]
 
 -- the attribute of this number; where there is none it is no attribute
+abbrev pub no_attribute : Sought
+no_attribute = record { member = 0; before = None; kind = Parameter }
+
 abbrev pub found : Description → ℕ → ℕ → Sought
-found d t j = unwrap_or (sought (unwrap_or (slice_get (fields d t) j) 0) 0 None (members_of d t)) (record { member = 0; before = None; kind = Parameter })
+found d t j = unwrap_or (sought (unwrap_or (slice_get (fields d t) j) 0) 0 None (members_of d t)) no_attribute
 
 abbrev pub no_field : Field
 no_field = record { condition = None; repeat = Once; choice = Always contents.Bytes; extent = ByItself; terminator = None; valid = None }
