@@ -1,36 +1,22 @@
 -- Chains: nodes with ranks, of which each asks, first of all, a node that is answered, or one of them of a lower rank. If each says what it is
 -- to say where the lower ones answer what they are to, then all do from nothing.
-use Rattle.std.proofs.Common.{◌≡◌, ◌∙◌, ℕ, zero, suc, ◌<◌, ◌≤◌, Bool, true, false, cond, ◌||◌, List, [], ◌∷◌, Option, Some, None, Result, Ok, Err, ◌⊎◌, inl, inr, refl, sym, ap, subst, arith}
+-- ---- lists of nodes
+use Rattle.std.proofs.Common.{cond, Err}
 use Rattle.std.specs.Prelude.{nat_eq}
-use Rattle.std.specs.List.{AllByRecursion}
-use Rattle.std.proofs.lemmas.Bool.Decides.{nat_tests}
-use Rattle.ksv_basics.specs.Plan.{Answer, Fail, Ask}
-use Rattle.ksv_bytes.specs.declared.uses.Use.{Use}
-use Rattle.ksv_expr_value.specs.Trail.{Trail}
-use Rattle.ksv_desc.specs.Description.{Description}
-use Rattle.ksv_memo_rules.specs.Evaluation.{is_among}
-use Rattle.ksv_memo_rules.specs.Meaning.{on}
-use Rattle.ksv_memo_rules.specs.Right.{AreDistinct}
+use Rattle.ksv_basics.specs.Plan.{Fail}
 use Rattle.ksv_memo_rules.proofs.Evals.{AreDistinct-cons, eqb_true}
-use Rattle.ksv_memo_rules.proofs.Keeping.{AreDistinct-none}
 use Rattle.ksv_memo_rules.proofs.Lists.{All-map}
-use Rattle.ksv_nodes.specs.declared.node.Node.{Node}
-use Rattle.ksv_nodes.specs.declared.given.Given.{Given}
-use Rattle.ksv_nodes.specs.declared.node_fault.NodeFault.{NodeFault}
-use Rattle.ksv_nodes.specs.Numbers.{node_number, node_bound, node_number-one}
-use Rattle.ksv_nodes.specs.Reading.{Seen, look}
-use Rattle.ksv_nodes.specs.Rule.{Rule, Of, See}
+use Rattle.ksv_memo_rules.specs.Right.{AreDistinct}
+use Rattle.ksv_nodes.specs.Numbers.{node_bound, node_number-one}
+use Rattle.ksv_nodes.specs.Reading.{Seen}
+use Rattle.ksv_nodes.specs.Rule.{Of}
 use Rattle.ksv_nodes.specs.Truth.{answer_of, with_given, with_seen}
-use Rattle.ksv_rule_meaning.specs.Described.{described}
+use Rattle.ksv_rule_meaning.proofs.Direct.{answers_follow_rules}
 use Rattle.ksv_rule_meaning.specs.Direct.{IsFree}
 use Rattle.ksv_rule_meaning.specs.FromNothing.{circle, answer_within, from_nothing}
-use Rattle.ksv_rule_meaning.specs.Meaning.{rule_of}
-use Rattle.ksv_rule_meaning.proofs.Direct.{answers_follow_rules}
-use Rattle.ksv_list_laws.specs.Laws.{Tells}
+use Rattle.ksv_list_laws.proofs.Common.{◌≡◌, ◌∙◌, ℕ, zero, suc, ◌<◌, ◌≤◌, Bool, true, false, ◌||◌, List, [], ◌∷◌, Option, Some, None, Result, Ok, ◌⊎◌, inl, inr, refl, sym, ap, subst, arith, AllByRecursion, nat_tests, Answer, Ask, Use, Trail, Description, is_among, on, AreDistinct-none, Node, Given, NodeFault, node_number, look, Rule, See, described, rule_of, Tells}
 use Rattle.ksv_list_laws.proofs.Says.{Says}
 use Rattle.ksv_list_laws.proofs.Truth.{or_true, true_or}
-
--- ---- lists of nodes
 
 or_none : (b c : Bool) → (b ≡ true → ⊥) → c ≡ false → (b || c) ≡ false
 or_none true c never e = absurd (never refl)

@@ -1,33 +1,25 @@
 -- What a node tells is right for an engine to keep.
-use Rattle.std.proofs.Common.{◌≡◌, ◌≢◌, ◌∙◌, ℕ, ◌<◌, true, ◌||◌, List, [], ◌∷◌, ◌++◌, length, Result, Ok, Err, refl, sym, ap, subst, arith, Contains, get_or, AllPairs}
+use Rattle.std.proofs.Common.{◌≢◌, Err, Contains, get_or, AllPairs}
 use Rattle.std.proofs.lemmas.List.Elements.{recursion_from_All, Contains-get_or, Contains-append_right}
-use Rattle.std.specs.List.{AllByRecursion, flat_map, list_any}
 use mathlib.Core.Path.{fun_ext}
-use Rattle.ksv_bytes.specs.Uses.{is_use_touched}
-use Rattle.ksv_bytes.specs.declared.uses.Use.{Use}
 use Rattle.ksv_bytes.specs.declared.uses.Use.TheVariants.{Bytes}
-use Rattle.ksv_expr_value.specs.declared.fault.Fault.{Fault}
-use Rattle.ksv_desc.specs.Description.{Description}
-use Rattle.ksv_memo_rules.specs.declared.rules.Outcome.{Outcome}
-use Rattle.ksv_memo_rules.specs.declared.rules.Outcome.TheVariants.{Answered, Circle}
-use Rattle.ksv_memo_rules.specs.Evaluation.{IsAnswered, is_among, tells}
-use Rattle.ksv_memo_rules.specs.Meaning.{Standing, IsSettled, on}
-use Rattle.ksv_memo_rules.specs.Touched.{tree}
-use Rattle.ksv_memo_rules.specs.Touched as engines
-use Rattle.ksv_memo_rules.proofs.Keeping.{AreDistinct-none, kept-tree}
+use Rattle.ksv_memo_rules.proofs.Keeping.{kept-tree}
 use Rattle.ksv_memo_rules.proofs.Standing.{law_on}
 use Rattle.ksv_memo_rules.proofs.Standins.{asks-lower}
-use Rattle.ksv_nodes.specs.Numbers.{node_number}
-use Rattle.ksv_nodes.specs.declared.given.Given.{Given}
-use Rattle.ksv_nodes.specs.declared.node.Node.{Node}
-use Rattle.ksv_rule_meaning.specs.Described.{described}
-use Rattle.ksv_rule_meaning.specs.Direct.{flattened, AreSameUses}
-use Rattle.ksv_rule_meaning.specs.Lemmas.Lawful.{described_lawful}
+use Rattle.ksv_memo_rules.specs.Evaluation.{IsAnswered, tells}
+use Rattle.ksv_memo_rules.specs.Meaning.{IsSettled}
+use Rattle.ksv_memo_rules.specs.Touched.{tree}
+use Rattle.ksv_memo_rules.specs.Touched as engines
+use Rattle.ksv_memo_rules.specs.declared.rules.Outcome.{Outcome}
+use Rattle.ksv_memo_rules.specs.declared.rules.Outcome.TheVariants.{Answered, Circle}
 use Rattle.ksv_rule_meaning.proofs.Completing.{touch_direct}
 use Rattle.ksv_rule_meaning.proofs.Direct.{answers_are_direct, asks_are_direct}
-use Rattle.ksv_list_laws.specs.Laws.{Tells, IsSingle, EntriesAreRight}
+use Rattle.ksv_rule_meaning.specs.Direct.{flattened, AreSameUses}
+use Rattle.ksv_rule_meaning.specs.Lemmas.Lawful.{described_lawful}
+use Rattle.ksv_list_laws.proofs.Common.{◌≡◌, ◌∙◌, ℕ, ◌<◌, true, ◌||◌, List, [], ◌∷◌, ◌++◌, length, Result, Ok, refl, sym, ap, subst, arith, AllByRecursion, flat_map, list_any, is_use_touched, Use, Fault, Description, is_among, Standing, on, AreDistinct-none, node_number, Given, Node, described, Tells}
 use Rattle.ksv_list_laws.proofs.Trees.{touched_is}
 use Rattle.ksv_list_laws.proofs.Truth.{turned}
+use Rattle.ksv_list_laws.specs.Laws.{IsSingle, EntriesAreRight}
 
 outcome_is : (o : Outcome Node (Result Given Fault)) (g : Given) → flattened o ≡ Ok g → o ≡ Answered (Ok g)
 outcome_is (Answered a) g e = by a e

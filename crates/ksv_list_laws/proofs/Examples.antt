@@ -1,40 +1,29 @@
 -- The lists of the examples are plain: their heads answer them, and their elements are whole.
-use Rattle.std.proofs.Common.{◌≡◌, ◌∙◌, ℕ, zero, suc, ◌<◌, false, List, [], ◌∷◌, length, Some, None, Ok, refl, sym, ap, arith}
-use Rattle.ksv_basics.specs.Plan.{Answer, bind}
-use Rattle.ksv_bytes.specs.declared.uses.Use.{Use}
-use Rattle.ksv_expr_value.specs.Places.{at_byte}
-use Rattle.ksv_expr_value.specs.Trail.{Trail, root, child, trail_of-steps}
-use Rattle.ksv_expr_value.specs.declared.step.Step.TheVariants as steps
+-- the object at the root
+use Rattle.ksv_desc.specs.Description.{Attribute}
 use Rattle.ksv_expr_meaning.specs.Meaning.{value_of}
-use Rattle.ksv_desc.specs.Description.{Field, Attribute}
-use Rattle.ksv_memo_rules.specs.Meaning.{on}
+use Rattle.ksv_expr_value.specs.Trail.{root}
+use Rattle.ksv_expr_value.specs.declared.step.Step.TheVariants as steps
 use Rattle.ksv_memo_rules.proofs.Evals.{AreDistinct-cons}
-use Rattle.ksv_memo_rules.proofs.Keeping.{AreDistinct-none}
-use Rattle.ksv_nodes.specs.declared.node.Node.{Node}
-use Rattle.ksv_nodes.specs.declared.given.Given.{Given}
 use Rattle.ksv_nodes.specs.declared.given.Given.TheVariants as givens
-use Rattle.ksv_nodes.specs.declared.given.Object.{Object}
-use Rattle.ksv_nodes.specs.declared.given.ObjectEnd.TheVariants as endings
 use Rattle.ksv_nodes.specs.declared.given.Head.TheVariants as heads
 use Rattle.ksv_nodes.specs.declared.given.List as lists
-use Rattle.ksv_nodes.specs.Reading.{Done}
-use Rattle.ksv_nodes.specs.Rule.{Rule, head_node}
-use Rattle.ksv_rule_meaning.specs.Described.{described}
+use Rattle.ksv_nodes.specs.declared.given.Object.{Object}
+use Rattle.ksv_nodes.specs.declared.given.ObjectEnd.TheVariants as endings
+use Rattle.ksv_rule_meaning.proofs.Direct.{answers_follow_rules}
 use Rattle.ksv_rule_meaning.specs.Fields.{members_of, sought, member_named}
 use Rattle.ksv_rule_meaning.specs.FromNothing.{from_nothing}
-use Rattle.ksv_rule_meaning.specs.Heads.{root_head, head_of, member_head, member_at, attribute_head, attribute_start, attribute_at, repeated, until_eos, counted, count_of}
+use Rattle.ksv_rule_meaning.specs.Heads.{root_head, member_head, member_at, attribute_head, attribute_start, attribute_at, repeated, until_eos, counted, count_of}
 use Rattle.ksv_rule_meaning.specs.Integers.{integer_value}
-use Rattle.ksv_rule_meaning.specs.Meaning.{meaning_of, rule_of}
 use Rattle.ksv_rule_meaning.specs.Wanted.{whole, holds, size_of, integer_of, expression}
-use Rattle.ksv_rule_meaning.proofs.Direct.{answers_follow_rules}
-use Rattle.ksv_list_laws.specs.Lists as layouts
-use Rattle.ksv_list_laws.specs.Nodes.{IsWhole}
-use Rattle.ksv_list_laws.specs.Examples.{of_list, numbers, three, items, of_three, of_two, listing, NumbersArePlain, CountedArePlain, ItemsArePlain, ItemsAreNamed}
 use Rattle.ksv_list_laws.proofs.Chains.{none_among}
+use Rattle.ksv_list_laws.proofs.Common.{◌≡◌, ◌∙◌, ℕ, zero, suc, ◌<◌, false, List, [], ◌∷◌, length, Some, None, Ok, refl, sym, ap, arith, Answer, bind, Use, at_byte, Trail, child, trail_of-steps, Field, on, AreDistinct-none, Node, Given, Done, Rule, head_node, described, head_of, meaning_of, rule_of}
 use Rattle.ksv_list_laws.proofs.Fields.{member_rule}
 use Rattle.ksv_list_laws.proofs.Says.{Says, says_answer, says_given, says_by, says_seen, ends_there}
+use Rattle.ksv_list_laws.specs.Examples.{of_list, numbers, three, items, of_three, of_two, listing, NumbersArePlain, CountedArePlain, ItemsArePlain, ItemsAreNamed}
+use Rattle.ksv_list_laws.specs.Lists as layouts
+use Rattle.ksv_list_laws.specs.Nodes.{IsWhole}
 
--- the object at the root
 abbrev root_object : Object
 root_object = record { origin = None; type_number = 0; stream = whole; start = at_byte 0; ending = endings.ByFields }
 

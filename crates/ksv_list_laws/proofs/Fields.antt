@@ -1,58 +1,45 @@
 -- What the rules of an element's fields say, and of the value that says the size of some; and how an element is read.
-use Rattle.std.proofs.Common.{◌≡◌, ◌∙◌, ℕ, suc, ◌+◌, ◌<◌, ◌≤◌, nat_lt, nat_le, true, false, if◌then◌else◌, List, [], ◌∷◌, length, Some, None, Result, Ok, refl, sym, ap, arith}
-use Rattle.std.proofs.lemmas.Bool.Decides.{nat_tests}
+-- ---- what is read at a place
 use Rattle.std.specs.Prelude.{◌==◌, pos, slice_range}
-use Rattle.ksv_basics.specs.Plan.{Answer, Ask, bind, translate}
-use Rattle.ksv_bytes.specs.declared.uses.Use.{Use}
+use Rattle.ksv_basics.specs.Plan.{translate}
 use Rattle.ksv_bytes.specs.declared.uses.Use.TheVariants as uses_are
+use Rattle.ksv_desc.specs.Description.{Extent, Sized, ByItself, MemberKind, valid_of}
+use Rattle.ksv_desc.specs.Description as contents
+use Rattle.ksv_expr_meaning.specs.Asked.{value_for, in_value as asked_value}
+use Rattle.ksv_expr_meaning.specs.Heard.{Valued}
+use Rattle.ksv_expr_meaning.specs.Meaning.{member_value, member_path, value_of as expression_value, in_path as path_in}
+use Rattle.ksv_expr_meaning.specs.declared.want.Want.TheVariants as wants
 use Rattle.ksv_expr_tree.specs.Tree.{Tree, Word, named}
-use Rattle.ksv_expr_value.proofs.Places.{byte_of_byte}
-use Rattle.ksv_expr_value.specs.Places.{Place, at_byte, byte_of, aligned}
+use Rattle.ksv_expr_value.specs.Places.{Place, byte_of, aligned}
 use Rattle.ksv_expr_value.specs.Setting.{Setting}
-use Rattle.ksv_expr_value.specs.Trail.{Trail, child, last}
+use Rattle.ksv_expr_value.specs.Trail.{last}
 use Rattle.ksv_expr_value.specs.declared.step.Step.TheVariants as steps
-use Rattle.ksv_expr_value.specs.declared.value.Stream.{Stream}
 use Rattle.ksv_expr_value.specs.declared.value.Value.{Value}
 use Rattle.ksv_expr_value.specs.declared.value.Value.TheVariants as values
-use Rattle.ksv_expr_meaning.specs.declared.want.Want.TheVariants as wants
-use Rattle.ksv_expr_meaning.specs.Heard.{Valued}
-use Rattle.ksv_expr_meaning.specs.Asked.{value_for}
-use Rattle.ksv_expr_meaning.specs.Asked.{in_value as asked_value}
-use Rattle.ksv_expr_meaning.specs.Meaning.{member_value, member_path}
-use Rattle.ksv_expr_meaning.specs.Meaning.{value_of as expression_value}
-use Rattle.ksv_expr_meaning.specs.Meaning.{in_path as path_in}
-use Rattle.ksv_desc.specs.Description.{Description, Field, Content, Choice, Always, Extent, Sized, ByItself, MemberKind, valid_of}
-use Rattle.ksv_desc.specs.Description as contents
-use Rattle.ksv_nodes.specs.declared.node.Node.{Node}
-use Rattle.ksv_nodes.specs.declared.node_fault.NodeFault.{NodeFault}
-use Rattle.ksv_nodes.specs.declared.given.Given.{Given}
+use Rattle.ksv_nodes.specs.Reading.{Peek, gives, peek_at}
+use Rattle.ksv_nodes.specs.Rule.{Here, value_node, ask_head, ask_value}
 use Rattle.ksv_nodes.specs.declared.given.Given.TheVariants as givens
-use Rattle.ksv_nodes.specs.declared.given.Head.{Head}
 use Rattle.ksv_nodes.specs.declared.given.Head.TheVariants as heads
 use Rattle.ksv_nodes.specs.declared.given.Leaf.{Leaf}
-use Rattle.ksv_nodes.specs.declared.given.Object.{Object}
 use Rattle.ksv_nodes.specs.declared.given.List as lists
+use Rattle.ksv_nodes.specs.declared.given.Object.{Object}
 use Rattle.ksv_nodes.specs.declared.given.Origin.{Origin}
-use Rattle.ksv_nodes.specs.Reading.{Peek, look, gives, end_in, peek_at}
-use Rattle.ksv_nodes.specs.Rule.{Rule, See, Here, head_node, value_node, end_node, in_path, ask_head, ask_end, ask_value}
-use Rattle.ksv_rule_meaning.specs.Choosing.{choose, content_of}
 use Rattle.ksv_rule_meaning.specs.Checks.{value_checked, member_checked, checked_if}
+use Rattle.ksv_rule_meaning.specs.Choosing.{choose, content_of}
 use Rattle.ksv_rule_meaning.specs.Ends.{place_of, end_at, end_of}
-use Rattle.ksv_rule_meaning.specs.Fields.{in_sought, in_field, member_named, field_of}
-use Rattle.ksv_rule_meaning.specs.Heads.{leaf, content_at, chosen_at, shape_at, bytes_at, sized_leaf, part_end, is_of_bits, start_after, attribute_start, attribute_setting, member_setting, origin_of, attribute_head, attribute_at, repeated, member_at, member_head, head_at, head_of}
-use Rattle.ksv_rule_meaning.specs.Meaning.{meaning_of, rule_of}
+use Rattle.ksv_rule_meaning.specs.Fields.{in_sought, in_field, member_named}
+use Rattle.ksv_rule_meaning.specs.Heads.{content_at, chosen_at, bytes_at, sized_leaf, is_of_bits, start_after, attribute_start, attribute_setting, member_setting, origin_of, attribute_head, attribute_at, repeated, member_at, member_head, head_at}
 use Rattle.ksv_rule_meaning.specs.Values.{value_of, value_at, leaf_value, content_value, number_value, number_in}
 use Rattle.ksv_rule_meaning.specs.Wanted.{holds, wanted, expression, integer_of, in_integer, size_of, in_size}
-use Rattle.ksv_list_laws.specs.Lists.{Layout, content_size, before}
-use Rattle.ksv_list_laws.specs.Nodes.{object_from, sought_at, leaf_from, integer_in}
 use Rattle.ksv_list_laws.proofs.Chains.{AsksFirst}
+use Rattle.ksv_list_laws.proofs.Common.{◌≡◌, ◌∙◌, ℕ, suc, ◌+◌, ◌<◌, ◌≤◌, nat_lt, nat_le, true, false, if◌then◌else◌, List, [], ◌∷◌, length, Some, None, Result, Ok, refl, sym, ap, arith, nat_tests, Answer, Ask, bind, Use, byte_of_byte, at_byte, Trail, child, Stream, Description, Field, Content, Choice, Always, Node, NodeFault, Given, Head, look, end_in, Rule, See, head_node, end_node, in_path, ask_end, field_of, leaf, shape_at, part_end, head_of, meaning_of, rule_of, Layout, content_size}
 use Rattle.ksv_list_laws.proofs.Paths.{part_of}
 use Rattle.ksv_list_laws.proofs.Plain.{IsNumber, IsNamed, IsLaidOut}
 use Rattle.ksv_list_laws.proofs.Rules.{leaf_says}
 use Rattle.ksv_list_laws.proofs.Says.{Says, says_answer, says_given, says_seen, says_by}
 use Rattle.ksv_list_laws.proofs.Truth.{some_is}
-
--- ---- what is read at a place
+use Rattle.ksv_list_laws.specs.Lists.{before}
+use Rattle.ksv_list_laws.specs.Nodes.{object_from, sought_at, leaf_from, integer_in}
 
 content_is : (at : Setting) (origin : Origin) (w : Stream) (s : Place) (f : Field) (c : Content) (n : ℕ) → content_size c ≡ Some n → content_at at origin w s f c ≡ leaf origin w s n
 unfolding content_at

@@ -1,32 +1,20 @@
 -- An entry with a node's guard and the farthest place to which it reads stands in for the node.
-use Rattle.std.proofs.Common.{◌≡◌, ◌∙◌, ℕ, zero, suc, ◌+◌, ◌<◌, ◌≤◌, nat_lt, Bool, true, false, if◌then◌else◌, ◌||◌, List, [], ◌∷◌, length, length-append, Option, Some, None, Result, ◌⊎◌, inl, inr, refl, sym, ap, subst, arith, Contains}
+-- ---- uses that are places
+use Rattle.std.proofs.Common.{length-append, Contains}
 use Rattle.std.proofs.lemmas.List.Elements.{All-from_recursion, All-contains, Contains-get_or, Contains-append_left, Contains-append_right}
-use Rattle.std.specs.List.{AllByRecursion, flat_map, list_any}
-use Rattle.ksv_bytes.specs.Uses.{is_use_touched}
-use Rattle.ksv_bytes.specs.declared.uses.Use.{Use}
 use Rattle.ksv_bytes.specs.declared.uses.Use.TheVariants as uses_are
-use Rattle.ksv_expr_value.specs.declared.fault.Fault.{Fault}
-use Rattle.ksv_desc.specs.Description.{Description}
-use Rattle.ksv_memo_rules.specs.Evaluation.{is_among, tells}
-use Rattle.ksv_memo_rules.specs.Meaning.{Standing, on}
-use Rattle.ksv_memo_rules.specs.Slots.{with_first}
+use Rattle.ksv_memo_rules.specs.Evaluation.{tells}
 use Rattle.ksv_memo_rules.specs.Touched.{tree}
 use Rattle.ksv_memo_rules.specs.Touched as engines
-use Rattle.ksv_nodes.specs.Numbers.{node_number}
-use Rattle.ksv_nodes.specs.declared.given.Given.{Given}
-use Rattle.ksv_nodes.specs.declared.node.Node.{Node}
-use Rattle.ksv_rule_meaning.specs.Described.{described}
 use Rattle.ksv_rule_meaning.proofs.Completing.{touch_direct}
-use Rattle.ksv_list_laws.specs.Lists.{is_named_to}
-use Rattle.ksv_list_laws.specs.Nodes.{Listing, start, Which, ElementHead, ElementEnd, Rest, FieldHead, FieldEnd, SizeValue, node_at, nodes_of, end_uses, answer_at, asked_by, element_uses, uses_at, prior_guard, guard_of, end_reach, prior_reach, element_reach, reach_of, IsPlain, IsThere}
-use Rattle.ksv_list_laws.specs.Laws.{guard_node, IsSingle, is_folded, FoldedStandIn}
+use Rattle.ksv_list_laws.proofs.Common.{◌≡◌, ◌∙◌, ℕ, zero, suc, ◌+◌, ◌<◌, ◌≤◌, nat_lt, Bool, true, false, if◌then◌else◌, ◌||◌, List, [], ◌∷◌, length, Option, Some, None, Result, ◌⊎◌, inl, inr, refl, sym, ap, subst, arith, AllByRecursion, flat_map, list_any, is_use_touched, Use, Fault, Description, is_among, Standing, on, with_first, node_number, Given, Node, described, is_named_to, Listing, start, Which, ElementHead, ElementEnd, Rest, FieldHead, FieldEnd, SizeValue, node_at, nodes_of, end_uses, asked_by, element_uses, uses_at, prior_guard, guard_of, end_reach, prior_reach, element_reach, reach_of, IsPlain, IsThere}
 use Rattle.ksv_list_laws.proofs.Entries.{Known, known, single_once}
 use Rattle.ksv_list_laws.proofs.Guards.{guards_tell}
 use Rattle.ksv_list_laws.proofs.Rising.{AnyOf, Rises, guard_rises, reach_rises}
 use Rattle.ksv_list_laws.proofs.Telling.{node_is}
 use Rattle.ksv_list_laws.proofs.Telling as telling
-
--- ---- uses that are places
+use Rattle.ksv_list_laws.specs.Laws.{guard_node, IsSingle, is_folded, FoldedStandIn}
+use Rattle.ksv_list_laws.specs.Nodes.{answer_at}
 
 abbrev IsPlace : Use → Type 0
 IsPlace (uses_are.Bytes from to) = ⊥

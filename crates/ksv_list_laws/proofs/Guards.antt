@@ -1,31 +1,19 @@
 -- A change touches the tree of a node just where it touches that of its guard, or the farthest place to which the node reads.
-use Rattle.std.proofs.Common.{◌≡◌, ◌∙◌, ℕ, zero, suc, ◌+◌, ◌-◌, ◌<◌, ◌≤◌, nat_lt, nat_le, Bool, true, false, if◌then◌else◌, ◌||◌, List, [], ◌∷◌, length, Option, Some, None, ◌⊎◌, inl, inr, refl, sym, ap, subst, arith}
-use Rattle.std.proofs.lemmas.Bool.Decides.{nat_tests}
-use Rattle.std.specs.List.{list_any}
-use Rattle.std.specs.Prelude.{is_some}
-use Rattle.ksv_bytes.specs.Uses.{is_use_touched}
+-- ---- changes
+-- a change that touches a place touches each further one, and the size
 use Rattle.ksv_bytes.specs.declared.uses.Change.{Change}
 use Rattle.ksv_bytes.specs.declared.uses.Change.TheVariants.{Overwrite, Insert, Delete, Append}
-use Rattle.ksv_bytes.specs.declared.uses.Use.{Use}
 use Rattle.ksv_bytes.specs.declared.uses.Use.TheVariants as uses_are
-use Rattle.ksv_desc.specs.Description.{Description}
-use Rattle.ksv_memo_rules.specs.Slots.{with_first}
-use Rattle.ksv_nodes.specs.Reading.{end_in}
-use Rattle.ksv_nodes.specs.Rule.{head_node}
-use Rattle.ksv_nodes.specs.declared.node.Node.{Node}
 use Rattle.ksv_rule_meaning.specs.Kept.{is_touched}
-use Rattle.ksv_list_laws.specs.Lists.{size_at, is_named_to}
-use Rattle.ksv_list_laws.specs.Nodes.{Listing, start, place, Which, ElementHead, ElementEnd, Rest, FieldHead, FieldEnd, SizeValue, node_at, nodes_of, end_uses, is_last, size_asked, last_asked, later_asked, asked_by, element_uses, uses_at, prior_guard, field_guard, guard_of, end_reach, prior_reach, element_reach, reach_of, IsPlain, IsThere}
-use Rattle.ksv_list_laws.specs.Laws.{guard_node, GuardsTell}
+use Rattle.ksv_list_laws.proofs.Common.{◌≡◌, ◌∙◌, ℕ, zero, suc, ◌+◌, ◌-◌, ◌<◌, ◌≤◌, nat_lt, nat_le, Bool, true, false, if◌then◌else◌, ◌||◌, List, [], ◌∷◌, length, Option, Some, None, ◌⊎◌, inl, inr, refl, sym, ap, subst, arith, nat_tests, list_any, is_some, is_use_touched, Use, Description, with_first, end_in, head_node, Node, size_at, is_named_to, Listing, start, Which, ElementHead, ElementEnd, Rest, FieldHead, FieldEnd, SizeValue, node_at, nodes_of, end_uses, size_asked, last_asked, later_asked, asked_by, element_uses, uses_at, prior_guard, guard_of, end_reach, prior_reach, element_reach, reach_of, IsPlain, IsThere}
 use Rattle.ksv_list_laws.proofs.Places.{first_some}
 use Rattle.ksv_list_laws.proofs.Rising.{AnyOf, Rises, none_named, head_value, head_guard, end_later, guard_rises, reach_rises}
 use Rattle.ksv_list_laws.proofs.Telling.{first_size, start_less, field_room, named_more, named_here, tells, node_is}
 use Rattle.ksv_list_laws.proofs.Trees.{touched_is}
 use Rattle.ksv_list_laws.proofs.Truth.{or_true, true_or, same_truth}
+use Rattle.ksv_list_laws.specs.Laws.{guard_node, GuardsTell}
+use Rattle.ksv_list_laws.specs.Nodes.{place, is_last, field_guard}
 
--- ---- changes
-
--- a change that touches a place touches each further one, and the size
 reach_more : (change : Change) (a b : ℕ) → a ≤ b → is_use_touched change (uses_are.Reach a) ≡ true → is_use_touched change (uses_are.Reach b) ≡ true
 reach_more (Overwrite at n) a b le h = absurd (cc)
 reach_more (Insert at n) a b le h = grind (arith, nat_tests)

@@ -1,4 +1,5 @@
 -- The lemmas of this crate.
+pub mod Common
 pub mod Truth
 pub mod Says
 pub mod Chains

@@ -1,18 +1,12 @@
 -- Where elements and fields begin, in order; and the ranks of nodes.
-use Rattle.std.proofs.Common.{◌≡◌, ◌∙◌, ℕ, zero, suc, ◌+◌, ◌*◌, ◌-◌, ◌==◌, ◌<◌, ◌≤◌, Bool, true, false, if◌then◌else◌, List, ◌∷◌, Some, inl, inr, refl, sym, ap, arith}
-use Rattle.std.proofs.lemmas.Bool.Decides.{nat_tests}
-use Rattle.std.proofs.lemmas.Bool.{cases_lt}
-use Rattle.std.specs.Prelude.{unwrap_or}
-use Rattle.ksv_expr_value.specs.Trail.{Trail, child, trail_of-steps}
-use Rattle.ksv_expr_value.specs.declared.step.Step.{Step}
+-- ---- places
+use Rattle.std.proofs.Common.{◌*◌, ◌==◌}
 use Rattle.ksv_expr_value.specs.declared.step.Step.TheVariants as steps
-use Rattle.ksv_nodes.specs.declared.node.Node.{Node}
 use Rattle.ksv_nodes.specs.declared.node.NodeKind.{NodeKind}
 use Rattle.ksv_nodes.specs.declared.node.NodeKind.TheVariants as nodes
-use Rattle.ksv_list_laws.specs.Lists.{Layout, place_of, size_at}
-use Rattle.ksv_list_laws.specs.Nodes.{Listing, field_start}
-
--- ---- places
+use Rattle.ksv_list_laws.proofs.Common.{◌≡◌, ◌∙◌, ℕ, zero, suc, ◌+◌, ◌-◌, ◌<◌, ◌≤◌, Bool, true, false, if◌then◌else◌, List, ◌∷◌, Some, inl, inr, refl, sym, ap, arith, nat_tests, cases_lt, unwrap_or, Trail, child, trail_of-steps, Step, Node, Layout, size_at, Listing}
+use Rattle.ksv_list_laws.specs.Lists.{place_of}
+use Rattle.ksv_list_laws.specs.Nodes.{field_start}
 
 pub field_low : (y : Layout) (n a j k : ℕ) → j ≤ k → field_start y n a j ≤ field_start y n a k
 field_low y n a j zero le = let same : j ≡ 0 = omega (arith, le) in let e : field_start y n a j ≡ field_start y n a 0 = ap (field_start y n a) same in omega (arith, e)

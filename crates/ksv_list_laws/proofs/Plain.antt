@@ -1,23 +1,20 @@
 -- What the test of a plain list says: how its elements are read, and their fields.
-use Rattle.std.proofs.Common.{◌≡◌, ◌∙◌, ℕ, zero, suc, ◌+◌, ◌<◌, ◌≤◌, ◌^◌, nat_lt, ◌==◌, Bool, true, false, ◌&&◌, if◌then◌else◌, List, [], ◌∷◌, Option, Some, None, inl, inr, refl, sym, ap, subst, arith}
-use Rattle.std.proofs.lemmas.Bool.Decides.{nat_tests}
-use Rattle.std.proofs.lemmas.Bool.{cases_lt}
+-- ---- what there is to know of fields
+-- an integer, which has no `valid`
+use Rattle.std.proofs.Common.{◌^◌, ◌==◌, ◌&&◌}
 use Rattle.std.specs.Cmp.{first_so, second_so}
-use Rattle.std.specs.Prelude.{is_some, unwrap_or, slice_get, option_and_then}
-use Rattle.ksv_basics.specs.Plan.{Answer}
-use Rattle.ksv_expr_tree.specs.Tree.{Arguments, Word, named}
-use Rattle.ksv_desc.specs.Description.{Description, MemberOfType, MemberKind, Parameter, Attribute, ParseInstance, ValueInstance, Field, Content, Choice, Always, Switch, Extent, Sized, SizeEos, ByItself, Repeat, Once, Eos, Expr, Until, field_in, field_at}
+use Rattle.std.specs.Prelude.{slice_get}
+use Rattle.ksv_desc.specs.Description.{MemberOfType, MemberKind, Parameter, Attribute, ParseInstance, ValueInstance, Switch, Extent, Sized, SizeEos, ByItself, Repeat, Once, Eos, Expr, Until, field_in, field_at}
 use Rattle.ksv_desc.specs.Description as contents
 use Rattle.ksv_desc.specs.declared.order.ByteOrder.{ByteOrder}
+use Rattle.ksv_expr_tree.specs.Tree.{Arguments, Word, named}
 use Rattle.ksv_nodes.specs.declared.given.List as lists
-use Rattle.ksv_rule_meaning.specs.Fields.{Sought, members_of, behind, sought, is_attribute, last_attribute, in_field, field_of, in_kind, kind_of}
-use Rattle.ksv_list_laws.specs.Lists.{Layout, no_attribute, content_size, choice_size, extent_name, size_name, is_integer, size_at, before, whole, found, no_field, layout_of, same_name, is_once, is_sized, is_alone, is_in_order, is_plain_field, all_to, is_plain_type, repeats, object_layout, whole_layout, content_layout, field_layout, list_layout}
-use Rattle.ksv_list_laws.specs.Nodes.{sought_at}
+use Rattle.ksv_rule_meaning.specs.Fields.{Sought, members_of, behind, sought, is_attribute, last_attribute, in_field, in_kind, kind_of}
+use Rattle.ksv_list_laws.proofs.Common.{◌≡◌, ◌∙◌, ℕ, zero, suc, ◌+◌, ◌<◌, ◌≤◌, nat_lt, Bool, true, false, if◌then◌else◌, List, [], ◌∷◌, Option, Some, None, inl, inr, refl, sym, ap, subst, arith, nat_tests, cases_lt, is_some, unwrap_or, option_and_then, Answer, Description, Field, Content, Choice, Always, field_of, Layout, content_size, size_at}
 use Rattle.ksv_list_laws.proofs.Truth.{none_is, some_is}
+use Rattle.ksv_list_laws.specs.Lists.{no_attribute, choice_size, extent_name, size_name, is_integer, before, whole, found, no_field, layout_of, same_name, is_once, is_sized, is_alone, is_in_order, is_plain_field, all_to, is_plain_type, repeats, object_layout, whole_layout, content_layout, field_layout, list_layout}
+use Rattle.ksv_list_laws.specs.Nodes.{sought_at}
 
--- ---- what there is to know of fields
-
--- an integer, which has no `valid`
 pub record IsNumber (f : Field) : Type 0 where
   pub is_signed : Bool
   pub size : ℕ

@@ -1,17 +1,13 @@
 -- What is so of a node where it is so of one that it asks: then it is so of a node where it is so of its guard, or where a node makes its use.
-use Rattle.std.proofs.Common.{◌≡◌, ◌∙◌, ℕ, zero, suc, ◌+◌, ◌-◌, ◌<◌, nat_le, Bool, true, false, not, if◌then◌else◌, ◌||◌, List, [], ◌∷◌, Option, Some, None, ◌⊎◌, inl, inr, refl, sym, ap, subst, arith}
-use Rattle.std.proofs.lemmas.Bool.Decides.{nat_tests}
-use Rattle.std.specs.Prelude.{is_some}
-use Rattle.ksv_bytes.specs.declared.uses.Use.{Use}
+-- this is so of one of some
+use Rattle.std.proofs.Common.{not}
 use Rattle.ksv_bytes.specs.declared.uses.Use.TheVariants as uses_are
-use Rattle.ksv_desc.specs.Description.{Description}
-use Rattle.ksv_list_laws.specs.Lists.{size_at, is_named_to}
-use Rattle.ksv_list_laws.specs.Nodes.{Listing, start, Which, ElementHead, ElementEnd, Rest, FieldHead, FieldEnd, SizeValue, end_uses, is_last, size_asked, last_asked, later_asked, asked_by, element_uses, uses_at, prior_guard, field_guard, guard_of, end_reach, prior_reach, element_reach, reach_of, IsPlain, IsField, IsThere}
+use Rattle.ksv_list_laws.proofs.Common.{◌≡◌, ◌∙◌, ℕ, zero, suc, ◌+◌, ◌-◌, ◌<◌, nat_le, Bool, true, false, if◌then◌else◌, ◌||◌, List, [], ◌∷◌, Option, Some, None, ◌⊎◌, inl, inr, refl, sym, ap, subst, arith, nat_tests, is_some, Use, Description, size_at, is_named_to, Listing, start, Which, ElementHead, ElementEnd, Rest, FieldHead, FieldEnd, SizeValue, end_uses, size_asked, last_asked, later_asked, asked_by, element_uses, uses_at, prior_guard, guard_of, end_reach, prior_reach, element_reach, reach_of, IsPlain, IsThere}
 use Rattle.ksv_list_laws.proofs.Plain.{IsElementOf, IsRead}
 use Rattle.ksv_list_laws.proofs.Telling.{read, first_size, sizer_low}
 use Rattle.ksv_list_laws.proofs.Truth.{none_is}
+use Rattle.ksv_list_laws.specs.Nodes.{is_last, field_guard, IsField}
 
--- this is so of one of some
 abbrev pub AnyOf : {A : Type 0} → (A → Type 0) → List A → Type 0
 AnyOf Q [] = ⊥
 AnyOf Q (a ∷ xs) = Q a ⊎ AnyOf Q xs

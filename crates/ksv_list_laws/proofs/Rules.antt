@@ -1,39 +1,28 @@
 -- What the rules of a list's elements and rests say: where each begins, where it ends, and how many are behind it.
-use Rattle.std.proofs.Common.{◌≡◌, ◌∙◌, ℕ, suc, ◌+◌, ◌-◌, ◌==◌, ◌<◌, ◌≤◌, nat_le, true, false, if◌then◌else◌, ◌||◌, List, [], ◌∷◌, length, Option, Some, None, Result, Ok, refl, ap, arith}
-use Rattle.std.proofs.lemmas.Bool.Decides.{nat_tests}
-use Rattle.ksv_basics.specs.Plan.{Answer, Ask, bind}
-use Rattle.ksv_bytes.specs.declared.uses.Use.{Use}
+-- ---- the rules of an element's head, end and rest
+use Rattle.std.proofs.Common.{◌==◌}
 use Rattle.ksv_bytes.specs.declared.uses.Use.TheVariants as uses_are
-use Rattle.ksv_expr_value.proofs.Places.{byte_of_byte}
-use Rattle.ksv_expr_value.specs.Places.{Place, at_byte, is_same}
-use Rattle.ksv_expr_value.specs.Trail.{Trail, element_limit, child, parent}
+use Rattle.ksv_desc.specs.Description.{Repeat, Once, Eos, Expr, Until}
+use Rattle.ksv_expr_value.specs.Places.{Place, is_same}
+use Rattle.ksv_expr_value.specs.Trail.{element_limit}
 use Rattle.ksv_expr_value.specs.declared.fault.FaultKind.TheVariants as kinds
 use Rattle.ksv_expr_value.specs.declared.step.Step.TheVariants as steps
-use Rattle.ksv_expr_value.specs.declared.value.Stream.{Stream}
-use Rattle.ksv_desc.specs.Description.{Description, Field, Repeat, Once, Eos, Expr, Until}
-use Rattle.ksv_nodes.specs.declared.node.Node.{Node}
-use Rattle.ksv_nodes.specs.declared.node_fault.NodeFault.{NodeFault}
-use Rattle.ksv_nodes.specs.declared.given.Given.{Given}
+use Rattle.ksv_nodes.specs.Reading.{Reach}
+use Rattle.ksv_nodes.specs.Rule.{rest_node, raise, ask_head, ask_rest}
+use Rattle.ksv_nodes.specs.declared.given.Ended.{Ended}
 use Rattle.ksv_nodes.specs.declared.given.Given.TheVariants as givens
-use Rattle.ksv_nodes.specs.declared.given.Head.{Head}
 use Rattle.ksv_nodes.specs.declared.given.Head.TheVariants as heads
 use Rattle.ksv_nodes.specs.declared.given.List as lists
 use Rattle.ksv_nodes.specs.declared.given.Origin.{Origin}
-use Rattle.ksv_nodes.specs.declared.given.Ended.{Ended}
 use Rattle.ksv_nodes.specs.declared.given.Rested.{Rested}
-use Rattle.ksv_nodes.specs.Reading.{Reach, Done, end_in}
-use Rattle.ksv_nodes.specs.Rule.{Rule, See, head_node, end_node, rest_node, raise, in_path, ask_head, ask_end, ask_rest}
-use Rattle.ksv_rule_meaning.specs.Fields.{field_of}
-use Rattle.ksv_rule_meaning.specs.Heads.{leaf, shape_at, part_end, in_next, is_past, next_start, element_start, element_head, element_setting, head_at, head_of}
 use Rattle.ksv_rule_meaning.specs.Ends.{place_of, start_of, not_empty, is_counted, is_last, element_end, end_at, end_of, part_rest, next_rest, rest_from, whole_rest, rest_at, rest_of}
-use Rattle.ksv_rule_meaning.specs.Meaning.{meaning_of, rule_of}
-use Rattle.ksv_list_laws.specs.Lists.{repeats}
-use Rattle.ksv_list_laws.specs.Nodes.{is_last_at, end_uses}
+use Rattle.ksv_rule_meaning.specs.Heads.{in_next, is_past, next_start, element_start, element_head, element_setting, head_at}
 use Rattle.ksv_list_laws.proofs.Chains.{AsksFirst}
+use Rattle.ksv_list_laws.proofs.Common.{◌≡◌, ◌∙◌, ℕ, suc, ◌+◌, ◌-◌, ◌<◌, ◌≤◌, nat_le, true, false, if◌then◌else◌, ◌||◌, List, [], ◌∷◌, length, Option, Some, None, Result, Ok, refl, ap, arith, nat_tests, Answer, Ask, bind, Use, byte_of_byte, at_byte, Trail, child, parent, Stream, Description, Field, Node, NodeFault, Given, Head, Done, end_in, Rule, See, head_node, end_node, in_path, ask_end, field_of, leaf, shape_at, part_end, head_of, meaning_of, rule_of, end_uses}
 use Rattle.ksv_list_laws.proofs.Paths.{part_of}
 use Rattle.ksv_list_laws.proofs.Says.{Says, says_answer, says_given, says_seen, says_by, reaches, ends_there}
-
--- ---- the rules of an element's head, end and rest
+use Rattle.ksv_list_laws.specs.Lists.{repeats}
+use Rattle.ksv_list_laws.specs.Nodes.{is_last_at}
 
 pub head_rule : (d : Description) (l p : Trail) (i : ℕ) → child l (steps.Index i) ≡ Some p → rule_of d (head_node p) ≡ bind (element_head d p l (parent l) i) (λ h. Answer (givens.Head h))
 unfolding rule_of meaning_of head_of

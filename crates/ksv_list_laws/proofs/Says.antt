@@ -1,18 +1,11 @@
 -- What rules say where the nodes that they ask have known answers.
-use Rattle.std.proofs.Common.{◌≡◌, ◌∙◌, ℕ, ◌+◌, ◌≤◌, nat_lt, nat_le, Bool, true, false, if◌then◌else◌, List, [], ◌∷◌, ◌++◌, length, Option, Some, None, Result, Ok, refl, sym, ap, subst, arith, append-nil}
-use Rattle.std.proofs.lemmas.Bool.Decides.{nat_tests}
-use Rattle.ksv_basics.specs.Plan.{Answer, Ask}
-use Rattle.ksv_bytes.specs.declared.uses.Use.{Use}
+use Rattle.std.proofs.Common.{append-nil}
 use Rattle.ksv_bytes.specs.declared.uses.Use.TheVariants as uses_are
-use Rattle.ksv_expr_value.specs.Places.{at_byte, byte_in}
-use Rattle.ksv_expr_value.specs.Trail.{Trail}
-use Rattle.ksv_expr_value.specs.declared.value.Stream.{Stream}
-use Rattle.ksv_nodes.specs.declared.node.Node.{Node}
-use Rattle.ksv_nodes.specs.declared.given.Given.{Given}
-use Rattle.ksv_nodes.specs.declared.node_fault.NodeFault.{NodeFault}
-use Rattle.ksv_nodes.specs.Reading.{Reading, Reach, Done, Seen, Look, look, gives, ends_before, end_in, reach_file, reach_within, done_at}
-use Rattle.ksv_nodes.specs.Rule.{Rule, Of, See}
+use Rattle.ksv_expr_value.specs.Places.{byte_in}
+use Rattle.ksv_nodes.specs.Reading.{Reading, Reach, Seen, Look, gives, ends_before, reach_file, reach_within, done_at}
+use Rattle.ksv_nodes.specs.Rule.{Of}
 use Rattle.ksv_nodes.specs.Truth.{answer_of, asks_of, uses_of, with_given, with_seen, behind_given, behind_seen}
+use Rattle.ksv_list_laws.proofs.Common.{◌≡◌, ◌∙◌, ℕ, ◌+◌, ◌≤◌, nat_lt, nat_le, Bool, true, false, if◌then◌else◌, List, [], ◌∷◌, ◌++◌, length, Option, Some, None, Result, Ok, refl, sym, ap, subst, arith, nat_tests, Answer, Ask, Use, at_byte, Trail, Stream, Node, Given, NodeFault, Done, look, end_in, Rule, See}
 use Rattle.ksv_list_laws.specs.Nodes.{stream_uses}
 
 module _ (met : Node → Result Given NodeFault) (here : Trail) (bytes : List ℕ) where

@@ -1,36 +1,20 @@
 -- The nodes of a plain list are a chain.
-use Rattle.std.proofs.Common.{◌≡◌, ◌∙◌, ℕ, zero, suc, ◌+◌, ◌-◌, ◌*◌, ◌<◌, ◌≤◌, nat_le, Bool, true, false, not, if◌then◌else◌, ◌||◌, List, [], ◌∷◌, length, Option, Some, None, Result, Ok, ◌⊎◌, inl, inr, refl, sym, ap, subst, arith}
-use Rattle.std.proofs.lemmas.Bool.Decides.{nat_tests}
-use Rattle.std.proofs.lemmas.Bool.{cases_lt}
-use Rattle.std.specs.Prelude.{is_some, option_map, option_and_then, unwrap_or}
-use Rattle.ksv_basics.specs.Plan.{Answer, bind}
-use Rattle.ksv_expr_value.proofs.Places.{byte_of_byte}
-use Rattle.ksv_expr_value.specs.Places.{at_byte, aligned}
-use Rattle.ksv_expr_value.specs.Trail.{Trail, child, parent, trail_of-steps}
-use Rattle.ksv_expr_value.specs.declared.step.Step.{Step}
-use Rattle.ksv_expr_value.specs.declared.step.Step.TheVariants as steps
-use Rattle.ksv_desc.specs.Description.{Description, Field, Content, Choice, Always}
+-- ---- kinds and lengths
+use Rattle.std.proofs.Common.{◌*◌, not}
+use Rattle.std.specs.Prelude.{option_map}
 use Rattle.ksv_desc.specs.Description as contents
-use Rattle.ksv_memo_rules.specs.Slots.{with_first}
-use Rattle.ksv_nodes.specs.declared.node.Node.{Node}
+use Rattle.ksv_expr_value.specs.Places.{aligned}
+use Rattle.ksv_expr_value.specs.declared.step.Step.TheVariants as steps
+use Rattle.ksv_nodes.specs.Rule.{value_node, rest_node}
+use Rattle.ksv_nodes.specs.declared.given.Given.TheVariants as givens
+use Rattle.ksv_nodes.specs.declared.given.Head.TheVariants as heads
 use Rattle.ksv_nodes.specs.declared.node.NodeKind.{NodeKind}
 use Rattle.ksv_nodes.specs.declared.node.NodeKind.TheVariants as nodes
-use Rattle.ksv_nodes.specs.declared.node_fault.NodeFault.{NodeFault}
-use Rattle.ksv_nodes.specs.declared.given.Given.{Given}
-use Rattle.ksv_nodes.specs.declared.given.Given.TheVariants as givens
-use Rattle.ksv_nodes.specs.declared.given.Head.{Head}
-use Rattle.ksv_nodes.specs.declared.given.Head.TheVariants as heads
-use Rattle.ksv_nodes.specs.Reading.{end_in}
-use Rattle.ksv_nodes.specs.Rule.{head_node, value_node, end_node, rest_node, in_path, ask_end}
 use Rattle.ksv_rule_meaning.specs.Choosing.{choose}
 use Rattle.ksv_rule_meaning.specs.Ends.{start_of, place_of, rest_from, element_end, object_end, fields_end}
-use Rattle.ksv_rule_meaning.specs.Heads.{is_past, is_of_bits, part_end, shape_at, content_at, chosen_at, object_at, element_setting, leaf}
-use Rattle.ksv_rule_meaning.specs.Meaning.{rule_of}
-use Rattle.ksv_list_laws.specs.Lists.{Layout, size_at, is_named_to, content_size, choice_size}
-use Rattle.ksv_list_laws.specs.Lists as layouts
-use Rattle.ksv_list_laws.specs.Nodes.{Listing, start, place, field_start, Which, ElementHead, ElementEnd, Rest, FieldHead, FieldEnd, SizeValue, element_path, field_path, node_at, nodes_of, object_from, element_from, is_last_at, is_last, answer_at, size_asked, last_asked, later_asked, asked_by, element_uses, uses_at, IsPlain, IsField, IsThere}
-use Rattle.ksv_list_laws.specs.Laws.{Tells, NodesArePaths, NodesTell}
+use Rattle.ksv_rule_meaning.specs.Heads.{is_past, is_of_bits, content_at, chosen_at, object_at, element_setting}
 use Rattle.ksv_list_laws.proofs.Chains.{AsksFirst, Chain, IsPart, IsChain, chain_tells}
+use Rattle.ksv_list_laws.proofs.Common.{◌≡◌, ◌∙◌, ℕ, zero, suc, ◌+◌, ◌-◌, ◌<◌, ◌≤◌, nat_le, Bool, true, false, if◌then◌else◌, ◌||◌, List, [], ◌∷◌, length, Option, Some, None, Result, Ok, ◌⊎◌, inl, inr, refl, sym, ap, subst, arith, nat_tests, cases_lt, is_some, option_and_then, unwrap_or, Answer, bind, byte_of_byte, at_byte, Trail, child, parent, trail_of-steps, Step, Description, Field, Content, Choice, Always, with_first, Node, NodeFault, Given, Head, end_in, head_node, end_node, in_path, ask_end, part_end, shape_at, leaf, rule_of, Layout, size_at, is_named_to, content_size, Listing, start, Which, ElementHead, ElementEnd, Rest, FieldHead, FieldEnd, SizeValue, node_at, nodes_of, size_asked, last_asked, later_asked, asked_by, element_uses, uses_at, IsPlain, IsThere, Tells}
 use Rattle.ksv_list_laws.proofs.Fields as fields
 use Rattle.ksv_list_laws.proofs.Paths.{element_is, field_is, mapped, then_is}
 use Rattle.ksv_list_laws.proofs.Places.{field_low, first_some, turns, turns_low, place_is, width, kind_rank, rank, rank_element, rank_field}
@@ -38,8 +22,10 @@ use Rattle.ksv_list_laws.proofs.Plain.{IsNumber, IsLaidOut, IsSized, IsElementOf
 use Rattle.ksv_list_laws.proofs.Rules as rules
 use Rattle.ksv_list_laws.proofs.Says.{Says, says_answer, says_given, says_by, says_asking}
 use Rattle.ksv_list_laws.proofs.Truth.{none_is, or_true}
-
--- ---- kinds and lengths
+use Rattle.ksv_list_laws.specs.Laws.{NodesArePaths, NodesTell}
+use Rattle.ksv_list_laws.specs.Lists.{choice_size}
+use Rattle.ksv_list_laws.specs.Lists as layouts
+use Rattle.ksv_list_laws.specs.Nodes.{place, field_start, element_path, field_path, object_from, element_from, is_last_at, is_last, answer_at, IsField}
 
 longer : (s : Step) (up : List Step) → s ∷ up ≡ up → ⊥
 longer s up e = let n : length (s ∷ up) ≡ length up = ap length e in omega (arith, n)

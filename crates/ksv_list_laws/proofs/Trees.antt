@@ -1,29 +1,21 @@
 -- The tree of a node that tells, and what touches it, by what it asks and uses.
-use Rattle.std.proofs.Common.{◌≡◌, ◌∙◌, ℕ, Bool, true, false, ◌||◌, List, [], ◌∷◌, ◌++◌, Result, Ok, refl, sym, ap}
 use Rattle.std.proofs.lemmas.List.Folds.{list_any-append}
-use Rattle.std.specs.List.{flat_map, list_any}
 use mathlib.Core.Path.{fun_ext}
-use Rattle.ksv_bytes.specs.declared.uses.Use.{Use}
 use Rattle.ksv_bytes.specs.declared.uses.Change.{Change}
-use Rattle.ksv_bytes.specs.Uses.{is_use_touched}
-use Rattle.ksv_expr_value.specs.declared.fault.Fault.{Fault}
-use Rattle.ksv_desc.specs.Description.{Description}
+use Rattle.ksv_memo_rules.proofs.Keeping.{kept-tree}
+use Rattle.ksv_memo_rules.proofs.Standing.{law_on}
+use Rattle.ksv_memo_rules.specs.Evaluation.{IsAnswered, tells, done}
+use Rattle.ksv_memo_rules.specs.Meaning.{IsSettled}
 use Rattle.ksv_memo_rules.specs.declared.rules.Outcome.{Outcome}
 use Rattle.ksv_memo_rules.specs.declared.rules.Outcome.TheVariants.{Answered, Circle}
-use Rattle.ksv_memo_rules.specs.Evaluation.{IsAnswered, tells, done}
-use Rattle.ksv_memo_rules.specs.Meaning.{Standing, IsSettled, on}
-use Rattle.ksv_memo_rules.proofs.Keeping.{AreDistinct-none, kept-tree}
-use Rattle.ksv_memo_rules.proofs.Standing.{law_on}
-use Rattle.ksv_nodes.specs.declared.given.Given.{Given}
-use Rattle.ksv_nodes.specs.declared.node.Node.{Node}
+use Rattle.ksv_rule_meaning.proofs.Completing.{done_direct}
+use Rattle.ksv_rule_meaning.proofs.Direct.{answers_are_direct, asks_are_direct}
 use Rattle.ksv_rule_meaning.specs.Completed.{completed}
-use Rattle.ksv_rule_meaning.specs.Described.{described}
 use Rattle.ksv_rule_meaning.specs.Direct.{flattened}
 use Rattle.ksv_rule_meaning.specs.Kept.{is_hit, is_touched}
 use Rattle.ksv_rule_meaning.specs.Lemmas.Lawful.{described_lawful}
-use Rattle.ksv_rule_meaning.proofs.Completing.{done_direct}
-use Rattle.ksv_rule_meaning.proofs.Direct.{answers_are_direct, asks_are_direct}
-use Rattle.ksv_list_laws.specs.Laws.{Tells, TreesAreAsked}
+use Rattle.ksv_list_laws.proofs.Common.{◌≡◌, ◌∙◌, ℕ, Bool, true, false, ◌||◌, List, [], ◌∷◌, ◌++◌, Result, Ok, refl, sym, ap, flat_map, list_any, Use, is_use_touched, Fault, Description, Standing, on, AreDistinct-none, Given, Node, described, Tells}
+use Rattle.ksv_list_laws.specs.Laws.{TreesAreAsked}
 
 any_flat : {X Y : Type 0} (p : Y → Bool) (f : X → List Y) (xs : List X) → list_any p (flat_map f xs) ≡ list_any (λ x. list_any p (f x)) xs
 any_flat p f [] = refl
