@@ -14,7 +14,9 @@ use Rattle.ksv_nodes.specs.Truth.{answer_of, with_given, with_seen}
 use Rattle.ksv_rule_meaning.proofs.Direct.{answers_follow_rules}
 use Rattle.ksv_rule_meaning.specs.Direct.{IsFree}
 use Rattle.ksv_rule_meaning.specs.FromNothing.{circle, answer_within, from_nothing}
-use Rattle.ksv_list_laws.proofs.Common.{◌≡◌, ◌∙◌, ℕ, zero, suc, ◌<◌, ◌≤◌, Bool, true, false, ◌||◌, List, [], ◌∷◌, Option, Some, None, Result, Ok, ◌⊎◌, inl, inr, refl, sym, ap, subst, arith, AllByRecursion, nat_tests, Answer, Ask, Use, Trail, Description, is_among, on, AreDistinct-none, Node, Given, NodeFault, node_number, look, Rule, See, described, rule_of, Tells}
+use Rattle.ksv_list_laws.proofs.Common.{◌≡◌, ◌∙◌, ℕ, zero, suc, ◌<◌, ◌≤◌, Bool, true, false, ◌||◌, List, [], ◌∷◌, Option, Some, None, Result, Ok, ◌⊎◌, inl}
+use Rattle.ksv_list_laws.proofs.Common.{inr, refl, sym, ap, subst, arith, AllByRecursion, nat_tests, Answer, Ask, Use, Trail, Description, is_among, on}
+use Rattle.ksv_list_laws.proofs.Common.{AreDistinct-none, Node, Given, NodeFault, node_number, look, Rule, See, described, rule_of, Tells}
 use Rattle.ksv_list_laws.proofs.Says.{Says}
 use Rattle.ksv_list_laws.proofs.Truth.{or_true, true_or}
 
@@ -42,13 +44,15 @@ same_answer met met' here bytes same (Fail e) a h = absurd (cc)
 same_answer met met' here bytes same {A = A} (Ask (Of n) k) a h = by_given (met n) refl h (λ g. same_answer met met' here bytes same (k g) a)
   where
     by_given : (r : Result Given NodeFault) → met n ≡ r → with_given r (λ g. answer_of met here bytes (k g)) ≡ Ok a
-        → ((g : Given) → answer_of met here bytes (k g) ≡ Ok a → answer_of met' here bytes (k g) ≡ Ok a) → with_given (met' n) (λ g. answer_of met' here bytes (k g)) ≡ Ok a
+        → ((g : Given) → answer_of met here bytes (k g) ≡ Ok a → answer_of met' here bytes (k g) ≡ Ok a)
+            → with_given (met' n) (λ g. answer_of met' here bytes (k g)) ≡ Ok a
     by_given (Ok g) is e later = ap (λ r. with_given r (λ x. answer_of met' here bytes (k x))) (same n g is) ∙ later g e
     by_given (Err f) is e later = absurd (cc)
 same_answer met met' here bytes same {A = A} (Ask (See r) k) a h = by_seen (look r bytes).seen h (λ x. same_answer met met' here bytes same (k x) a)
   where
     by_seen : (o : Option (Seen r)) → with_seen here o (λ x. answer_of met here bytes (k x)) ≡ Ok a
-        → ((x : Seen r) → answer_of met here bytes (k x) ≡ Ok a → answer_of met' here bytes (k x) ≡ Ok a) → with_seen here o (λ x. answer_of met' here bytes (k x)) ≡ Ok a
+        → ((x : Seen r) → answer_of met here bytes (k x) ≡ Ok a → answer_of met' here bytes (k x) ≡ Ok a)
+            → with_seen here o (λ x. answer_of met' here bytes (k x)) ≡ Ok a
     by_seen (Some x) e later = later x e
     by_seen None e later = absurd (cc)
 
@@ -59,7 +63,8 @@ module _ (d : Description) (bytes : List ℕ) where
   unfolding answer_within
   ruled depth opened n g h = by_open (is_among node_number opened n) refl h
     where
-      by_open : (b : Bool) → is_among node_number opened n ≡ b → cond b (circle n) (answer_of (answer_within d bytes depth (n ∷ opened)) n.path bytes (rule_of d n)) ≡ Ok g
+      by_open : (b : Bool) → is_among node_number opened n ≡ b → cond b (circle n)
+          (answer_of (answer_within d bytes depth (n ∷ opened)) n.path bytes (rule_of d n)) ≡ Ok g
           → (is_among node_number opened n ≡ false) × (answer_of (answer_within d bytes depth (n ∷ opened)) n.path bytes (rule_of d n) ≡ Ok g)
       by_open true e e' = absurd (cc)
       by_open false e e' = (e, e')
@@ -97,7 +102,8 @@ pub record IsChain (d : Description) (bytes : List ℕ) (root : Node) (given : G
   pub apart : IsPart c root → ⊥
   pub first : (m : Node) → IsPart c m → AsksFirst d m root ⊎ ((n : Node) × IsPart c n × (c.rank n < c.rank m) × AsksFirst d m n)
   pub steps : (k : c.Part) (m : Node) → c.Is k m → (met : Node → Result Given NodeFault) → met root ≡ Ok given
-      → ((j : c.Part) (n : Node) → c.rank n < c.rank m → c.Is j n → met n ≡ Ok (c.answer j)) → Says met m.path bytes (rule_of d m) (c.answer k) (c.asked k) (c.used k)
+      → ((j : c.Part) (n : Node) → c.rank n < c.rank m → c.Is j n → met n ≡ Ok (c.answer j))
+          → Says met m.path bytes (rule_of d m) (c.answer k) (c.asked k) (c.used k)
 
 module _ (d : Description) (bytes : List ℕ) (root : Node) (given : Given) (c : Chain) (chain : IsChain d bytes root given c) where
   -- nodes of the chain from a rank on
@@ -127,22 +133,26 @@ module _ (d : Description) (bytes : List ℕ) (root : Node) (given : Given) (c :
 
   -- ---- while the root is open no node of the chain answers
 
-  no_answer : (met : Node → Result Given NodeFault) (m n : Node) (g : Given) → AsksFirst d m n → ((y : Given) → met n ≡ Ok y → ⊥) → answer_of met m.path bytes (rule_of d m) ≡ Ok g → ⊥
+  no_answer : (met : Node → Result Given NodeFault) (m n : Node) (g : Given) → AsksFirst d m n → ((y : Given) → met n ≡ Ok y → ⊥)
+      → answer_of met m.path bytes (rule_of d m) ≡ Ok g → ⊥
   no_answer met m n g a never h = by (met n) refl
     where
       by : (x : Result Given NodeFault) → met n ≡ x → ⊥
       by (Ok y) e = never y e
       by (Err f) e =
-          let is : answer_of met m.path bytes (rule_of d m) ≡ Err f = ap (λ p. answer_of met m.path bytes p) a.is ∙ ap (λ r. with_given r (λ y. answer_of met m.path bytes (a.rest y))) e in
+          let is : answer_of met m.path bytes (rule_of d m) ≡ Err f = ap (λ p. answer_of met m.path bytes p) a.is
+              ∙ ap (λ r. with_given r (λ y. answer_of met m.path bytes (a.rest y))) e in
           let both = sym is ∙ h in cc
 
-  leads : (fuel depth : ℕ) (opened : List Node) (m : Node) (g : Given) → c.rank m < fuel → IsPart c m → is_among node_number opened root ≡ true → answer_within d bytes depth opened m ≡ Ok g → ⊥
+  leads : (fuel depth : ℕ) (opened : List Node) (m : Node) (g : Given) → c.rank m < fuel → IsPart c m → is_among node_number opened root ≡ true
+      → answer_within d bytes depth opened m ≡ Ok g → ⊥
   leads zero depth opened m g lt a up h = absurd (omega (arith, lt))
   leads (suc fuel) zero opened m g lt a up h = no_depth d bytes opened m g h
   leads (suc fuel) (suc depth) opened m g lt a up h =
       let ran = ruled d bytes depth opened m g h in
       let met = answer_within d bytes depth (m ∷ opened) in
-      let above : is_among node_number (m ∷ opened) root ≡ true = or_true (nat_eq (node_number root) (node_number m)) (is_among node_number opened root) (inr up) in
+      let above : is_among node_number (m ∷ opened) root ≡ true = or_true (nat_eq (node_number root) (node_number m)) (is_among node_number opened root)
+          (inr up) in
       elim (chain.first m a) [
         | inl x ↦ no_answer met m root g x (λ y e. (let shut = sym (open_is d bytes depth (m ∷ opened) root above) ∙ e in cc)) ran.1
         | inr x ↦ no_answer met m x.0 g x.3 (λ y e. leads fuel depth (m ∷ opened) x.0 y (let below = x.2 in omega (arith, below, lt)) x.1 above e) ran.1
@@ -162,7 +172,8 @@ module _ (d : Description) (bytes : List ℕ) (root : Node) (given : Given) (c :
     ]
   ]
 
-  no_part : (depth : ℕ) (opened : List Node) (n : Node) (g : Given) → is_among node_number (n ∷ opened) root ≡ true → answer_within d bytes depth opened n ≡ Ok g → IsPart c n → ⊥
+  no_part : (depth : ℕ) (opened : List Node) (n : Node) (g : Given) → is_among node_number (n ∷ opened) root ≡ true
+      → answer_within d bytes depth opened n ≡ Ok g → IsPart c n → ⊥
   no_part depth opened n g held h a = elim (true_or (nat_eq (node_number root) (node_number n)) (is_among node_number opened root) held) [
     | inl e ↦ chain.apart (subst (IsPart c) (sym (same_node root n e)) a)
     | inr e ↦ leads (suc (c.rank n)) depth opened n g (omega arith) a e h
@@ -176,7 +187,8 @@ module _ (d : Description) (bytes : List ℕ) (root : Node) (given : Given) (c :
       let r = ruled d bytes depth opened n g h in
       let rule = answer_of (answer_within d bytes depth (n ∷ others)) n.path bytes (rule_of d n) in
       let same : rule ≡ Ok g = same_answer (answer_within d bytes depth (n ∷ opened)) (answer_within d bytes depth (n ∷ others)) n.path bytes
-      (λ m g' e. stays depth (n ∷ opened) (n ∷ others) m g' (or_true (nat_eq (node_number root) (node_number m)) (is_among node_number (n ∷ opened) root) (inr held))
+      (λ m g' e. stays depth (n ∷ opened) (n ∷ others) m g' (or_true (nat_eq (node_number root) (node_number m)) (is_among node_number (n ∷ opened) root)
+          (inr held))
       (extra_both n opened others extra) e) (rule_of d n) g r.1 in
       ap (λ b. cond b (circle n) rule) (free r.0 (is_among node_number others n) refl) ∙ same
     where
@@ -189,11 +201,13 @@ module _ (d : Description) (bytes : List ℕ) (root : Node) (given : Given) (c :
 
   root_stays : (r : ℕ) (os : List Node) → AreFrom r os → from_nothing d bytes [] root ≡ Ok given → from_nothing d bytes os root ≡ Ok given
   unfolding from_nothing
-  root_stays r os all h = stays node_bound [] os root given (or_true (nat_eq (node_number root) (node_number root)) false (inl (eq_self (node_number root)))) (λ m e. inr (member_is r os m all e)) h
+  root_stays r os all h = stays node_bound [] os root given (or_true (nat_eq (node_number root) (node_number root)) false (inl (eq_self (node_number root))))
+      (λ m e. inr (member_is r os m all e)) h
 
   -- ---- what the nodes tell
 
-  tell : (fuel : ℕ) → from_nothing d bytes [] root ≡ Ok given → (k : c.Part) (m : Node) → c.Is k m → c.rank m < fuel → (r : ℕ) (os : List Node) → c.rank m < r → IsClear r os
+  tell : (fuel : ℕ) → from_nothing d bytes [] root ≡ Ok given → (k : c.Part) (m : Node) → c.Is k m → c.rank m < fuel → (r : ℕ) (os : List Node) → c.rank m < r
+      → IsClear r os
       → Tells d bytes os m (c.answer k) (c.asked k) (c.used k)
   tell zero root_is k m a lt r os below clear = absurd (omega (arith, lt))
   tell (suc fuel) root_is k m a lt r os below clear =
@@ -205,4 +219,5 @@ module _ (d : Description) (bytes : List ℕ) (root : Node) (given : Given) (c :
 
   -- from nothing each node of a chain answers, asks and uses what it is to
   pub chain_tells : from_nothing d bytes [] root ≡ Ok given → (k : c.Part) (m : Node) → c.Is k m → Tells d bytes [] m (c.answer k) (c.asked k) (c.used k)
-  chain_tells root_is k m a = tell (suc (c.rank m)) root_is k m a (omega arith) (suc (c.rank m)) [] (omega arith) (record { distinct = AreDistinct-none (on (described d) bytes); from = tt })
+  chain_tells root_is k m a = tell (suc (c.rank m)) root_is k m a (omega arith) (suc (c.rank m)) [] (omega arith)
+      (record { distinct = AreDistinct-none (on (described d) bytes); from = tt })

@@ -16,7 +16,9 @@ use Rattle.ksv_rule_meaning.proofs.Completing.{touch_direct}
 use Rattle.ksv_rule_meaning.proofs.Direct.{answers_are_direct, asks_are_direct}
 use Rattle.ksv_rule_meaning.specs.Direct.{flattened, AreSameUses}
 use Rattle.ksv_rule_meaning.specs.Lemmas.Lawful.{described_lawful}
-use Rattle.ksv_list_laws.proofs.Common.{◌≡◌, ◌∙◌, ℕ, ◌<◌, true, ◌||◌, List, [], ◌∷◌, ◌++◌, length, Result, Ok, refl, sym, ap, subst, arith, AllByRecursion, flat_map, list_any, is_use_touched, Use, Fault, Description, is_among, Standing, on, AreDistinct-none, node_number, Given, Node, described, Tells}
+use Rattle.ksv_list_laws.proofs.Common.{◌≡◌, ◌∙◌, ℕ, ◌<◌, true, ◌||◌, List, [], ◌∷◌, ◌++◌, length, Result, Ok, refl, sym, ap, subst, arith, AllByRecursion}
+use Rattle.ksv_list_laws.proofs.Common.{flat_map, list_any, is_use_touched, Use, Fault, Description, is_among, Standing, on, AreDistinct-none, node_number}
+use Rattle.ksv_list_laws.proofs.Common.{Given, Node, described, Tells}
 use Rattle.ksv_list_laws.proofs.Trees.{touched_is}
 use Rattle.ksv_list_laws.proofs.Truth.{turned}
 use Rattle.ksv_list_laws.specs.Laws.{IsSingle, EntriesAreRight}

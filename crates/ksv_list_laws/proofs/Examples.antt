@@ -13,14 +13,18 @@ use Rattle.ksv_nodes.specs.declared.given.ObjectEnd.TheVariants as endings
 use Rattle.ksv_rule_meaning.proofs.Direct.{answers_follow_rules}
 use Rattle.ksv_rule_meaning.specs.Fields.{members_of, sought, member_named}
 use Rattle.ksv_rule_meaning.specs.FromNothing.{from_nothing}
-use Rattle.ksv_rule_meaning.specs.Heads.{root_head, member_head, member_at, attribute_head, attribute_start, attribute_at, repeated, until_eos, counted, count_of}
+use Rattle.ksv_rule_meaning.specs.Heads.{root_head, member_head, member_at, attribute_head, attribute_start, attribute_at, repeated, until_eos, counted}
+use Rattle.ksv_rule_meaning.specs.Heads.{count_of}
 use Rattle.ksv_rule_meaning.specs.Integers.{integer_value}
 use Rattle.ksv_rule_meaning.specs.Wanted.{whole, holds, size_of, integer_of, expression}
 use Rattle.ksv_list_laws.proofs.Chains.{none_among}
-use Rattle.ksv_list_laws.proofs.Common.{◌≡◌, ◌∙◌, ℕ, zero, suc, ◌<◌, false, List, [], ◌∷◌, length, Some, None, Ok, refl, sym, ap, arith, Answer, bind, Use, at_byte, Trail, child, trail_of-steps, Field, on, AreDistinct-none, Node, Given, Done, Rule, head_node, described, head_of, meaning_of, rule_of}
+use Rattle.ksv_list_laws.proofs.Common.{◌≡◌, ◌∙◌, ℕ, zero, suc, ◌<◌, false, List, [], ◌∷◌, length, Some, None, Ok, refl, sym, ap, arith, Answer, bind, Use}
+use Rattle.ksv_list_laws.proofs.Common.{at_byte, Trail, child, trail_of-steps, Field, on, AreDistinct-none, Node, Given, Done, Rule, head_node, described}
+use Rattle.ksv_list_laws.proofs.Common.{head_of, meaning_of, rule_of}
 use Rattle.ksv_list_laws.proofs.Fields.{member_rule}
 use Rattle.ksv_list_laws.proofs.Says.{Says, says_answer, says_given, says_by, says_seen, ends_there}
-use Rattle.ksv_list_laws.specs.Examples.{of_list, numbers, three, items, of_three, of_two, listing, NumbersArePlain, CountedArePlain, ItemsArePlain, ItemsAreNamed}
+use Rattle.ksv_list_laws.specs.Examples.{of_list, numbers, three, items, of_three, of_two, listing, NumbersArePlain, CountedArePlain, ItemsArePlain}
+use Rattle.ksv_list_laws.specs.Examples.{ItemsAreNamed}
 use Rattle.ksv_list_laws.specs.Lists as layouts
 use Rattle.ksv_list_laws.specs.Nodes.{IsWhole}
 
@@ -50,8 +54,10 @@ module _ (f : Field) (bytes : List ℕ) (l : Trail) (is : child root (steps.Name
   listed g us said =
       let met = from_nothing (of_list f) bytes (head_node l ∷ []) in
       let all : Says met l bytes (rule_of (of_list f) (head_node l)) (givens.Head (heads.List g)) (head_node root ∷ []) us =
-      says_by met l bytes _ _ _ _ _ (member_rule (of_list f) root l 0 is) (says_given met l bytes (head_node root) _ (givens.Head root_head) _ [] us root_answers said) in
-      answers_follow_rules (of_list f) bytes [] (head_node l) (record { distinct = AreDistinct-none (on (described (of_list f)) bytes); apart = refl }) ∙ all.answer
+      says_by met l bytes _ _ _ _ _ (member_rule (of_list f) root l 0 is)
+          (says_given met l bytes (head_node root) _ (givens.Head root_head) _ [] us root_answers said) in
+      answers_follow_rules (of_list f) bytes [] (head_node l) (record { distinct = AreDistinct-none (on (described (of_list f)) bytes); apart = refl })
+          ∙ all.answer
 
   short : length l.upward < 63
   short = let n = ap length (trail_of-steps (steps.Name 0 ∷ []) l is) in omega (arith, n)

@@ -28,11 +28,15 @@ use Rattle.ksv_rule_meaning.specs.Checks.{value_checked, member_checked, checked
 use Rattle.ksv_rule_meaning.specs.Choosing.{choose, content_of}
 use Rattle.ksv_rule_meaning.specs.Ends.{place_of, end_at, end_of}
 use Rattle.ksv_rule_meaning.specs.Fields.{in_sought, in_field, member_named}
-use Rattle.ksv_rule_meaning.specs.Heads.{content_at, chosen_at, bytes_at, sized_leaf, is_of_bits, start_after, attribute_start, attribute_setting, member_setting, origin_of, attribute_head, attribute_at, repeated, member_at, member_head, head_at}
+use Rattle.ksv_rule_meaning.specs.Heads.{content_at, chosen_at, bytes_at, sized_leaf, is_of_bits, start_after, attribute_start, attribute_setting}
+use Rattle.ksv_rule_meaning.specs.Heads.{member_setting, origin_of, attribute_head, attribute_at, repeated, member_at, member_head, head_at}
 use Rattle.ksv_rule_meaning.specs.Values.{value_of, value_at, leaf_value, content_value, number_value, number_in}
 use Rattle.ksv_rule_meaning.specs.Wanted.{holds, wanted, expression, integer_of, in_integer, size_of, in_size}
 use Rattle.ksv_list_laws.proofs.Chains.{AsksFirst}
-use Rattle.ksv_list_laws.proofs.Common.{◌≡◌, ◌∙◌, ℕ, suc, ◌+◌, ◌<◌, ◌≤◌, nat_lt, nat_le, true, false, if◌then◌else◌, List, [], ◌∷◌, length, Some, None, Result, Ok, refl, sym, ap, arith, nat_tests, Answer, Ask, bind, Use, byte_of_byte, at_byte, Trail, child, Stream, Description, Field, Content, Choice, Always, Node, NodeFault, Given, Head, look, end_in, Rule, See, head_node, end_node, in_path, ask_end, field_of, leaf, shape_at, part_end, head_of, meaning_of, rule_of, Layout, content_size}
+use Rattle.ksv_list_laws.proofs.Common.{◌≡◌, ◌∙◌, ℕ, suc, ◌+◌, ◌<◌, ◌≤◌, nat_lt, nat_le, true, false, if◌then◌else◌, List, [], ◌∷◌, length, Some, None}
+use Rattle.ksv_list_laws.proofs.Common.{Result, Ok, refl, sym, ap, arith, nat_tests, Answer, Ask, bind, Use, byte_of_byte, at_byte, Trail, child, Stream}
+use Rattle.ksv_list_laws.proofs.Common.{Description, Field, Content, Choice, Always, Node, NodeFault, Given, Head, look, end_in, Rule, See, head_node}
+use Rattle.ksv_list_laws.proofs.Common.{end_node, in_path, ask_end, field_of, leaf, shape_at, part_end, head_of, meaning_of, rule_of, Layout, content_size}
 use Rattle.ksv_list_laws.proofs.Paths.{part_of}
 use Rattle.ksv_list_laws.proofs.Plain.{IsNumber, IsNamed, IsLaidOut}
 use Rattle.ksv_list_laws.proofs.Rules.{leaf_says}
@@ -41,7 +45,8 @@ use Rattle.ksv_list_laws.proofs.Truth.{some_is}
 use Rattle.ksv_list_laws.specs.Lists.{before}
 use Rattle.ksv_list_laws.specs.Nodes.{object_from, sought_at, leaf_from, integer_in}
 
-content_is : (at : Setting) (origin : Origin) (w : Stream) (s : Place) (f : Field) (c : Content) (n : ℕ) → content_size c ≡ Some n → content_at at origin w s f c ≡ leaf origin w s n
+content_is : (at : Setting) (origin : Origin) (w : Stream) (s : Place) (f : Field) (c : Content) (n : ℕ) → content_size c ≡ Some n
+    → content_at at origin w s f c ≡ leaf origin w s n
 unfolding content_at
 content_is at origin w s f (contents.Number signed k order enum) n e = ap (leaf origin w s) (some_is k n e)
 content_is at origin w s f (contents.Fixed bs) n e = ap (leaf origin w s) (some_is (length bs) n e)
@@ -51,11 +56,13 @@ content_is at origin w s f _ n e = absurd (cc)
 pub shape_is : (at : Setting) (origin : Origin) (w : Stream) (s : Place) (f : Field) (c : Content) (n : ℕ) → f.choice ≡ Always c → content_size c ≡ Some n
     → shape_at at origin w s f ≡ leaf (record origin { case = None }) w s n
 unfolding shape_at choose bind
-shape_is at origin w s f c n e z = ap (λ x. bind (choose at x) (λ y. chosen_at at origin w s f y)) e ∙ content_is at (record origin { case = None }) w s f c n z
+shape_is at origin w s f c n e z = ap (λ x. bind (choose at x) (λ y. chosen_at at origin w s f y)) e
+    ∙ content_is at (record origin { case = None }) w s f c n z
 
 -- ---- what is asked first
 
-pub member_rule : (d : Description) (p x : Trail) (n : ℕ) → child p (steps.Name n) ≡ Some x → rule_of d (head_node x) ≡ bind (member_head d x p n) (λ h. Answer (givens.Head h))
+pub member_rule : (d : Description) (p x : Trail) (n : ℕ) → child p (steps.Name n) ≡ Some x
+    → rule_of d (head_node x) ≡ bind (member_head d x p n) (λ h. Answer (givens.Head h))
 unfolding rule_of meaning_of head_of
 member_rule d p x n is =
     let up = part_of p x (steps.Name n) is in
@@ -69,13 +76,15 @@ pub value_first : (d : Description) (x : Trail) → AsksFirst d (value_node x) (
 unfolding rule_of meaning_of value_of bind
 value_first d x = record { rest = _; is = refl }
 
-module _ (met : Node → Result Given NodeFault) (bytes : List ℕ) (d : Description) (g : lists.List) (t : ℕ) (y : Layout) (laid : IsLaidOut d t y) (p : Trail) where
+module _ (met : Node → Result Given NodeFault) (bytes : List ℕ) (d : Description) (g : lists.List) (t : ℕ) (y : Layout) (laid : IsLaidOut d t y)
+    (p : Trail) where
   abbrev says : Trail → Rule Given → Given → List Node → List Use → Type 0
   says here rule a ns us = Says met here bytes rule a ns us
 
   -- ---- the head of a field
 
-  module _ (a : ℕ) (within : end_in bytes g.stream.to ≤ length bytes) (j : ℕ) (low : j ≤ y.last) (x : Trail) (is : child p (steps.Name (y.name j)) ≡ Some x) (headed : met (head_node p) ≡ Ok (givens.Head (heads.Object (object_from g t a)))) where
+  module _ (a : ℕ) (within : end_in bytes g.stream.to ≤ length bytes) (j : ℕ) (low : j ≤ y.last) (x : Trail) (is : child p (steps.Name (y.name j)) ≡ Some x)
+      (headed : met (head_node p) ≡ Ok (givens.Head (heads.Object (object_from g t a)))) where
     abbrev o : Object
     o = object_from g t a
 
@@ -90,13 +99,15 @@ module _ (met : Node → Result Given NodeFault) (bytes : List ℕ) (d : Descrip
     unfolding attribute_at holds repeated bind
     there_is b =
         let f = y.field j in
-        ap (λ c. bind (holds (at b) c) (λ there. if there then repeated (at b) (origin_of o (sought_at y j)) o.stream (at_byte b) f f.repeat else Answer (heads.Absent (Some (at_byte b))))) (laid.free j low)
+        ap (λ c. bind (holds (at b) c) (λ there. if there then repeated (at b) (origin_of o (sought_at y j)) o.stream (at_byte b) f f.repeat else Answer
+            (heads.Absent (Some (at_byte b))))) (laid.free j low)
         ∙ ap (λ r. repeated (at b) (origin_of o (sought_at y j)) o.stream (at_byte b) f r) (laid.once j low)
 
     abbrev begun : Rule Place → Rule Given
     begun s = bind (bind s there_at) (λ h. Answer (givens.Head h))
 
-    part_head : (r : Given) (ns : List Node) (us : List Use) → says x (begun (attribute_start p o (before y j) (y.field j).choice)) r ns us → says x (rule_of d (head_node x)) r (head_node p ∷ ns) us
+    part_head : (r : Given) (ns : List Node) (us : List Use) → says x (begun (attribute_start p o (before y j) (y.field j).choice)) r ns us
+        → says x (rule_of d (head_node x)) r (head_node p ∷ ns) us
     unfolding member_head member_named member_at attribute_head bind
     part_head r ns us s =
         says_by met x bytes _ _ r (head_node p ∷ ns) us (member_rule d p x (y.name j) is)
@@ -113,7 +124,8 @@ module _ (met : Node → Result Given NodeFault) (bytes : List ℕ) (d : Descrip
     unfolding bind
     read_fixed b n c always size room =
         says_by met x bytes (begun (Answer (at_byte b))) _ _ [] (uses_are.Reach (b + n) ∷ [])
-        (ap (λ z. bind z (λ h. Answer (givens.Head h))) (there_is b ∙ shape_is (at b) (origin_of o (sought_at y j)) o.stream (at_byte b) (y.field j) c n always size))
+        (ap (λ z. bind z (λ h. Answer (givens.Head h))) (there_is b ∙ shape_is (at b) (origin_of o (sought_at y j)) o.stream (at_byte b)
+            (y.field j) c n always size))
         (leaf_says met x bytes (origin_of o (sought_at y j)) o.stream b n within room)
 
     -- what has a size by name: its value is asked
@@ -126,13 +138,15 @@ module _ (met : Node → Result Given NodeFault) (bytes : List ℕ) (d : Descrip
         ∙ ap (λ k. bytes_at (at b) (origin_of o (sought_at y j)) o.stream (at_byte b) k (y.field j).terminator) extent
 
     size_rule : (b k : ℕ) (w : Word) (q : Trail) → w.number ≡ Some k → child p (steps.Name k) ≡ Some q
-        → size_of (at b) (named w) ≡ bind (bind (bind (bind (ask_value q) (λ v. Answer (Valued v))) (λ h. translate (wanted (at b)) Here (asked_value h))) (λ v. in_integer v)) (λ z. in_size z)
+        → size_of (at b) (named w) ≡ bind (bind (bind (bind (ask_value q) (λ v. Answer (Valued v))) (λ h. translate (wanted (at b)) Here (asked_value h)))
+            (λ v. in_integer v)) (λ z. in_size z)
     unfolding size_of integer_of expression wanted expression_value member_value member_path bind
     size_rule b k w q number was =
         ap (λ z. bind (bind (translate (wanted (at b)) Here (member_value p z)) (λ v. in_integer v)) (λ z. in_size z)) number
         ∙ ap (λ c. bind (bind (translate (wanted (at b)) Here (bind (path_in c) (λ r. value_for (wants.Value r)))) (λ v. in_integer v)) (λ z. in_size z)) was
 
-    pub read_named : (b n k : ℕ) (q : Trail) → IsNamed (y.field j) k → child p (steps.Name k) ≡ Some q → met (value_node q) ≡ Ok (givens.Value (values.Int (pos n))) → b + n ≤ end_in bytes o.stream.to
+    pub read_named : (b n k : ℕ) (q : Trail) → IsNamed (y.field j) k → child p (steps.Name k) ≡ Some q
+        → met (value_node q) ≡ Ok (givens.Value (values.Int (pos n))) → b + n ≤ end_in bytes o.stream.to
         → Reads b n (value_node q ∷ [])
     unfolding bind
     read_named b n k q by was valued room =
@@ -147,14 +161,17 @@ module _ (met : Node → Result Given NodeFault) (bytes : List ℕ) (d : Descrip
     aligned_so : (c : Choice) (b : ℕ) → is_of_bits c ≡ false → start_after (at_byte b) c ≡ at_byte b
     aligned_so c b e = ap (λ z. if z then at_byte b else aligned (at_byte b)) e ∙ ap at_byte (byte_of_byte b)
 
-    pub first_part : (n : ℕ) (ns : List Node) → j ≡ 0 → Reads a n ns → says x (rule_of d (head_node x)) (leaf_from (origin_of o (sought_at y j)) a (a + n)) (head_node p ∷ ns) (uses_are.Reach (a + n) ∷ [])
+    pub first_part : (n : ℕ) (ns : List Node) → j ≡ 0 → Reads a n ns → says x (rule_of d (head_node x)) (leaf_from (origin_of o (sought_at y j)) a (a + n))
+        (head_node p ∷ ns) (uses_are.Reach (a + n) ∷ [])
     unfolding attribute_start bind
     first_part n ns zeroth reads =
         part_head _ ns _ (says_by met x bytes _ (begun (Answer (at_byte a))) _ ns _
         (ap (λ k. begun (attribute_start p o (before y k) (y.field j).choice)) zeroth) reads)
 
-    pub next_part : (i b n : ℕ) (q : Trail) (ns : List Node) → j ≡ suc i → child p (steps.Name (y.name i)) ≡ Some q → met (end_node q) ≡ Ok (givens.End (at_byte b) false)
-        → is_of_bits (y.field j).choice ≡ false → Reads b n ns → says x (rule_of d (head_node x)) (leaf_from (origin_of o (sought_at y j)) b (b + n)) (head_node p ∷ end_node q ∷ ns) (uses_are.Reach (b + n) ∷ [])
+    pub next_part : (i b n : ℕ) (q : Trail) (ns : List Node) → j ≡ suc i → child p (steps.Name (y.name i)) ≡ Some q
+        → met (end_node q) ≡ Ok (givens.End (at_byte b) false)
+        → is_of_bits (y.field j).choice ≡ false → Reads b n ns → says x (rule_of d (head_node x)) (leaf_from (origin_of o (sought_at y j)) b (b + n))
+            (head_node p ∷ end_node q ∷ ns) (uses_are.Reach (b + n) ∷ [])
     unfolding attribute_start part_end bind
     next_part i b n q ns later was ended no_bits reads =
         part_head _ (end_node q ∷ ns) _
@@ -166,11 +183,13 @@ module _ (met : Node → Result Given NodeFault) (bytes : List ℕ) (d : Descrip
 
   -- ---- the end of a field
 
-  pub part_ends : (n : ℕ) (x : Trail) (k : Leaf) → child p (steps.Name n) ≡ Some x → met (head_node x) ≡ Ok (givens.Head (heads.Leaf k)) → says x (rule_of d (end_node x)) (givens.End k.end false) (head_node x ∷ []) []
+  pub part_ends : (n : ℕ) (x : Trail) (k : Leaf) → child p (steps.Name n) ≡ Some x → met (head_node x) ≡ Ok (givens.Head (heads.Leaf k))
+      → says x (rule_of d (end_node x)) (givens.End k.end false) (head_node x ∷ []) []
   unfolding rule_of meaning_of end_of place_of bind
   part_ends n x k is e =
       let up = part_of p x (steps.Name n) is in
-      says_by met x bytes _ _ _ _ [] (ap (λ z. bind (bind (ask_head x) (λ h. bind (place_of d x h) (λ w. end_at d x z h w))) (λ v. Answer (givens.End v.place v.last))) up.1)
+      says_by met x bytes _ _ _ _ [] (ap (λ z. bind (bind (ask_head x) (λ h. bind (place_of d x h) (λ w. end_at d x z h w)))
+          (λ v. Answer (givens.End v.place v.last))) up.1)
       (says_given met x bytes (head_node x) _ (givens.Head (heads.Leaf k)) _ [] [] e (says_answer met x bytes _))
 
   -- ---- the value that says a size
@@ -203,15 +222,18 @@ module _ (met : Node → Result Given NodeFault) (bytes : List ℕ) (d : Descrip
         let some_so : nat_lt from to ≡ true = grind (arith, nat_tests) in
         rw (apart_so, low_so, some_so) refl
 
-    pub value_says : met (head_node x) ≡ Ok (givens.Head (heads.Leaf leaf_there)) → from < to → to ≤ length bytes → integer_in (y.field j).choice (slice_range bytes from to) ≡ Answer (values.Int (pos n))
+    pub value_says : met (head_node x) ≡ Ok (givens.Head (heads.Leaf leaf_there)) → from < to → to ≤ length bytes
+        → integer_in (y.field j).choice (slice_range bytes from to) ≡ Answer (values.Int (pos n))
         → says x (rule_of d (value_node x)) (givens.Value (values.Int (pos n))) (head_node x ∷ []) (uses_are.Bytes from to ∷ [])
     unfolding rule_of meaning_of value_of number_value bind
     value_says headed some room said =
         let number_is : number_in number.is_signed number.order None (slice_range bytes from to) ≡ Answer (values.Int (pos n)) =
         sym (ap (λ c. integer_in c (slice_range bytes from to)) number.always) ∙ said in
         says_given met x bytes (head_node x) _ (givens.Head (heads.Leaf leaf_there)) _ [] (uses_are.Bytes from to ∷ []) headed
-        (says_by met x bytes (checked (value_at d x (heads.Leaf leaf_there))) (Ask (See (Peek from to)) (λ zs. checked (number_in number.is_signed number.order None zs))) _ [] _
-        (ap checked read_value ∙ ap (λ k. Ask (See (Peek k (byte_of (at_byte to)))) (λ zs. checked (number_in number.is_signed number.order None zs))) (byte_of_byte from)
+        (says_by met x bytes (checked (value_at d x (heads.Leaf leaf_there)))
+            (Ask (See (Peek from to)) (λ zs. checked (number_in number.is_signed number.order None zs))) _ [] _
+        (ap checked read_value ∙ ap (λ k. Ask (See (Peek k (byte_of (at_byte to)))) (λ zs. checked (number_in number.is_signed number.order None zs)))
+            (byte_of_byte from)
         ∙ ap (λ k. Ask (See (Peek from k)) (λ zs. checked (number_in number.is_signed number.order None zs))) (byte_of_byte to))
         (says_seen met x bytes (Peek from to) _ (slice_range bytes from to) (uses_are.Bytes from to ∷ []) _ (peeks some room)
         (ap checked number_is ∙ ap (λ z. bind (bind z (λ u. Answer (values.Int (pos n)))) (λ v. Answer (givens.Value v))) (check_is (values.Int (pos n))))))

@@ -7,7 +7,12 @@ use Rattle.ksv_memo_rules.specs.Evaluation.{tells}
 use Rattle.ksv_memo_rules.specs.Touched.{tree}
 use Rattle.ksv_memo_rules.specs.Touched as engines
 use Rattle.ksv_rule_meaning.proofs.Completing.{touch_direct}
-use Rattle.ksv_list_laws.proofs.Common.{◌≡◌, ◌∙◌, ℕ, zero, suc, ◌+◌, ◌<◌, ◌≤◌, nat_lt, Bool, true, false, if◌then◌else◌, ◌||◌, List, [], ◌∷◌, length, Option, Some, None, Result, ◌⊎◌, inl, inr, refl, sym, ap, subst, arith, AllByRecursion, flat_map, list_any, is_use_touched, Use, Fault, Description, is_among, Standing, on, with_first, node_number, Given, Node, described, is_named_to, Listing, start, Which, ElementHead, ElementEnd, Rest, FieldHead, FieldEnd, SizeValue, node_at, nodes_of, end_uses, asked_by, element_uses, uses_at, prior_guard, guard_of, end_reach, prior_reach, element_reach, reach_of, IsPlain, IsThere}
+use Rattle.ksv_list_laws.proofs.Common.{◌≡◌, ◌∙◌, ℕ, zero, suc, ◌+◌, ◌<◌, ◌≤◌, nat_lt, Bool, true, false, if◌then◌else◌, ◌||◌, List, [], ◌∷◌, length, Option}
+use Rattle.ksv_list_laws.proofs.Common.{Some, None, Result, ◌⊎◌, inl, inr, refl, sym, ap, subst, arith, AllByRecursion, flat_map, list_any, is_use_touched}
+use Rattle.ksv_list_laws.proofs.Common.{Use, Fault, Description, is_among, Standing, on, with_first, node_number, Given, Node, described, is_named_to}
+use Rattle.ksv_list_laws.proofs.Common.{Listing, start, Which, ElementHead, ElementEnd, Rest, FieldHead, FieldEnd, SizeValue, node_at, nodes_of, end_uses}
+use Rattle.ksv_list_laws.proofs.Common.{asked_by, element_uses, uses_at, prior_guard, guard_of, end_reach, prior_reach, element_reach, reach_of, IsPlain}
+use Rattle.ksv_list_laws.proofs.Common.{IsThere}
 use Rattle.ksv_list_laws.proofs.Entries.{Known, known, single_once}
 use Rattle.ksv_list_laws.proofs.Guards.{guards_tell}
 use Rattle.ksv_list_laws.proofs.Rising.{AnyOf, Rises, guard_rises, reach_rises}
@@ -100,39 +105,46 @@ module _ (d : Description) (bytes : List ℕ) (x : Listing) (plain : IsPlain d b
   abbrev tree_of : Option Which → List Node
   tree_of k = node_tree (guard_node x k)
 
-  own : (k : Which) → IsThere bytes x k → (n : Node) → node_at x k ≡ Some n → Known d bytes n (answer_at bytes x k) (nodes_of x (asked_by x k)) (uses_at bytes x k)
+  own : (k : Which) → IsThere bytes x k → (n : Node) → node_at x k ≡ Some n
+      → Known d bytes n (answer_at bytes x k) (nodes_of x (asked_by x k)) (uses_at bytes x k)
   own k there n is = known d bytes n _ _ _ (telling.tells d bytes x plain k there n is)
 
   -- the trees of what is asked are in those of the nodes that ask
-  among : (P : Node → Type 0) (ks : List (Option Which)) → AnyOf (λ k. (m : Node) × Contains (tree_of k) m × P m) ks → (m : Node) × Contains (flat_map (tree w) (nodes_of x ks)) m × P m
+  among : (P : Node → Type 0) (ks : List (Option Which)) → AnyOf (λ k. (m : Node) × Contains (tree_of k) m × P m) ks → (m : Node)
+      × Contains (flat_map (tree w) (nodes_of x ks)) m × P m
   among P [] h = absurd h
   among P (None ∷ ks) (inl h) = (h.0, Contains-append_left _ _ h.0 h.1, h.2)
   among P (None ∷ ks) (inr h) = let r = among P ks h in (r.0, Contains-append_right _ _ r.0 r.1, r.2)
   among P (Some k ∷ ks) h = by (node_at x k) h (among P ks)
     where
       by : (o : Option Node) → ((m : Node) × Contains (node_tree o) m × P m) ⊎ AnyOf (λ k'. (m : Node) × Contains (tree_of k') m × P m) ks
-          → (AnyOf (λ k'. (m : Node) × Contains (tree_of k') m × P m) ks → (m : Node) × Contains (flat_map (tree w) (nodes_of x ks)) m × P m) → (m : Node) × Contains (flat_map (tree w) (with_first o (nodes_of x ks))) m × P m
+          → (AnyOf (λ k'. (m : Node) × Contains (tree_of k') m × P m) ks → (m : Node) × Contains (flat_map (tree w) (nodes_of x ks)) m × P m) → (m : Node)
+              × Contains (flat_map (tree w) (with_first o (nodes_of x ks))) m × P m
       by None (inl h') f = absurd (let none = h'.1.1 in omega (arith, none))
       by None (inr h') f = f h'
       by (Some n) (inl h') f = (h'.0, Contains-append_left _ _ h'.0 h'.1, h'.2)
       by (Some n) (inr h') f = let r = f h' in (r.0, Contains-append_right _ _ r.0 r.1, r.2)
 
   -- each place to which a node reads is used in its tree
-  made : (u : Use) (k : Which) → IsThere bytes x k → AnyOf (λ v. v ≡ u) (reach_of bytes x k) → (m : Node) × Contains (tree_of (Some k)) m × Contains (tells w [] m).uses u
-  made u k there h = reach_rises d bytes x plain (λ j. (m : Node) × Contains (tree_of j) m × Contains (tells w [] m).uses u) rises (λ v. v ≡ u) makes k there h
+  made : (u : Use) (k : Which) → IsThere bytes x k → AnyOf (λ v. v ≡ u) (reach_of bytes x k) → (m : Node) × Contains (tree_of (Some k)) m
+      × Contains (tells w [] m).uses u
+  made u k there h = reach_rises d bytes x plain (λ j. (m : Node) × Contains (tree_of j) m × Contains (tells w [] m).uses u) rises
+      (λ v. v ≡ u) makes k there h
     where
       rises : Rises bytes x (λ j. (m : Node) × Contains (tree_of j) m × Contains (tells w [] m).uses u)
       rises j there' a =
           let n = node_is d bytes x plain j there' in
           let r = among (λ m. Contains (tells w [] m).uses u) (asked_by x j) a in
-          (r.0, subst (λ o. Contains (node_tree o) r.0) (sym n.1) (subst (λ ms. Contains ms r.0) (sym (own j there' n.0 n.1).whole) (Contains-append_left _ _ r.0 r.1)), r.2)
+          (r.0, subst (λ o. Contains (node_tree o) r.0) (sym n.1) (subst (λ ms. Contains ms r.0) (sym (own j there' n.0 n.1).whole)
+              (Contains-append_left _ _ r.0 r.1)), r.2)
 
       uses_in : (us : List Use) → AnyOf (λ v. v ≡ u) us → Contains us u
       uses_in [] h' = absurd h'
       uses_in (v ∷ us) (inl e) = subst (λ z. Contains (v ∷ us) z) e (Contains-get_or (v ∷ us) 0 v (omega arith))
       uses_in (v ∷ us) (inr h') = Contains-append_right (v ∷ []) us u (uses_in us h')
 
-      makes : (j : Which) → IsThere bytes x j → AnyOf (λ v. v ≡ u) (uses_at bytes x j) → (m : Node) × Contains (tree_of (Some j)) m × Contains (tells w [] m).uses u
+      makes : (j : Which) → IsThere bytes x j → AnyOf (λ v. v ≡ u) (uses_at bytes x j) → (m : Node) × Contains (tree_of (Some j)) m
+          × Contains (tells w [] m).uses u
       makes j there' a =
           let n = node_is d bytes x plain j there' in
           let o = own j there' n.0 n.1 in
@@ -147,19 +159,22 @@ module _ (d : Description) (bytes : List ℕ) (x : Listing) (plain : IsPlain d b
     abbrev Below : Option Which → Type 0
     Below k = (k ≡ g) ⊎ (size g < size k)
 
-    below_asked : (big : ℕ) (ks : List (Option Which)) → 0 < big → AllByRecursion (λ m. length (tree w m) < big) (nodes_of x ks) → AnyOf Below ks → size g < big
+    below_asked : (big : ℕ) (ks : List (Option Which)) → 0 < big → AllByRecursion (λ m. length (tree w m) < big) (nodes_of x ks) → AnyOf Below ks
+        → size g < big
     below_asked big [] some all h = absurd h
     below_asked big (None ∷ ks) some all (inl (inl e)) = let lt = all.0 in let same = ap size e in omega (arith, lt, same)
     below_asked big (None ∷ ks) some all (inl (inr e)) = let lt = all.0 in omega (arith, lt, e)
     below_asked big (None ∷ ks) some all (inr h) = below_asked big ks some all.1 h
     below_asked big (Some k ∷ ks) some all h = by (node_at x k) refl all h (below_asked big ks some)
       where
-        by : (o : Option Node) → node_at x k ≡ o → AllByRecursion (λ m. length (tree w m) < big) (with_first o (nodes_of x ks)) → Below (Some k) ⊎ AnyOf Below ks
+        by : (o : Option Node) → node_at x k ≡ o → AllByRecursion (λ m. length (tree w m) < big) (with_first o (nodes_of x ks))
+            → Below (Some k) ⊎ AnyOf Below ks
             → (AllByRecursion (λ m. length (tree w m) < big) (nodes_of x ks) → AnyOf Below ks → size g < big) → size g < big
         by None e all' (inl (inl h')) f = let same = ap size (sym h') in let none = ap (λ o. length (node_tree o)) e in omega (arith, same, none, some)
         by None e all' (inl (inr h')) f = let none = ap (λ o. length (node_tree o)) e in absurd (omega (arith, none, h'))
         by None e all' (inr h') f = f all' h'
-        by (Some n) e all' (inl (inl h')) f = let same = ap size (sym h') in let own_size = ap (λ o. length (node_tree o)) e in let lt = all'.0 in omega (arith, same, own_size, lt)
+        by (Some n) e all' (inl (inl h')) f = let same = ap size (sym h') in let own_size = ap (λ o. length (node_tree o)) e in let lt = all'.0 in
+            omega (arith, same, own_size, lt)
         by (Some n) e all' (inl (inr h')) f = let own_size = ap (λ o. length (node_tree o)) e in let lt = all'.0 in omega (arith, own_size, lt, h')
         by (Some n) e all' (inr h') f = f all'.1 h'
 
@@ -239,7 +254,8 @@ folded_stand_in d bytes x plain k there folded n m is guard kept all named =
       bytes = λ from to. ((λ h. absurd (no_bytes (reach_of bytes x k) from to (reach_places d bytes x plain k) h)),
           (λ h. absurd (no_bytes (uses_at bytes x k) from to (use_places d bytes x plain k folded) ((o.used (uses_are.Bytes from to)).0 h))));
       made = each (reach_of bytes x k) (λ u h. (let r = made d bytes x plain u k there h in
-          let c : Contains (tree (on (described d) bytes) n) r.0 = subst (λ z. Contains (node_tree d bytes x plain z) r.0) is r.1 in (c.0, r.0, c.1, c.2, r.2)));
+          let c : Contains (tree (on (described d) bytes) n) r.0 = subst (λ z. Contains (node_tree d bytes x plain z) r.0) is r.1 in
+              (c.0, r.0, c.1, c.2, r.2)));
     }
   where
     each : {P : Use → Type 0} (us : List Use) → ((u : Use) → AnyOf (λ v. v ≡ u) us → P u) → AllByRecursion P us

@@ -5,7 +5,12 @@ use Rattle.ksv_bytes.specs.declared.uses.Change.{Change}
 use Rattle.ksv_bytes.specs.declared.uses.Change.TheVariants.{Overwrite, Insert, Delete, Append}
 use Rattle.ksv_bytes.specs.declared.uses.Use.TheVariants as uses_are
 use Rattle.ksv_rule_meaning.specs.Kept.{is_touched}
-use Rattle.ksv_list_laws.proofs.Common.{◌≡◌, ◌∙◌, ℕ, zero, suc, ◌+◌, ◌-◌, ◌<◌, ◌≤◌, nat_lt, nat_le, Bool, true, false, if◌then◌else◌, ◌||◌, List, [], ◌∷◌, length, Option, Some, None, ◌⊎◌, inl, inr, refl, sym, ap, subst, arith, nat_tests, list_any, is_some, is_use_touched, Use, Description, with_first, end_in, head_node, Node, size_at, is_named_to, Listing, start, Which, ElementHead, ElementEnd, Rest, FieldHead, FieldEnd, SizeValue, node_at, nodes_of, end_uses, size_asked, last_asked, later_asked, asked_by, element_uses, uses_at, prior_guard, guard_of, end_reach, prior_reach, element_reach, reach_of, IsPlain, IsThere}
+use Rattle.ksv_list_laws.proofs.Common.{◌≡◌, ◌∙◌, ℕ, zero, suc, ◌+◌, ◌-◌, ◌<◌, ◌≤◌, nat_lt, nat_le, Bool, true, false, if◌then◌else◌, ◌||◌, List, [], ◌∷◌}
+use Rattle.ksv_list_laws.proofs.Common.{length, Option, Some, None, ◌⊎◌, inl, inr, refl, sym, ap, subst, arith, nat_tests, list_any, is_some, is_use_touched}
+use Rattle.ksv_list_laws.proofs.Common.{Use, Description, with_first, end_in, head_node, Node, size_at, is_named_to, Listing, start, Which, ElementHead}
+use Rattle.ksv_list_laws.proofs.Common.{ElementEnd, Rest, FieldHead, FieldEnd, SizeValue, node_at, nodes_of, end_uses, size_asked, last_asked, later_asked}
+use Rattle.ksv_list_laws.proofs.Common.{asked_by, element_uses, uses_at, prior_guard, guard_of, end_reach, prior_reach, element_reach, reach_of, IsPlain}
+use Rattle.ksv_list_laws.proofs.Common.{IsThere}
 use Rattle.ksv_list_laws.proofs.Places.{first_some}
 use Rattle.ksv_list_laws.proofs.Rising.{AnyOf, Rises, none_named, head_value, head_guard, end_later, guard_rises, reach_rises}
 use Rattle.ksv_list_laws.proofs.Telling.{first_size, start_less, field_room, named_more, named_here, tells, node_is}
@@ -64,7 +69,8 @@ module _ (d : Description) (bytes : List ℕ) (x : Listing) (plain : IsPlain d b
   any_asked (None ∷ ks) = ap (λ b. is_touched d bytes change (head_node x.path) || b) (any_asked ks)
   any_asked (Some k ∷ ks) = by (node_at x k) ∙ ap (λ b. node_touched (node_at x k) || b) (any_asked ks)
     where
-      by : (o : Option Node) → list_any (is_touched d bytes change) (with_first o (nodes_of x ks)) ≡ (node_touched o || list_any (is_touched d bytes change) (nodes_of x ks))
+      by : (o : Option Node) → list_any (is_touched d bytes change) (with_first o (nodes_of x ks)) ≡
+          (node_touched o || list_any (is_touched d bytes change) (nodes_of x ks))
       by None = refl
       by (Some n) = refl
 
@@ -72,7 +78,8 @@ module _ (d : Description) (bytes : List ℕ) (x : Listing) (plain : IsPlain d b
   by_asks : (k : Which) → IsThere bytes x k → touched (Some k) ≡ (list_any touched (asked_by x k) || list_any hit (uses_at bytes x k))
   by_asks k there =
       let n = node_is d bytes x plain k there in
-      ap node_touched n.1 ∙ touched_is d bytes change n.0 _ _ _ (tells d bytes x plain k there n.0 n.1) ∙ ap (λ b. b || list_any hit (uses_at bytes x k)) (any_asked (asked_by x k))
+      ap node_touched n.1 ∙ touched_is d bytes change n.0 _ _ _ (tells d bytes x plain k there n.0 n.1)
+          ∙ ap (λ b. b || list_any hit (uses_at bytes x k)) (any_asked (asked_by x k))
 
   rises : Rises bytes x T
   rises k there q = by_asks k there ∙ or_true _ _ (inl (any_true touched (asked_by x k) q))
@@ -95,11 +102,13 @@ module _ (d : Description) (bytes : List ℕ) (x : Listing) (plain : IsPlain d b
   far_from : (i : ℕ) → hit (uses_are.Reach (start x (suc i))) ≡ true → hit (far i) ≡ true
   far_from i = by x.list.count x.list.stream.to
     where
-      turned : (b : Bool) → is_use_touched change (uses_are.Reach (start x (suc i))) ≡ true → is_use_touched change (if b then uses_are.Reach (start x (suc i) + 1) else uses_are.Size) ≡ true
+      turned : (b : Bool) → is_use_touched change (uses_are.Reach (start x (suc i))) ≡ true
+          → is_use_touched change (if b then uses_are.Reach (start x (suc i) + 1) else uses_are.Size) ≡ true
       turned true h = reach_more change (start x (suc i)) (start x (suc i) + 1) (omega arith) h
       turned false h = size_more change (start x (suc i)) h
 
-      by : (c o : Option ℕ) → is_use_touched change (uses_are.Reach (start x (suc i))) ≡ true → is_use_touched change (end_reach c bytes o (start x (suc i))) ≡ true
+      by : (c o : Option ℕ) → is_use_touched change (uses_are.Reach (start x (suc i))) ≡ true
+          → is_use_touched change (end_reach c bytes o (start x (suc i))) ≡ true
       by (Some n) o h = h
       by None (Some t) h = h
       by None None h = turned (nat_lt (start x (suc i)) (length bytes)) h
@@ -108,18 +117,21 @@ module _ (d : Description) (bytes : List ℕ) (x : Listing) (plain : IsPlain d b
   far_to : (i z : ℕ) → start x (suc i) < z → z ≤ end_in bytes x.list.stream.to → hit (far i) ≡ true → hit (uses_are.Reach z) ≡ true
   far_to i z less room = by x.list.count x.list.stream.to room
     where
-      by : (c o : Option ℕ) → z ≤ end_in bytes o → is_use_touched change (end_reach c bytes o (start x (suc i))) ≡ true → is_use_touched change (uses_are.Reach z) ≡ true
+      by : (c o : Option ℕ) → z ≤ end_in bytes o → is_use_touched change (end_reach c bytes o (start x (suc i))) ≡ true
+          → is_use_touched change (uses_are.Reach z) ≡ true
       by (Some n) o room' h = reach_more change (start x (suc i)) z (omega (arith, less)) h
       by None (Some t) room' h = reach_more change (start x (suc i)) z (omega (arith, less)) h
       by None None room' h =
           let is : nat_lt (start x (suc i)) (length bytes) ≡ true = grind (arith, nat_tests) in
-          reach_more change (start x (suc i) + 1) z (omega (arith, less)) (sym (ap (λ b. is_use_touched change (if b then uses_are.Reach (start x (suc i) + 1) else uses_are.Size)) is) ∙ h)
+          reach_more change (start x (suc i) + 1) z (omega (arith, less))
+              (sym (ap (λ b. is_use_touched change (if b then uses_are.Reach (start x (suc i) + 1) else uses_are.Size)) is) ∙ h)
 
   -- what an end uses itself
   uses_far : (i : ℕ) → U (uses_at bytes x (ElementEnd i)) → hit (far i) ≡ true
   uses_far i = by x.list.count x.list.stream.to
     where
-      by : (c o : Option ℕ) → AnyOf (λ u. is_use_touched change u ≡ true) (end_uses c bytes o (start x (suc i))) → is_use_touched change (end_reach c bytes o (start x (suc i))) ≡ true
+      by : (c o : Option ℕ) → AnyOf (λ u. is_use_touched change u ≡ true) (end_uses c bytes o (start x (suc i)))
+          → is_use_touched change (end_reach c bytes o (start x (suc i))) ≡ true
       by (Some n) o h = absurd h
       by None (Some t) h = absurd h
       by None None (inl h) = h
@@ -154,18 +166,21 @@ module _ (d : Description) (bytes : List ℕ) (x : Listing) (plain : IsPlain d b
     -- ---- fields
 
     module _ (some : is_some x.layout.type_number ≡ true) where
-      reach_field : (n j : ℕ) → n < x.count → j ≤ x.layout.last → (o : Option ℕ) → is_some o ≡ true → U (element_reach bytes x o n) → hit (uses_are.Reach (place x n (suc j))) ≡ true
+      reach_field : (n j : ℕ) → n < x.count → j ≤ x.layout.last → (o : Option ℕ) → is_some o ≡ true → U (element_reach bytes x o n)
+          → hit (uses_are.Reach (place x n (suc j))) ≡ true
       reach_field n j low' few None e h = absurd (cc)
       reach_field zero j low' few (Some t) e h = absurd h
       reach_field (suc n) j low' few (Some t) e (inl h) =
           let first = first_size d bytes x plain in
-          far_to n (place x (suc n) (suc j)) (first_some x.layout (x.says (suc n)) (start x (suc n)) first.0 j first.1 first.2) (field_room d bytes x plain (suc n) j low' few) h
+          far_to n (place x (suc n) (suc j)) (first_some x.layout (x.says (suc n)) (start x (suc n)) first.0 j first.1 first.2)
+              (field_room d bytes x plain (suc n) j low' few) h
       reach_field (suc n) j low' few (Some t) e (inr h) = absurd h
 
       head_field : (j : ℕ) → j ≤ x.layout.last → T (Some (ElementHead i)) → G (FieldHead i j)
       head_field j few t = by (is_named_to x.layout j) refl (head t)
         where
-          by : (b : Bool) → is_named_to x.layout j ≡ b → G (ElementHead i) → T (if b then Some (SizeValue i) else prior_guard x i) ⊎ U (reach_of bytes x (FieldHead i j))
+          by : (b : Bool) → is_named_to x.layout j ≡ b → G (ElementHead i)
+              → T (if b then Some (SizeValue i) else prior_guard x i) ⊎ U (reach_of bytes x (FieldHead i j))
           by true e h = inl (head_value d bytes x plain T rises i low (named_more d bytes x plain j x.layout.last few e) t)
           by false e (inl g) = inl g
           by false e (inr u) = inr (inl (reach_field i j low few x.layout.type_number some u))
@@ -183,9 +198,11 @@ module _ (d : Description) (bytes : List ℕ) (x : Listing) (plain : IsPlain d b
         where
           before : (b : Bool) → T (if b then Some (SizeValue i) else prior_guard x i) → is_named_to x.layout (suc j) ≡ true → T (Some (SizeValue i))
           before true g e = g
-          before false g e = head_value d bytes x plain T rises i low (named_more d bytes x plain (suc j) x.layout.last few e) (head_guard d bytes x plain T rises i low g)
+          before false g e = head_value d bytes x plain T rises i low (named_more d bytes x plain (suc j) x.layout.last few e)
+              (head_guard d bytes x plain T rises i low g)
 
-          none : (b : Bool) → is_named_to x.layout j ≡ b → is_named_to x.layout (suc j) ≡ false → T (if b then Some (SizeValue i) else prior_guard x i) → T (prior_guard x i)
+          none : (b : Bool) → is_named_to x.layout j ≡ b → is_named_to x.layout (suc j) ≡ false → T (if b then Some (SizeValue i) else prior_guard x i)
+              → T (prior_guard x i)
           none true e f g = absurd (let never : true ≡ false = sym (named_more d bytes x plain j (suc j) (omega arith) e) ∙ f in cc)
           none false e f g = g
 
@@ -200,19 +217,22 @@ module _ (d : Description) (bytes : List ℕ) (x : Listing) (plain : IsPlain d b
           by (inl (inl h)) = head_field 0 few h
           by (inl (inr h)) = inl (sized_field 0 h)
           by (inr u) = inr u
-      field_falls (suc j) few t = by (falls (FieldHead i (suc j)) (low, few, some) t) (λ h. before (falls (FieldEnd i j) (low, omega (arith, few), some) h) (field_falls j (omega (arith, few))))
+      field_falls (suc j) few t = by (falls (FieldHead i (suc j)) (low, few, some) t)
+          (λ h. before (falls (FieldEnd i j) (low, omega (arith, few), some) h) (field_falls j (omega (arith, few))))
         where
           next : G (FieldHead i j) → G (FieldHead i (suc j))
           next (inl g) = inl (guard_next j few g)
           next (inr (inl u)) = inr (inl (reach_more change (place x i (suc j)) (place x i (suc (suc j))) (omega arith) u))
           next (inr (inr u)) = absurd u
 
-          before : AnyOf T (asked_by x (FieldEnd i j)) ⊎ U (uses_at bytes x (FieldEnd i j)) → (T (Some (FieldHead i j)) → G (FieldHead i j)) → G (FieldHead i (suc j))
+          before : AnyOf T (asked_by x (FieldEnd i j)) ⊎ U (uses_at bytes x (FieldEnd i j)) → (T (Some (FieldHead i j)) → G (FieldHead i j))
+              → G (FieldHead i (suc j))
           before (inl (inl h)) f = next (f h)
           before (inl (inr h)) f = absurd h
           before (inr u) f = absurd u
 
-          by : AnyOf T (asked_by x (FieldHead i (suc j))) ⊎ U (uses_at bytes x (FieldHead i (suc j))) → (T (Some (FieldEnd i j)) → G (FieldHead i (suc j))) → G (FieldHead i (suc j))
+          by : AnyOf T (asked_by x (FieldHead i (suc j))) ⊎ U (uses_at bytes x (FieldHead i (suc j))) → (T (Some (FieldEnd i j)) → G (FieldHead i (suc j)))
+              → G (FieldHead i (suc j))
           by (inl (inl h)) f = head_field (suc j) few h
           by (inl (inr (inl h))) f = f h
           by (inl (inr (inr h))) f = inl (sized_field (suc j) h)
@@ -258,7 +278,8 @@ module _ (d : Description) (bytes : List ℕ) (x : Listing) (plain : IsPlain d b
         last_by : (o : Option ℕ) → x.layout.type_number ≡ o → AnyOf T (last_asked o i x.layout.last) → G (ElementEnd i)
         last_by None e (inl h) = inl (to_prior i low h)
         last_by None e (inr h) = absurd h
-        last_by (Some k) e (inl h) = let some : is_some x.layout.type_number ≡ true = ap is_some e in last_falls some (field_end_falls some x.layout.last (omega arith) h)
+        last_by (Some k) e (inl h) = let some : is_some x.layout.type_number ≡ true = ap is_some e in
+            last_falls some (field_end_falls some x.layout.last (omega arith) h)
         last_by (Some k) e (inr (inl h)) = inl (to_prior i low h)
         last_by (Some k) e (inr (inr h)) = absurd h
 
@@ -281,7 +302,8 @@ module _ (d : Description) (bytes : List ℕ) (x : Listing) (plain : IsPlain d b
       before (inr (inl u)) = inr (head_from_end i low x.layout.type_number u)
       before (inr (inr u)) = absurd u
 
-      by : AnyOf T (asked_by x (ElementHead (suc i))) ⊎ U (uses_at bytes x (ElementHead (suc i))) → (T (Some (ElementEnd i)) → G (ElementEnd i)) → G (ElementHead (suc i))
+      by : AnyOf T (asked_by x (ElementHead (suc i))) ⊎ U (uses_at bytes x (ElementHead (suc i))) → (T (Some (ElementEnd i)) → G (ElementEnd i))
+          → G (ElementHead (suc i))
       by (inl (inl h)) f = inl (to_prior i (omega (arith, low)) h)
       by (inl (inr (inl h))) f = before (f h)
       by (inl (inr (inr h))) f = absurd h
@@ -290,7 +312,8 @@ module _ (d : Description) (bytes : List ℕ) (x : Listing) (plain : IsPlain d b
   -- ---- rests
 
   -- by the end, or the rest behind it
-  rest_splits : (i m : ℕ) → m < x.count → IsThere bytes x (Rest i) → T (Some (Rest i)) → T (Some (ElementEnd m)) ⊎ AnyOf T (Some (ElementEnd i) ∷ later_asked x.count i)
+  rest_splits : (i m : ℕ) → m < x.count → IsThere bytes x (Rest i) → T (Some (Rest i))
+      → T (Some (ElementEnd m)) ⊎ AnyOf T (Some (ElementEnd i) ∷ later_asked x.count i)
   rest_splits zero m last there t = by (falls (Rest 0) there t)
     where
       by : AnyOf T (asked_by x (Rest 0)) ⊎ U (uses_at bytes x (Rest 0)) → T (Some (ElementEnd m)) ⊎ AnyOf T (Some (ElementEnd 0) ∷ later_asked x.count 0)
@@ -299,7 +322,8 @@ module _ (d : Description) (bytes : List ℕ) (x : Listing) (plain : IsPlain d b
       by (inr u) = absurd u
   rest_splits (suc i) m last there t = by (falls (Rest (suc i)) there t)
     where
-      by : AnyOf T (asked_by x (Rest (suc i))) ⊎ U (uses_at bytes x (Rest (suc i))) → T (Some (ElementEnd m)) ⊎ AnyOf T (Some (ElementEnd (suc i)) ∷ later_asked x.count (suc i))
+      by : AnyOf T (asked_by x (Rest (suc i))) ⊎ U (uses_at bytes x (Rest (suc i)))
+          → T (Some (ElementEnd m)) ⊎ AnyOf T (Some (ElementEnd (suc i)) ∷ later_asked x.count (suc i))
       by (inl h) = inr h
       by (inr u) = absurd u
 
@@ -309,17 +333,21 @@ module _ (d : Description) (bytes : List ℕ) (x : Listing) (plain : IsPlain d b
       by : T (Some (ElementEnd m)) ⊎ AnyOf T (Some (ElementEnd i) ∷ later_asked x.count i) → T (Some (ElementEnd m))
       by (inl h) = h
       by (inr (inl h)) = end_later d bytes x plain T rises 0 i m sum (omega (arith, counted)) h
-      by (inr (inr h)) = let none : nat_le x.count (suc i) ≡ true = grind (arith, nat_tests) in absurd (subst (λ b. AnyOf T (if b then [] else Some (Rest (suc i)) ∷ [])) none h)
-  rest_falls (suc k) i m sum counted full t = by (rest_splits i m (omega (arith, counted)) (omega (arith, sum, counted), full) t) (rest_falls k (suc i) m (omega (arith, sum)) counted full)
+      by (inr (inr h)) = let none : nat_le x.count (suc i) ≡ true = grind (arith, nat_tests) in
+          absurd (subst (λ b. AnyOf T (if b then [] else Some (Rest (suc i)) ∷ [])) none h)
+  rest_falls (suc k) i m sum counted full t = by (rest_splits i m (omega (arith, counted)) (omega (arith, sum, counted), full) t)
+      (rest_falls k (suc i) m (omega (arith, sum)) counted full)
     where
       next : AnyOf T (Some (Rest (suc i)) ∷ []) → (T (Some (Rest (suc i))) → T (Some (ElementEnd m))) → T (Some (ElementEnd m))
       next (inl h) f = f h
       next (inr h) f = absurd h
 
-      by : T (Some (ElementEnd m)) ⊎ AnyOf T (Some (ElementEnd i) ∷ later_asked x.count i) → (T (Some (Rest (suc i))) → T (Some (ElementEnd m))) → T (Some (ElementEnd m))
+      by : T (Some (ElementEnd m)) ⊎ AnyOf T (Some (ElementEnd i) ∷ later_asked x.count i) → (T (Some (Rest (suc i))) → T (Some (ElementEnd m)))
+          → T (Some (ElementEnd m))
       by (inl h) f = h
       by (inr (inl h)) f = end_later d bytes x plain T rises (suc k) i m sum (omega (arith, counted)) h
-      by (inr (inr h)) f = let more : nat_le x.count (suc i) ≡ false = grind (arith, nat_tests) in next (subst (λ b. AnyOf T (if b then [] else Some (Rest (suc i)) ∷ [])) more h) f
+      by (inr (inr h)) f = let more : nat_le x.count (suc i) ≡ false = grind (arith, nat_tests) in
+          next (subst (λ b. AnyOf T (if b then [] else Some (Rest (suc i)) ∷ [])) more h) f
 
   -- ---- all nodes
 
@@ -341,7 +369,8 @@ module _ (d : Description) (bytes : List ℕ) (x : Listing) (plain : IsPlain d b
   all_rise k there (inr u) = reach_rises d bytes x plain T rises (λ u'. hit u' ≡ true) makes k there u
 
   guarded : (k : Which) → IsThere bytes x k → touched (Some k) ≡ (touched (guard_of x k) || list_any hit (reach_of bytes x k))
-  guarded k there = same_truth (touched (Some k)) (touched (guard_of x k) || list_any hit (reach_of bytes x k)) (λ t. there_is (all_fall k there t)) (λ t. back (true_or _ _ t))
+  guarded k there = same_truth (touched (Some k)) (touched (guard_of x k) || list_any hit (reach_of bytes x k)) (λ t. there_is (all_fall k there t))
+      (λ t. back (true_or _ _ t))
     where
       there_is : G k → (touched (guard_of x k) || list_any hit (reach_of bytes x k)) ≡ true
       there_is (inl g) = or_true _ _ (inl g)
@@ -353,4 +382,5 @@ module _ (d : Description) (bytes : List ℕ) (x : Listing) (plain : IsPlain d b
 
 pub guards_tell : GuardsTell
 guards_tell d bytes x plain k there n m is guard change =
-    sym (ap (node_touched d bytes x plain change) is) ∙ guarded d bytes x plain change k there ∙ ap (λ o. node_touched d bytes x plain change o || list_any (is_use_touched change) (reach_of bytes x k)) guard
+    sym (ap (node_touched d bytes x plain change) is) ∙ guarded d bytes x plain change k there
+        ∙ ap (λ o. node_touched d bytes x plain change o || list_any (is_use_touched change) (reach_of bytes x k)) guard

@@ -4,7 +4,8 @@ use Rattle.std.proofs.Common.{◌^◌}
 use Rattle.std.specs.Prelude.{option_map}
 use Rattle.ksv_expr_value.specs.Trail.{last, element_limit, all_but_last, first_step, same_trail, step_fits, fits, fits-more, trail_of-true}
 use Rattle.ksv_expr_value.specs.declared.step.Step.TheVariants as steps
-use Rattle.ksv_list_laws.proofs.Common.{◌≡◌, ℕ, ◌<◌, true, ◌∷◌, length, Option, Some, None, refl, sym, ap, arith, nat_tests, option_and_then, Trail, child, parent, trail_of-steps, Step}
+use Rattle.ksv_list_laws.proofs.Common.{◌≡◌, ℕ, ◌<◌, true, ◌∷◌, length, Option, Some, None, refl, sym, ap, arith, nat_tests, option_and_then, Trail, child}
+use Rattle.ksv_list_laws.proofs.Common.{parent, trail_of-steps, Step}
 
 pub part_of : (q r : Trail) (step : Step) → child q step ≡ Some r → (parent r ≡ q) × (last r ≡ Some step)
 part_of q r step e =
@@ -20,7 +21,8 @@ child_is q step ok few =
 pub element_is : (l : Trail) (i : ℕ) → length l.upward < 63 → i < element_limit → (p : Trail) × (child l (steps.Index i) ≡ Some p)
 element_is l i short low = child_is l (steps.Index i) (grind (arith, nat_tests)) (omega (arith, short))
 
-pub field_is : (l p : Trail) (i n : ℕ) → length l.upward < 63 → child l (steps.Index i) ≡ Some p → n < 2 ^ 32 → (q : Trail) × (child p (steps.Name n) ≡ Some q)
+pub field_is : (l p : Trail) (i n : ℕ) → length l.upward < 63 → child l (steps.Index i) ≡ Some p → n < 2 ^ 32 → (q : Trail)
+    × (child p (steps.Name n) ≡ Some q)
 field_is l p i n short is small =
     let up = ap length (trail_of-steps (steps.Index i ∷ l.upward) p is) in
     child_is p (steps.Name n) (grind (arith, nat_tests)) (omega (arith, up, short))

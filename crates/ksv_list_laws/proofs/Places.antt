@@ -4,14 +4,17 @@ use Rattle.std.proofs.Common.{◌*◌, ◌==◌}
 use Rattle.ksv_expr_value.specs.declared.step.Step.TheVariants as steps
 use Rattle.ksv_nodes.specs.declared.node.NodeKind.{NodeKind}
 use Rattle.ksv_nodes.specs.declared.node.NodeKind.TheVariants as nodes
-use Rattle.ksv_list_laws.proofs.Common.{◌≡◌, ◌∙◌, ℕ, zero, suc, ◌+◌, ◌-◌, ◌<◌, ◌≤◌, Bool, true, false, if◌then◌else◌, List, ◌∷◌, Some, inl, inr, refl, sym, ap, arith, nat_tests, cases_lt, unwrap_or, Trail, child, trail_of-steps, Step, Node, Layout, size_at, Listing}
+use Rattle.ksv_list_laws.proofs.Common.{◌≡◌, ◌∙◌, ℕ, zero, suc, ◌+◌, ◌-◌, ◌<◌, ◌≤◌, Bool, true, false, if◌then◌else◌, List, ◌∷◌, Some, inl, inr, refl, sym}
+use Rattle.ksv_list_laws.proofs.Common.{ap, arith, nat_tests, cases_lt, unwrap_or, Trail, child, trail_of-steps, Step, Node, Layout, size_at, Listing}
 use Rattle.ksv_list_laws.specs.Lists.{place_of}
 use Rattle.ksv_list_laws.specs.Nodes.{field_start}
 
 pub field_low : (y : Layout) (n a j k : ℕ) → j ≤ k → field_start y n a j ≤ field_start y n a k
-field_low y n a j zero le = let same : j ≡ 0 = omega (arith, le) in let e : field_start y n a j ≡ field_start y n a 0 = ap (field_start y n a) same in omega (arith, e)
+field_low y n a j zero le = let same : j ≡ 0 = omega (arith, le) in let e : field_start y n a j ≡ field_start y n a 0 = ap (field_start y n a) same in
+    omega (arith, e)
 field_low y n a j (suc k) le = elim (cases_lt k j) [
-  | inl less ↦ (let same : j ≡ suc k = omega (arith, le, less) in let e : field_start y n a j ≡ field_start y n a (suc k) = ap (field_start y n a) same in omega (arith, e))
+  | inl less ↦ (let same : j ≡ suc k = omega (arith, le, less) in let e : field_start y n a j ≡ field_start y n a (suc k) = ap (field_start y n a) same in
+      omega (arith, e))
   | inr more ↦ (let e = field_low y n a j k more in omega (arith, e))
 ]
 
@@ -42,7 +45,8 @@ place_is name (suc k) j le one = by (name (suc k) == name j) refl (λ few. place
     by : (b : Bool) → (name (suc k) == name j) ≡ b → (j ≤ k → place_of name (name j) k ≡ j) → (if b then suc k else place_of name (name j) k) ≡ j
     by true e lower = one (suc k) (omega arith) (grind (arith, nat_tests))
     by false e lower = elim (cases_lt k j) [
-      | inl less ↦ absurd (let same : suc k ≡ j = omega (arith, le, less) in let equal : name (suc k) ≡ name j = ap name same in let never : (name (suc k) == name j) ≡ true = grind (arith, nat_tests) in cc)
+      | inl less ↦ absurd (let same : suc k ≡ j = omega (arith, le, less) in let equal : name (suc k) ≡ name j = ap name same in
+          let never : (name (suc k) == name j) ≡ true = grind (arith, nat_tests) in cc)
       | inr more ↦ lower more
     ]
 
@@ -73,8 +77,10 @@ rank x m = steps_rank x m.kind m.path.upward
 pub rank_element : (x : Listing) (k : NodeKind) (l p : Trail) (i : ℕ) → child l (steps.Index i) ≡ Some p → steps_rank x k p.upward ≡ element_rank x k i
 rank_element x k l p i is = ap (steps_rank x k) (sym (trail_of-steps (steps.Index i ∷ l.upward) p is))
 
-pub rank_field : (x : Listing) (k : NodeKind) (l p q : Trail) (i j : ℕ) → child l (steps.Index i) ≡ Some p → child p (steps.Name (x.layout.name j)) ≡ Some q → place_of x.layout.name (x.layout.name j) x.layout.last ≡ j
+pub rank_field : (x : Listing) (k : NodeKind) (l p q : Trail) (i j : ℕ) → child l (steps.Index i) ≡ Some p → child p (steps.Name (x.layout.name j)) ≡ Some q
+    → place_of x.layout.name (x.layout.name j) x.layout.last ≡ j
     → steps_rank x k q.upward ≡ turns (width x) i + 3 * j + kind_rank k
 rank_field x k l p q i j is was at =
-    ap (steps_rank x k) (sym (ap (λ u. steps.Name (x.layout.name j) ∷ u) (trail_of-steps (steps.Index i ∷ l.upward) p is) ∙ trail_of-steps (steps.Name (x.layout.name j) ∷ p.upward) q was))
+    ap (steps_rank x k) (sym (ap (λ u. steps.Name (x.layout.name j) ∷ u) (trail_of-steps (steps.Index i ∷ l.upward) p is)
+        ∙ trail_of-steps (steps.Name (x.layout.name j) ∷ p.upward) q was))
     ∙ ap (λ n. turns (width x) i + 3 * n + kind_rank k) at

@@ -4,15 +4,20 @@
 use Rattle.std.proofs.Common.{◌^◌, ◌==◌, ◌&&◌}
 use Rattle.std.specs.Cmp.{first_so, second_so}
 use Rattle.std.specs.Prelude.{slice_get}
-use Rattle.ksv_desc.specs.Description.{MemberOfType, MemberKind, Parameter, Attribute, ParseInstance, ValueInstance, Switch, Extent, Sized, SizeEos, ByItself, Repeat, Once, Eos, Expr, Until, field_in, field_at}
+use Rattle.ksv_desc.specs.Description.{MemberOfType, MemberKind, Parameter, Attribute, ParseInstance, ValueInstance, Switch, Extent, Sized, SizeEos, ByItself}
+use Rattle.ksv_desc.specs.Description.{Repeat, Once, Eos, Expr, Until, field_in, field_at}
 use Rattle.ksv_desc.specs.Description as contents
 use Rattle.ksv_desc.specs.declared.order.ByteOrder.{ByteOrder}
 use Rattle.ksv_expr_tree.specs.Tree.{Arguments, Word, named}
 use Rattle.ksv_nodes.specs.declared.given.List as lists
 use Rattle.ksv_rule_meaning.specs.Fields.{Sought, members_of, behind, sought, is_attribute, last_attribute, in_field, in_kind, kind_of}
-use Rattle.ksv_list_laws.proofs.Common.{◌≡◌, ◌∙◌, ℕ, zero, suc, ◌+◌, ◌<◌, ◌≤◌, nat_lt, Bool, true, false, if◌then◌else◌, List, [], ◌∷◌, Option, Some, None, inl, inr, refl, sym, ap, subst, arith, nat_tests, cases_lt, is_some, unwrap_or, option_and_then, Answer, Description, Field, Content, Choice, Always, field_of, Layout, content_size, size_at}
+use Rattle.ksv_list_laws.proofs.Common.{◌≡◌, ◌∙◌, ℕ, zero, suc, ◌+◌, ◌<◌, ◌≤◌, nat_lt, Bool, true, false, if◌then◌else◌, List, [], ◌∷◌, Option, Some, None}
+use Rattle.ksv_list_laws.proofs.Common.{inl, inr, refl, sym, ap, subst, arith, nat_tests, cases_lt, is_some, unwrap_or, option_and_then, Answer, Description}
+use Rattle.ksv_list_laws.proofs.Common.{Field, Content, Choice, Always, field_of, Layout, content_size, size_at}
 use Rattle.ksv_list_laws.proofs.Truth.{none_is, some_is}
-use Rattle.ksv_list_laws.specs.Lists.{no_attribute, choice_size, extent_name, size_name, is_integer, before, whole, found, no_field, layout_of, same_name, is_once, is_sized, is_alone, is_in_order, is_plain_field, all_to, is_plain_type, repeats, object_layout, whole_layout, content_layout, field_layout, list_layout}
+use Rattle.ksv_list_laws.specs.Lists.{no_attribute, choice_size, extent_name, size_name, is_integer, before, whole, found, no_field, layout_of, same_name}
+use Rattle.ksv_list_laws.specs.Lists.{is_once, is_sized, is_alone, is_in_order, is_plain_field, all_to, is_plain_type, repeats, object_layout, whole_layout}
+use Rattle.ksv_list_laws.specs.Lists.{content_layout, field_layout, list_layout}
 use Rattle.ksv_list_laws.specs.Nodes.{sought_at}
 
 pub record IsNumber (f : Field) : Type 0 where
@@ -90,7 +95,8 @@ all_is p (suc k) j h le = elim (cases_lt k j) [
 -- ---- fields
 
 number_is : (f : Field) (c : Choice) → f.choice ≡ c → is_integer c ≡ true → f.valid ≡ None → IsNumber f
-number_is f (Always (contents.Number is_signed size order None)) e h u = record { is_signed = is_signed; size = size; order = order; always = e; unchecked = u }
+number_is f (Always (contents.Number is_signed size order None)) e h u =
+    record { is_signed = is_signed; size = size; order = order; always = e; unchecked = u }
 number_is f _ e h u = absurd (cc)
 
 named_in : (f : Field) (e : Extent) (x : ℕ) → f.extent ≡ e → extent_name e ≡ Some x → (w : Word) × (w.number ≡ Some x) × (f.extent ≡ Sized (named w))
@@ -111,7 +117,8 @@ sized_is y j None e h =
     let a = both _ _ h in
     let b = both _ _ a.1 in
     let c = both _ _ b.1 in
-    (less_is y.sizer j a.0, named_is (y.field j) (y.field j).choice (y.name y.sizer) refl (name_is _ _ b.0), number_is (y.field y.sizer) (y.field y.sizer).choice refl c.0 (none_is _ c.1))
+    (less_is y.sizer j a.0, named_is (y.field j) (y.field j).choice (y.name y.sizer) refl (name_is _ _ b.0),
+        number_is (y.field y.sizer) (y.field y.sizer).choice refl c.0 (none_is _ c.1))
 
 -- ---- members
 
@@ -119,7 +126,8 @@ sized_is y j None e h =
 get_later : {A : Type 0} (x : A) (xs : List A) (k : ℕ) → slice_get (x ∷ xs) (suc k) ≡ slice_get xs k
 get_later x xs k = refl
 
-kind_found : (x i : ℕ) (b : Option ℕ) (ms : List MemberOfType) (s : Sought) → sought x i b ms ≡ Some s → (k : ℕ) × (m : MemberOfType) × (s.member ≡ i + k) × (slice_get ms k ≡ Some m) × (m.kind ≡ s.kind)
+kind_found : (x i : ℕ) (b : Option ℕ) (ms : List MemberOfType) (s : Sought) → sought x i b ms ≡ Some s → (k : ℕ) × (m : MemberOfType) × (s.member ≡ i + k)
+    × (slice_get ms k ≡ Some m) × (m.kind ≡ s.kind)
 unfolding sought
 kind_found x i b [] s h = absurd (cc)
 kind_found x i b (m ∷ ms) s h = by (m.name == x) h (kind_found x (i + 1) (behind b m) ms s)
@@ -140,7 +148,8 @@ attribute_is : (o : Option Sought) (b : Option ℕ) → is_attribute (unwrap_or 
 attribute_is None b h e = absurd (cc)
 attribute_is (Some s) b h e = by s.kind refl h
   where
-    by : (k : MemberKind) → s.kind ≡ k → is_attribute k ≡ true → Some s ≡ Some (record { member = s.member; before = b; kind = Attribute (unwrap_or (field_in s.kind) no_field) })
+    by : (k : MemberKind) → s.kind ≡ k → is_attribute k ≡ true → Some s ≡ Some
+        (record { member = s.member; before = b; kind = Attribute (unwrap_or (field_in s.kind) no_field) })
     by (Attribute f) is h' =
         ap (λ z. Some (record { member = s.member; before = z; kind = s.kind })) e
         ∙ ap (λ k. Some (record { member = s.member; before = b; kind = k })) (is ∙ ap (λ k. Attribute (unwrap_or (field_in k) no_field)) (sym is))
@@ -178,13 +187,15 @@ module _ (d : Description) (t : ℕ) (ok : is_plain_type d t (layout_of d t) ≡
 
   before_is : (j k : ℕ) → j ≤ y.last → k ≤ y.last → y.name j ≡ y.name k → before y j ≡ before y k
   before_is j k low few same =
-      sym (name_is _ _ (in_order j low).1) ∙ ap (λ x. (unwrap_or (sought x 0 None (members_of d t)) no_attribute).before) same ∙ name_is _ _ (in_order k few).1
+      sym (name_is _ _ (in_order j low).1) ∙ ap (λ x. (unwrap_or (sought x 0 None (members_of d t)) no_attribute).before) same
+          ∙ name_is _ _ (in_order k few).1
 
   distinct_are : (j k : ℕ) → j ≤ y.last → k ≤ y.last → y.name j ≡ y.name k → j ≡ k
   distinct_are zero zero low few same = refl
   distinct_are zero (suc k) low few same = let e : ◌≡◌ {A = Option ℕ} None (Some (y.name k)) = before_is zero (suc k) low few same in absurd (cc)
   distinct_are (suc j) zero low few same = let e : ◌≡◌ {A = Option ℕ} (Some (y.name j)) None = before_is (suc j) zero low few same in absurd (cc)
-  distinct_are (suc j) (suc k) low few same = ap suc (distinct_are j k (omega (arith, low)) (omega (arith, few)) (some_is (y.name j) (y.name k) (before_is (suc j) (suc k) low few same)))
+  distinct_are (suc j) (suc k) low few same = ap suc (distinct_are j k (omega (arith, low)) (omega (arith, few))
+      (some_is (y.name j) (y.name k) (before_is (suc j) (suc k) low few same)))
 
   pub laid_out : IsLaidOut d t y
   laid_out = record {
@@ -205,7 +216,8 @@ module _ (d : Description) (f : Field) (y : Layout) where
   abbrev Is : Type 0
   Is = IsElementOf d f y y.type_number
 
-  by_object : (t : ℕ) (given : Arguments) (b : Bool) → f.choice ≡ Always (contents.Object t given) → f.extent ≡ ByItself → is_plain_type d t (layout_of d t) ≡ b
+  by_object : (t : ℕ) (given : Arguments) (b : Bool) → f.choice ≡ Always (contents.Object t given) → f.extent ≡ ByItself
+      → is_plain_type d t (layout_of d t) ≡ b
       → (if b then Some (layout_of d t) else None) ≡ Some y → Is
   by_object t given true c e ok is = subst (λ z. IsElementOf d f z z.type_number) (some_is (layout_of d t) y is) (given, c, e, laid_out d t ok)
   by_object t given false c e ok is = absurd (cc)
@@ -214,11 +226,14 @@ module _ (d : Description) (f : Field) (y : Layout) where
   by_content (contents.Object t given) ByItself e h is = by_object t given (is_plain_type d t (layout_of d t)) e h refl is
   by_content _ x e h is = absurd (cc)
 
-  by_size : (c : Content) (n : ℕ) (b : Bool) → f.choice ≡ Always c → content_size c ≡ Some n → nat_lt 0 n ≡ b → (if b then Some (whole f) else None) ≡ Some y → Is
-  by_size c n true e h some is = subst (λ z. IsElementOf d f z z.type_number) (some_is (whole f) y is) (refl, c, n, e, h, ap choice_size e ∙ h, (grind (arith, nat_tests)))
+  by_size : (c : Content) (n : ℕ) (b : Bool) → f.choice ≡ Always c → content_size c ≡ Some n → nat_lt 0 n ≡ b → (if b then Some (whole f) else None) ≡ Some y
+      → Is
+  by_size c n true e h some is = subst (λ z. IsElementOf d f z z.type_number) (some_is (whole f) y is)
+      (refl, c, n, e, h, ap choice_size e ∙ h, (grind (arith, nat_tests)))
   by_size c n false e h some is = absurd (cc)
 
-  by_sizes : (c : Content) (o : Option ℕ) → f.choice ≡ Always c → content_size c ≡ o → (if is_some o then whole_layout f o else object_layout d c f.extent) ≡ Some y → Is
+  by_sizes : (c : Content) (o : Option ℕ) → f.choice ≡ Always c → content_size c ≡ o
+      → (if is_some o then whole_layout f o else object_layout d c f.extent) ≡ Some y → Is
   by_sizes c (Some n) e h is = by_size c n (nat_lt 0 n) e h refl is
   by_sizes c None e h is = by_content c f.extent e refl is
 
@@ -230,7 +245,8 @@ pub is_read : (d : Description) (g : lists.List) (y : Layout) → list_layout d 
 unfolding field_of
 is_read d g y h = by (field_at d g.origin.member.type_number g.origin.member.member) refl h
   where
-    by_end : (f : Field) (b : Bool) → in_field (field_at d g.origin.member.type_number g.origin.member.member) ≡ Answer f → repeats f.repeat g.count ≡ b → (if b then content_layout d f f.choice else None) ≡ Some y → IsRead d g y
+    by_end : (f : Field) (b : Bool) → in_field (field_at d g.origin.member.type_number g.origin.member.member) ≡ Answer f → repeats f.repeat g.count ≡ b
+        → (if b then content_layout d f f.choice else None) ≡ Some y → IsRead d g y
     by_end f true is ends e = record { field = f; is = is; ends = ends; element = by_choice d f y f.choice refl e }
     by_end f false is ends e = absurd (cc)
 

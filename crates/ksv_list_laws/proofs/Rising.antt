@@ -2,7 +2,11 @@
 -- this is so of one of some
 use Rattle.std.proofs.Common.{not}
 use Rattle.ksv_bytes.specs.declared.uses.Use.TheVariants as uses_are
-use Rattle.ksv_list_laws.proofs.Common.{◌≡◌, ◌∙◌, ℕ, zero, suc, ◌+◌, ◌-◌, ◌<◌, nat_le, Bool, true, false, if◌then◌else◌, ◌||◌, List, [], ◌∷◌, Option, Some, None, ◌⊎◌, inl, inr, refl, sym, ap, subst, arith, nat_tests, is_some, Use, Description, size_at, is_named_to, Listing, start, Which, ElementHead, ElementEnd, Rest, FieldHead, FieldEnd, SizeValue, end_uses, size_asked, last_asked, later_asked, asked_by, element_uses, uses_at, prior_guard, guard_of, end_reach, prior_reach, element_reach, reach_of, IsPlain, IsThere}
+use Rattle.ksv_list_laws.proofs.Common.{◌≡◌, ◌∙◌, ℕ, zero, suc, ◌+◌, ◌-◌, ◌<◌, nat_le, Bool, true, false, if◌then◌else◌, ◌||◌, List, [], ◌∷◌, Option, Some}
+use Rattle.ksv_list_laws.proofs.Common.{None, ◌⊎◌, inl, inr, refl, sym, ap, subst, arith, nat_tests, is_some, Use, Description, size_at, is_named_to, Listing}
+use Rattle.ksv_list_laws.proofs.Common.{start, Which, ElementHead, ElementEnd, Rest, FieldHead, FieldEnd, SizeValue, end_uses, size_asked, last_asked}
+use Rattle.ksv_list_laws.proofs.Common.{later_asked, asked_by, element_uses, uses_at, prior_guard, guard_of, end_reach, prior_reach, element_reach, reach_of}
+use Rattle.ksv_list_laws.proofs.Common.{IsPlain, IsThere}
 use Rattle.ksv_list_laws.proofs.Plain.{IsElementOf, IsRead}
 use Rattle.ksv_list_laws.proofs.Telling.{read, first_size, sizer_low}
 use Rattle.ksv_list_laws.proofs.Truth.{none_is}
@@ -51,13 +55,16 @@ module _ (d : Description) (bytes : List ℕ) (x : Listing) (plain : IsPlain d b
     sized i (suc j) there e q = rises (FieldHead i (suc j)) there (inr (inr (subst (λ o. AnyOf Q (size_asked i o)) (sym e) (inl q))))
 
     next_field : (i j : ℕ) → IsField x i (suc j) → Q (Some (FieldHead i j)) → Q (Some (FieldHead i (suc j)))
-    next_field i j there q = let low = there.1 in rises (FieldHead i (suc j)) there (inr (inl (rises (FieldEnd i j) (there.0, omega (arith, low), there.2) (inl q))))
+    next_field i j there q = let low = there.1 in rises (FieldHead i (suc j)) there
+        (inr (inl (rises (FieldEnd i j) (there.0, omega (arith, low), there.2) (inl q))))
 
     value_field : (i j : ℕ) → IsField x i j → is_named_to x.layout j ≡ true → Q (Some (SizeValue i)) → Q (Some (FieldHead i j))
     value_field i zero there e q = sized i zero there (none_is (size_at x.layout 0) e) q
-    value_field i (suc j) there e q = by (is_named_to x.layout j) refl e (λ f. (let low = there.1 in value_field i j (there.0, omega (arith, low), there.2) f q))
+    value_field i (suc j) there e q = by (is_named_to x.layout j) refl e
+        (λ f. (let low = there.1 in value_field i j (there.0, omega (arith, low), there.2) f q))
       where
-        by : (b : Bool) → is_named_to x.layout j ≡ b → (b || not (is_some (size_at x.layout (suc j)))) ≡ true → (is_named_to x.layout j ≡ true → Q (Some (FieldHead i j))) → Q (Some (FieldHead i (suc j)))
+        by : (b : Bool) → is_named_to x.layout j ≡ b → (b || not (is_some (size_at x.layout (suc j)))) ≡ true
+            → (is_named_to x.layout j ≡ true → Q (Some (FieldHead i j))) → Q (Some (FieldHead i (suc j)))
         by true f e' before = next_field i j there (before f)
         by false f e' before = sized i (suc j) there (none_is (size_at x.layout (suc j)) e') q
 
@@ -66,7 +73,8 @@ module _ (d : Description) (bytes : List ℕ) (x : Listing) (plain : IsPlain d b
     last_end i low some q = by x.layout.type_number refl some
       where
         by : (o : Option ℕ) → x.layout.type_number ≡ o → is_some o ≡ true → Q (Some (ElementEnd i))
-        by (Some t) e h = rises (ElementEnd i) low (inr (subst (λ o. AnyOf Q (last_asked o i x.layout.last)) (sym e) (inl (rises (FieldEnd i x.layout.last) (low, omega arith, some) (inl q)))))
+        by (Some t) e h = rises (ElementEnd i) low (inr (subst (λ o. AnyOf Q (last_asked o i x.layout.last)) (sym e)
+            (inl (rises (FieldEnd i x.layout.last) (low, omega arith, some) (inl q)))))
         by None e h = absurd (cc)
 
     -- ---- from guards
@@ -101,10 +109,12 @@ module _ (d : Description) (bytes : List ℕ) (x : Listing) (plain : IsPlain d b
     rest_later (suc i) there q = rises (Rest (suc i)) there q
 
     pub rest_end : (k i m : ℕ) → i + k ≡ m → x.count ≡ suc m → is_last bytes x (x.count - 1) ≡ true → Q (Some (ElementEnd m)) → Q (Some (Rest i))
-    rest_end zero i m sum counted full q = let same : m ≡ i = omega (arith, sum) in rest_later i (omega (arith, sum, counted), full) (inl (subst (λ j. Q (Some (ElementEnd j))) same q))
+    rest_end zero i m sum counted full q = let same : m ≡ i = omega (arith, sum) in
+        rest_later i (omega (arith, sum, counted), full) (inl (subst (λ j. Q (Some (ElementEnd j))) same q))
     rest_end (suc k) i m sum counted full q =
         let more : nat_le x.count (suc i) ≡ false = grind (arith, nat_tests) in
-        rest_later i (omega (arith, sum, counted), full) (inr (subst (λ b. AnyOf Q (if b then [] else Some (Rest (suc i)) ∷ [])) (sym more) (inl (rest_end k (suc i) m (omega (arith, sum)) counted full q))))
+        rest_later i (omega (arith, sum, counted), full) (inr (subst (λ b. AnyOf Q (if b then [] else Some (Rest (suc i)) ∷ [])) (sym more)
+            (inl (rest_end k (suc i) m (omega (arith, sum)) counted full q))))
 
     pub guard_rises : (k : Which) → IsThere bytes x k → Q (guard_of x k) → Q (Some k)
     guard_rises (ElementHead i) there q = head_guard i there q
@@ -112,7 +122,8 @@ module _ (d : Description) (bytes : List ℕ) (x : Listing) (plain : IsPlain d b
     guard_rises (Rest i) there q =
         let low = there.0 in
         let counted : x.count ≡ suc (x.count - 1) = omega (arith, low) in
-        rest_end (x.count - 1 - i) i (x.count - 1) (omega (arith, low)) counted there.1 (end_guard (x.count - 1) (omega (arith, low)) (subst (λ n. Q (prior_guard x n)) counted q))
+        rest_end (x.count - 1 - i) i (x.count - 1) (omega (arith, low)) counted there.1
+            (end_guard (x.count - 1) (omega (arith, low)) (subst (λ n. Q (prior_guard x n)) counted q))
     guard_rises (FieldHead i j) there q = field_guarded i j there q
     guard_rises (FieldEnd i j) there q = rises (FieldEnd i j) there (inl (field_guarded i j there q))
     guard_rises (SizeValue i) there q = q
@@ -124,10 +135,13 @@ module _ (d : Description) (bytes : List ℕ) (x : Listing) (plain : IsPlain d b
       end_reaches i low r = by x.list.count x.list.stream.to r (λ h. makes (ElementEnd i) low h)
         where
           by_type : (o : Option ℕ) → x.layout.type_number ≡ o → R (uses_are.Reach (start x (suc i))) → Q (Some (ElementEnd i))
-          by_type None e h = rises (ElementEnd i) low (inl (makes (ElementHead i) low (subst (λ o. AnyOf R (element_uses o (start x (suc i)))) (sym e) (inl h))))
-          by_type (Some t) e h = let some : is_some x.layout.type_number ≡ true = ap is_some e in last_end i low some (makes (FieldHead i x.layout.last) (low, omega arith, some) (inl h))
+          by_type None e h = rises (ElementEnd i) low (inl (makes (ElementHead i) low
+              (subst (λ o. AnyOf R (element_uses o (start x (suc i)))) (sym e) (inl h))))
+          by_type (Some t) e h = let some : is_some x.layout.type_number ≡ true = ap is_some e in
+              last_end i low some (makes (FieldHead i x.layout.last) (low, omega arith, some) (inl h))
 
-          by : (c o : Option ℕ) → R (end_reach c bytes o (start x (suc i))) → (AnyOf R (end_uses c bytes o (start x (suc i))) → Q (Some (ElementEnd i))) → Q (Some (ElementEnd i))
+          by : (c o : Option ℕ) → R (end_reach c bytes o (start x (suc i))) → (AnyOf R (end_uses c bytes o (start x (suc i))) → Q (Some (ElementEnd i)))
+              → Q (Some (ElementEnd i))
           by (Some n) o h f = by_type x.layout.type_number refl h
           by None (Some t) h f = by_type x.layout.type_number refl h
           by None None h f = f (inl h)
@@ -148,7 +162,8 @@ module _ (d : Description) (bytes : List ℕ) (x : Listing) (plain : IsPlain d b
       reach_rises (Rest i) there r =
           let low = there.0 in
           let counted : x.count ≡ suc (x.count - 1) = omega (arith, low) in
-          rest_end (x.count - 1 - i) i (x.count - 1) (omega (arith, low)) counted there.1 (by (subst (λ n. AnyOf R (prior_reach bytes x n)) counted r) (omega (arith, low)))
+          rest_end (x.count - 1 - i) i (x.count - 1) (omega (arith, low)) counted there.1
+              (by (subst (λ n. AnyOf R (prior_reach bytes x n)) counted r) (omega (arith, low)))
         where
           by : AnyOf R (prior_reach bytes x (suc (x.count - 1))) → x.count - 1 < x.count → Q (Some (ElementEnd (x.count - 1)))
           by (inl h) low' = end_reaches (x.count - 1) low' h

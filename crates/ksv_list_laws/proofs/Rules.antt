@@ -15,16 +15,21 @@ use Rattle.ksv_nodes.specs.declared.given.Head.TheVariants as heads
 use Rattle.ksv_nodes.specs.declared.given.List as lists
 use Rattle.ksv_nodes.specs.declared.given.Origin.{Origin}
 use Rattle.ksv_nodes.specs.declared.given.Rested.{Rested}
-use Rattle.ksv_rule_meaning.specs.Ends.{place_of, start_of, not_empty, is_counted, is_last, element_end, end_at, end_of, part_rest, next_rest, rest_from, whole_rest, rest_at, rest_of}
+use Rattle.ksv_rule_meaning.specs.Ends.{place_of, start_of, not_empty, is_counted, is_last, element_end, end_at, end_of, part_rest, next_rest, rest_from}
+use Rattle.ksv_rule_meaning.specs.Ends.{whole_rest, rest_at, rest_of}
 use Rattle.ksv_rule_meaning.specs.Heads.{in_next, is_past, next_start, element_start, element_head, element_setting, head_at}
 use Rattle.ksv_list_laws.proofs.Chains.{AsksFirst}
-use Rattle.ksv_list_laws.proofs.Common.{◌≡◌, ◌∙◌, ℕ, suc, ◌+◌, ◌-◌, ◌<◌, ◌≤◌, nat_le, true, false, if◌then◌else◌, ◌||◌, List, [], ◌∷◌, length, Option, Some, None, Result, Ok, refl, ap, arith, nat_tests, Answer, Ask, bind, Use, byte_of_byte, at_byte, Trail, child, parent, Stream, Description, Field, Node, NodeFault, Given, Head, Done, end_in, Rule, See, head_node, end_node, in_path, ask_end, field_of, leaf, shape_at, part_end, head_of, meaning_of, rule_of, end_uses}
+use Rattle.ksv_list_laws.proofs.Common.{◌≡◌, ◌∙◌, ℕ, suc, ◌+◌, ◌-◌, ◌<◌, ◌≤◌, nat_le, true, false, if◌then◌else◌, ◌||◌, List, [], ◌∷◌, length, Option, Some}
+use Rattle.ksv_list_laws.proofs.Common.{None, Result, Ok, refl, ap, arith, nat_tests, Answer, Ask, bind, Use, byte_of_byte, at_byte, Trail, child, parent}
+use Rattle.ksv_list_laws.proofs.Common.{Stream, Description, Field, Node, NodeFault, Given, Head, Done, end_in, Rule, See, head_node, end_node, in_path}
+use Rattle.ksv_list_laws.proofs.Common.{ask_end, field_of, leaf, shape_at, part_end, head_of, meaning_of, rule_of, end_uses}
 use Rattle.ksv_list_laws.proofs.Paths.{part_of}
 use Rattle.ksv_list_laws.proofs.Says.{Says, says_answer, says_given, says_seen, says_by, reaches, ends_there}
 use Rattle.ksv_list_laws.specs.Lists.{repeats}
 use Rattle.ksv_list_laws.specs.Nodes.{is_last_at}
 
-pub head_rule : (d : Description) (l p : Trail) (i : ℕ) → child l (steps.Index i) ≡ Some p → rule_of d (head_node p) ≡ bind (element_head d p l (parent l) i) (λ h. Answer (givens.Head h))
+pub head_rule : (d : Description) (l p : Trail) (i : ℕ) → child l (steps.Index i) ≡ Some p
+    → rule_of d (head_node p) ≡ bind (element_head d p l (parent l) i) (λ h. Answer (givens.Head h))
 unfolding rule_of meaning_of head_of
 head_rule d l p i is =
     let up = part_of l p (steps.Index i) is in
@@ -46,13 +51,16 @@ end_rule d l p i is =
 abbrev pub as_rest : Rule Rested → Rule Given
 as_rest r = bind r (λ z. Answer (givens.Rest z.count z.place))
 
-first_rule : (d : Description) (l p : Trail) → child l (steps.Index 0) ≡ Some p → rule_of d (rest_node p) ≡ bind (whole_rest p l) (λ r. Answer (givens.Rest r.count r.place))
+first_rule : (d : Description) (l p : Trail) → child l (steps.Index 0) ≡ Some p
+    → rule_of d (rest_node p) ≡ bind (whole_rest p l) (λ r. Answer (givens.Rest r.count r.place))
 unfolding rule_of meaning_of rest_of
 first_rule d l p is =
     let up = part_of l p (steps.Index 0) is in
-    ap (λ o. bind (rest_at p o) (λ r. Answer (givens.Rest r.count r.place))) up.1 ∙ ap (λ q. bind (whole_rest p q) (λ r. Answer (givens.Rest r.count r.place))) up.0
+    ap (λ o. bind (rest_at p o) (λ r. Answer (givens.Rest r.count r.place))) up.1
+        ∙ ap (λ q. bind (whole_rest p q) (λ r. Answer (givens.Rest r.count r.place))) up.0
 
-next_rule : (d : Description) (l p : Trail) (i : ℕ) → child l (steps.Index (suc i)) ≡ Some p → rule_of d (rest_node p) ≡ bind (rest_from p l (suc i)) (λ r. Answer (givens.Rest r.count r.place))
+next_rule : (d : Description) (l p : Trail) (i : ℕ) → child l (steps.Index (suc i)) ≡ Some p
+    → rule_of d (rest_node p) ≡ bind (rest_from p l (suc i)) (λ r. Answer (givens.Rest r.count r.place))
 unfolding rule_of meaning_of rest_of
 next_rule d l p i is =
     let up = part_of l p (steps.Index (suc i)) is in
@@ -81,16 +89,21 @@ rest_next d l p i is = record { rest = _; is = next_rule d l p i is }
 
 -- ---- so many bytes from a place on
 
-pub leaf_says : (met : Node → Result Given NodeFault) (here : Trail) (bytes : List ℕ) (origin : Origin) (w : Stream) (a n : ℕ) → end_in bytes w.to ≤ length bytes → a + n ≤ end_in bytes w.to
-    → Says met here bytes (bind (leaf origin w (at_byte a) n) (λ h. Answer (givens.Head h))) (givens.Head (heads.Leaf (record { origin = origin; from = at_byte a; to = at_byte (a + n); end = at_byte (a + n) })))
+pub leaf_says : (met : Node → Result Given NodeFault) (here : Trail) (bytes : List ℕ) (origin : Origin) (w : Stream) (a n : ℕ)
+    → end_in bytes w.to ≤ length bytes → a + n ≤ end_in bytes w.to
+    → Says met here bytes (bind (leaf origin w (at_byte a) n) (λ h. Answer (givens.Head h)))
+        (givens.Head (heads.Leaf (record { origin = origin; from = at_byte a; to = at_byte (a + n); end = at_byte (a + n) })))
         [] (uses_are.Reach (a + n) ∷ [])
 unfolding leaf bind
 leaf_says met here bytes origin w a n within room =
-    says_by met here bytes _ (Ask (See (Reach w (a + n))) (λ x. Answer (givens.Head (heads.Leaf (record { origin = origin; from = at_byte a; to = at_byte (a + n); end = at_byte (a + n) }))))) _ [] _
-    (ap (λ b. Ask (See (Reach w (b + n))) (λ x. Answer (givens.Head (heads.Leaf (record { origin = origin; from = at_byte a; to = at_byte (b + n); end = at_byte (b + n) }))))) (byte_of_byte a))
+    says_by met here bytes _ (Ask (See (Reach w (a + n))) (λ x. Answer
+        (givens.Head (heads.Leaf (record { origin = origin; from = at_byte a; to = at_byte (a + n); end = at_byte (a + n) }))))) _ [] _
+    (ap (λ b. Ask (See (Reach w (b + n))) (λ x. Answer (givens.Head (heads.Leaf
+        (record { origin = origin; from = at_byte a; to = at_byte (b + n); end = at_byte (b + n) }))))) (byte_of_byte a))
     (says_seen met here bytes (Reach w (a + n)) _ tt (uses_are.Reach (a + n) ∷ []) _ (reaches bytes w (a + n) within room) refl)
 
-module _ (met : Node → Result Given NodeFault) (bytes : List ℕ) (d : Description) (g : lists.List) (l p : Trail) (listed : met (head_node l) ≡ Ok (givens.Head (heads.List g))) where
+module _ (met : Node → Result Given NodeFault) (bytes : List ℕ) (d : Description) (g : lists.List) (l p : Trail)
+    (listed : met (head_node l) ≡ Ok (givens.Head (heads.List g))) where
   abbrev says : Rule Given → Given → List Node → List Use → Type 0
   says rule a ns us = Says met p bytes rule a ns us
 
@@ -98,16 +111,19 @@ module _ (met : Node → Result Given NodeFault) (bytes : List ℕ) (d : Descrip
 
   -- what is left of an element's head, where its place is known
   abbrev pub read_at : ℕ → Rule Place → Rule Given
-  read_at i s = bind (bind s (λ z. bind (field_of d g.origin.member) (λ f. shape_at (element_setting p (parent l) g.origin z i) g.origin g.stream z f))) (λ h. Answer (givens.Head h))
+  read_at i s = bind (bind s (λ z. bind (field_of d g.origin.member) (λ f. shape_at (element_setting p (parent l) g.origin z i) g.origin g.stream z f)))
+      (λ h. Answer (givens.Head h))
 
-  head_from : (i : ℕ) (a : Given) (ns : List Node) (us : List Use) → child l (steps.Index i) ≡ Some p → says (read_at i (element_start l g i)) a ns us → says (rule_of d (head_node p)) a (head_node l ∷ ns) us
+  head_from : (i : ℕ) (a : Given) (ns : List Node) (us : List Use) → child l (steps.Index i) ≡ Some p → says (read_at i (element_start l g i)) a ns us
+      → says (rule_of d (head_node p)) a (head_node l ∷ ns) us
   unfolding element_head bind
   head_from i a ns us is s =
       says_by met p bytes _ (bind (element_head d p l (parent l) i) (λ h. Answer (givens.Head h))) a (head_node l ∷ ns) us (head_rule d l p i is)
       (says_given met p bytes (head_node l) _ (givens.Head (heads.List g)) a ns us listed s)
 
   -- the first begins with its list
-  pub first_head : (first : ℕ) (a : Given) (us : List Use) → child l (steps.Index 0) ≡ Some p → g.is_empty ≡ false → is_past g.count 0 ≡ false → g.start ≡ at_byte first
+  pub first_head : (first : ℕ) (a : Given) (us : List Use) → child l (steps.Index 0) ≡ Some p → g.is_empty ≡ false → is_past g.count 0 ≡ false
+      → g.start ≡ at_byte first
       → says (read_at 0 (Answer (at_byte first))) a [] us → says (rule_of d (head_node p)) a (head_node l ∷ []) us
   unfolding element_start
   first_head first a us is filled counted begins s =
@@ -116,8 +132,10 @@ module _ (met : Node → Result Given NodeFault) (bytes : List ℕ) (d : Descrip
       ∙ ap (λ b. if b then raise kinds.BadIndex else Answer g.start) counted ∙ ap (λ (z : Place). Answer z) begins)) s)
 
   -- each other where the one before ends, which isn't the last
-  pub next_head : (i b : ℕ) (q : Trail) (a : Given) (us : List Use) → child l (steps.Index (suc i)) ≡ Some p → child l (steps.Index i) ≡ Some q → g.is_empty ≡ false → is_past g.count (suc i) ≡ false
-      → met (end_node q) ≡ Ok (givens.End (at_byte b) false) → says (read_at (suc i) (Answer (at_byte b))) a [] us → says (rule_of d (head_node p)) a (head_node l ∷ end_node q ∷ []) us
+  pub next_head : (i b : ℕ) (q : Trail) (a : Given) (us : List Use) → child l (steps.Index (suc i)) ≡ Some p → child l (steps.Index i) ≡ Some q
+      → g.is_empty ≡ false → is_past g.count (suc i) ≡ false
+      → met (end_node q) ≡ Ok (givens.End (at_byte b) false) → says (read_at (suc i) (Answer (at_byte b))) a [] us
+          → says (rule_of d (head_node p)) a (head_node l ∷ end_node q ∷ []) us
   unfolding element_start next_start part_end bind
   next_head i b q a us is was filled counted ended s =
       let later : (suc i == 0) ≡ false = grind (arith, nat_tests) in
@@ -146,7 +164,8 @@ module _ (met : Node → Result Given NodeFault) (bytes : List ℕ) (d : Descrip
     unfolding not_empty is_last bind
     by i a z Eos None lt same good =
         says_by met p bytes _ (Ask (See (Done g.stream (at_byte z))) (λ b. Answer (givens.End (at_byte z) b))) _ [] _
-        (ap (λ b. as_end (bind (if b then raise {A = Unit {0}} kinds.NoBytes else Answer tt) (λ u. bind (is_last (parent l) g p i (at_byte z) Eos) (λ c. Answer (record { place = at_byte z; last = c }))))) (apart a z lt))
+        (ap (λ b. as_end (bind (if b then raise {A = Unit {0}} kinds.NoBytes else Answer tt)
+            (λ u. bind (is_last (parent l) g p i (at_byte z) Eos) (λ c. Answer (record { place = at_byte z; last = c }))))) (apart a z lt))
         (says_seen met p bytes (Done g.stream (at_byte z)) _ (nat_le (end_in bytes g.stream.to) z) _ _ (ends_there bytes g.stream z) refl)
     by i a z (Expr e) (Some n) lt same good =
         says_by met p bytes _ (Answer (givens.End (at_byte z) (n == i + 1))) _ [] []
@@ -158,24 +177,29 @@ module _ (met : Node → Result Given NodeFault) (bytes : List ℕ) (d : Descrip
 
     -- an element that begins at a and ends at z
     pub closes : (i a z : ℕ) (h : Head) → start_of h ≡ at_byte a → a < z
-        → says (as_end (element_end d p l (parent l) i h (at_byte z))) (givens.End (at_byte z) (is_last_at g.count bytes g.stream.to i z)) (head_node l ∷ []) (end_uses g.count bytes g.stream.to z)
+        → says (as_end (element_end d p l (parent l) i h (at_byte z))) (givens.End (at_byte z) (is_last_at g.count bytes g.stream.to i z)) (head_node l ∷ [])
+            (end_uses g.count bytes g.stream.to z)
     unfolding element_end bind
     closes i a z h begins lt =
         says_given met p bytes (head_node l) _ (givens.Head (heads.List g)) _ [] _ listed
-        (says_by met p bytes _ _ _ [] _ (ap (λ r. as_end (bind r (λ k. bind (not_empty k.repeat (start_of h) (at_byte z)) (λ u. bind (is_last (parent l) g p i (at_byte z) k.repeat) (λ b. Answer (record { place = at_byte z; last = b })))))) is_field
+        (says_by met p bytes _ _ _ [] _ (ap (λ r. as_end (bind r (λ k. bind (not_empty k.repeat (start_of h) (at_byte z))
+            (λ u. bind (is_last (parent l) g p i (at_byte z) k.repeat) (λ b. Answer (record { place = at_byte z; last = b })))))) is_field
         ∙ ap (λ s. by_repeat i s (at_byte z) f.repeat) begins) (by i a z f.repeat g.count lt refl ok))
 
   -- ---- rests
 
   -- behind the last element
-  pub last_rest : (n i : ℕ) (place : Place) → i + 1 ≡ n → met (end_node p) ≡ Ok (givens.End place true) → says (as_rest (rest_from p l i)) (givens.Rest n place) (end_node p ∷ []) []
+  pub last_rest : (n i : ℕ) (place : Place) → i + 1 ≡ n → met (end_node p) ≡ Ok (givens.End place true)
+      → says (as_rest (rest_from p l i)) (givens.Rest n place) (end_node p ∷ []) []
   unfolding rest_from bind
   last_rest n i place count ended = says_given met p bytes (end_node p) _ (givens.End place true) _ [] [] ended
       (says_by met p bytes _ (Answer (givens.Rest n place)) _ [] [] (ap (λ c. Answer (givens.Rest c place)) count) (says_answer met p bytes _))
 
   -- behind another one the rest from the next element on says how many there are
-  pub more_rest : (i : ℕ) (e : Place) (q : Trail) → child l (steps.Index (suc i)) ≡ Some q → suc i < element_limit → met (end_node p) ≡ Ok (givens.End e false)
-      → (n : ℕ) (place : Place) → met (rest_node q) ≡ Ok (givens.Rest n place) → says (as_rest (rest_from p l i)) (givens.Rest n place) (end_node p ∷ rest_node q ∷ []) []
+  pub more_rest : (i : ℕ) (e : Place) (q : Trail) → child l (steps.Index (suc i)) ≡ Some q → suc i < element_limit
+      → met (end_node p) ≡ Ok (givens.End e false)
+      → (n : ℕ) (place : Place) → met (rest_node q) ≡ Ok (givens.Rest n place)
+          → says (as_rest (rest_from p l i)) (givens.Rest n place) (end_node p ∷ rest_node q ∷ []) []
   unfolding rest_from next_rest part_rest bind
   more_rest i e q is low ended n place rested =
       let inner : (i + 1 == element_limit) ≡ false = grind (arith, nat_tests) in
@@ -186,11 +210,13 @@ module _ (met : Node → Result Given NodeFault) (bytes : List ℕ) (d : Descrip
       ∙ ap (λ o. as_rest (bind (in_path o) (λ r. ask_rest r))) is)
       (says_given met p bytes (rest_node q) _ (givens.Rest n place) _ [] [] rested (says_answer met p bytes _)))
 
-  pub rest_says : (i : ℕ) (a : Given) (ns : List Node) → child l (steps.Index (suc i)) ≡ Some p → says (as_rest (rest_from p l (suc i))) a ns [] → says (rule_of d (rest_node p)) a ns []
+  pub rest_says : (i : ℕ) (a : Given) (ns : List Node) → child l (steps.Index (suc i)) ≡ Some p → says (as_rest (rest_from p l (suc i))) a ns []
+      → says (rule_of d (rest_node p)) a ns []
   rest_says i a ns is s = says_by met p bytes _ _ a ns [] (next_rule d l p i is) s
 
   -- the first rest asks the list, too
-  pub whole_says : (a : Given) (ns : List Node) → child l (steps.Index 0) ≡ Some p → g.is_empty ≡ false → says (as_rest (rest_from p l 0)) a ns [] → says (rule_of d (rest_node p)) a (head_node l ∷ ns) []
+  pub whole_says : (a : Given) (ns : List Node) → child l (steps.Index 0) ≡ Some p → g.is_empty ≡ false → says (as_rest (rest_from p l 0)) a ns []
+      → says (rule_of d (rest_node p)) a (head_node l ∷ ns) []
   unfolding whole_rest bind
   whole_says a ns is filled s =
       says_by met p bytes _ _ a (head_node l ∷ ns) [] (first_rule d l p is)

@@ -5,7 +5,9 @@ use Rattle.ksv_expr_value.specs.Places.{byte_in}
 use Rattle.ksv_nodes.specs.Reading.{Reading, Reach, Seen, Look, gives, ends_before, reach_file, reach_within, done_at}
 use Rattle.ksv_nodes.specs.Rule.{Of}
 use Rattle.ksv_nodes.specs.Truth.{answer_of, asks_of, uses_of, with_given, with_seen, behind_given, behind_seen}
-use Rattle.ksv_list_laws.proofs.Common.{◌≡◌, ◌∙◌, ℕ, ◌+◌, ◌≤◌, nat_lt, nat_le, Bool, true, false, if◌then◌else◌, List, [], ◌∷◌, ◌++◌, length, Option, Some, None, Result, Ok, refl, sym, ap, subst, arith, nat_tests, Answer, Ask, Use, at_byte, Trail, Stream, Node, Given, NodeFault, Done, look, end_in, Rule, See}
+use Rattle.ksv_list_laws.proofs.Common.{◌≡◌, ◌∙◌, ℕ, ◌+◌, ◌≤◌, nat_lt, nat_le, Bool, true, false, if◌then◌else◌, List, [], ◌∷◌, ◌++◌, length, Option, Some}
+use Rattle.ksv_list_laws.proofs.Common.{None, Result, Ok, refl, sym, ap, subst, arith, nat_tests, Answer, Ask, Use, at_byte, Trail, Stream, Node, Given}
+use Rattle.ksv_list_laws.proofs.Common.{NodeFault, Done, look, end_in, Rule, See}
 use Rattle.ksv_list_laws.specs.Nodes.{stream_uses}
 
 module _ (met : Node → Result Given NodeFault) (here : Trail) (bytes : List ℕ) where
@@ -20,7 +22,8 @@ module _ (met : Node → Result Given NodeFault) (here : Trail) (bytes : List �
   says_answer a = record { answer = refl; asked = refl; used = refl }
 
   -- a node answered
-  pub says_given : {A : Type 0} (n : Node) (k : Given → Rule A) (g : Given) (a : A) (ns : List Node) (us : List Use) → met n ≡ Ok g → Says (k g) a ns us → Says (Ask (Of n) k) a (n ∷ ns) us
+  pub says_given : {A : Type 0} (n : Node) (k : Given → Rule A) (g : Given) (a : A) (ns : List Node) (us : List Use) → met n ≡ Ok g → Says (k g) a ns us
+      → Says (Ask (Of n) k) a (n ∷ ns) us
   says_given n k g a ns us e s = record {
     answer = ap (λ x. with_given x (λ y. answer_of met here bytes (k y))) e ∙ s.answer;
     asked = ap (λ x. n ∷ behind_given x (λ y. asks_of met here bytes (k y))) e ∙ ap (λ ms. n ∷ ms) s.asked;
@@ -28,7 +31,8 @@ module _ (met : Node → Result Given NodeFault) (here : Trail) (bytes : List �
   }
 
   -- something was seen
-  pub says_seen : {A : Type 0} (r : Reading) (k : Seen r → Rule A) (x : Seen r) (vs : List Use) (a : A) → look r bytes ≡ gives x vs → k x ≡ Answer a → Says (Ask (See r) k) a [] vs
+  pub says_seen : {A : Type 0} (r : Reading) (k : Seen r → Rule A) (x : Seen r) (vs : List Use) (a : A) → look r bytes ≡ gives x vs → k x ≡ Answer a
+      → Says (Ask (See r) k) a [] vs
   says_seen r k x vs a e s = record {
     answer = ap (λ (y : Look (Seen r)). with_seen here y.seen (λ z. answer_of met here bytes (k z))) e ∙ ap (λ p. answer_of met here bytes p) s;
     asked = ap (λ (y : Look (Seen r)). behind_seen y.seen (λ z. asks_of met here bytes (k z))) e ∙ ap (λ p. asks_of met here bytes p) s;
@@ -46,7 +50,8 @@ module _ (met : Node → Result Given NodeFault) (here : Trail) (bytes : List �
 
 -- ---- readings
 
-pub reaches : (bytes : List ℕ) (w : Stream) (t : ℕ) → end_in bytes w.to ≤ length bytes → t ≤ end_in bytes w.to → look (Reach w t) bytes ≡ gives tt (uses_are.Reach t ∷ [])
+pub reaches : (bytes : List ℕ) (w : Stream) (t : ℕ) → end_in bytes w.to ≤ length bytes → t ≤ end_in bytes w.to
+    → look (Reach w t) bytes ≡ gives tt (uses_are.Reach t ∷ [])
 unfolding reach_within reach_file
 reaches bytes w t within le = by w.to within le
   where
@@ -57,7 +62,8 @@ reaches bytes w t within le = by w.to within le
     by (Some e) within' le' =
         let is : nat_le t (length bytes) ≡ true = grind (arith, nat_tests) in
         let no : nat_lt e t ≡ false = grind (arith, nat_tests) in
-        ap (λ b. if b then ends_before [] else reach_file bytes t) no ∙ ap (λ b. if b then gives tt (uses_are.Reach t ∷ []) else ends_before (uses_are.Size ∷ [])) is
+        ap (λ b. if b then ends_before [] else reach_file bytes t) no ∙ ap
+            (λ b. if b then gives tt (uses_are.Reach t ∷ []) else ends_before (uses_are.Size ∷ [])) is
 
 byte_in_byte : (t : ℕ) → byte_in (at_byte t) ≡ t
 unfolding byte_in at_byte
@@ -68,7 +74,8 @@ unfolding done_at
 ends_there bytes w t = ap (λ n. done_at bytes w.to n) (byte_in_byte t) ∙ by w.to
   where
     turned : (b c : Bool) → (b ≡ true → c ≡ false) → (b ≡ false → c ≡ true)
-        → (if b then gives false (uses_are.Reach (t + 1) ∷ []) else gives true (uses_are.Size ∷ [])) ≡ gives c ((if b then uses_are.Reach (t + 1) else uses_are.Size) ∷ [])
+        → (if b then gives false (uses_are.Reach (t + 1) ∷ []) else gives true (uses_are.Size ∷ [])) ≡ gives c
+            ((if b then uses_are.Reach (t + 1) else uses_are.Size) ∷ [])
     turned true c f g = ap (λ x. gives x (uses_are.Reach (t + 1) ∷ [])) (sym (f refl))
     turned false c f g = ap (λ x. gives x (uses_are.Size ∷ [])) (sym (g refl))
 

@@ -14,7 +14,8 @@ use Rattle.ksv_rule_meaning.specs.Completed.{completed}
 use Rattle.ksv_rule_meaning.specs.Direct.{flattened}
 use Rattle.ksv_rule_meaning.specs.Kept.{is_hit, is_touched}
 use Rattle.ksv_rule_meaning.specs.Lemmas.Lawful.{described_lawful}
-use Rattle.ksv_list_laws.proofs.Common.{◌≡◌, ◌∙◌, ℕ, Bool, true, false, ◌||◌, List, [], ◌∷◌, ◌++◌, Result, Ok, refl, sym, ap, flat_map, list_any, Use, is_use_touched, Fault, Description, Standing, on, AreDistinct-none, Given, Node, described, Tells}
+use Rattle.ksv_list_laws.proofs.Common.{◌≡◌, ◌∙◌, ℕ, Bool, true, false, ◌||◌, List, [], ◌∷◌, ◌++◌, Result, Ok, refl, sym, ap, flat_map, list_any, Use}
+use Rattle.ksv_list_laws.proofs.Common.{is_use_touched, Fault, Description, Standing, on, AreDistinct-none, Given, Node, described, Tells}
 use Rattle.ksv_list_laws.specs.Laws.{TreesAreAsked}
 
 any_flat : {X Y : Type 0} (p : Y → Bool) (f : X → List Y) (xs : List X) → list_any p (flat_map f xs) ≡ list_any (λ x. list_any p (f x)) xs
@@ -33,11 +34,13 @@ module _ (d : Description) (bytes : List ℕ) where
   answered_by (Answered a) g e = tt
   answered_by (Circle c) g e = absurd (cc)
 
-  tree_is : (n : Node) (g : Given) (ns : List Node) (us : List Use) → Tells d bytes [] n g ns us → completed d bytes [] n ≡ flat_map (completed d bytes []) ns ++ n ∷ []
+  tree_is : (n : Node) (g : Given) (ns : List Node) (us : List Use) → Tells d bytes [] n g ns us
+      → completed d bytes [] n ≡ flat_map (completed d bytes []) ns ++ n ∷ []
   tree_is n g ns us t =
       let direct : done w [] ≡ completed d bytes [] = fun_ext (λ m. done_direct d bytes [] m (AreDistinct-none w)) in
       let settled : IsSettled w = law_on (described d) (described_lawful d) bytes in
-      sym (done_direct d bytes [] n (AreDistinct-none w)) ∙ kept-tree w settled n (answered_by (tells w [] n).outcome g (answers_are_direct d bytes [] n ∙ t.answer))
+      sym (done_direct d bytes [] n (AreDistinct-none w)) ∙ kept-tree w settled n
+          (answered_by (tells w [] n).outcome g (answers_are_direct d bytes [] n ∙ t.answer))
       ∙ ap (λ ms. flat_map (done w []) ms ++ n ∷ []) ((asks_are_direct d bytes [] n (record { distinct = AreDistinct-none w; apart = refl })).asked ∙ t.asked)
       ∙ ap (λ f. flat_map f ns ++ n ∷ []) direct
 

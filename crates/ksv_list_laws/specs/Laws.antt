@@ -40,7 +40,8 @@ guard_node x (Some k) = node_at x k
 
 -- A change touches the tree of a node just where it touches that of its guard, or the farthest place to which it reads.
 abbrev pub GuardsTell : Type 0
-GuardsTell = (d : Description) (bytes : List ℕ) (x : Listing) → IsPlain d bytes x → (k : Which) → IsThere bytes x k → (n m : Node) → node_at x k ≡ Some n → guard_node x (guard_of x k) ≡ Some m
+GuardsTell = (d : Description) (bytes : List ℕ) (x : Listing) → IsPlain d bytes x → (k : Which) → IsThere bytes x k → (n m : Node) → node_at x k ≡ Some n
+    → guard_node x (guard_of x k) ≡ Some m
     → (change : Change) → is_touched d bytes change n ≡ (is_touched d bytes change m || list_any (is_use_touched change) (reach_of bytes x k))
 
 -- What evaluating a node completes is what each node that it asks completes, and then it.
@@ -56,8 +57,10 @@ IsSingle (u ∷ v ∷ us) = ⊥
 
 -- What a node tells is right for an engine to keep, where all that it asks is kept.
 abbrev pub EntriesAreRight : Type 0
-EntriesAreRight = (d : Description) (bytes : List ℕ) (kept : List Node) (n : Node) (g : Given) (ns : List Node) (us : List Use) → Tells d bytes [] n g ns us → IsSingle us
-    → AllByRecursion (λ m. is_among node_number kept m ≡ true) ns → StandsIn (on (described d) bytes) kept (record { node = n; answer = Ok g; asked = ns; uses = us })
+EntriesAreRight = (d : Description) (bytes : List ℕ) (kept : List Node) (n : Node) (g : Given) (ns : List Node) (us : List Use) → Tells d bytes [] n g ns us
+    → IsSingle us
+    → AllByRecursion (λ m. is_among node_number kept m ≡ true) ns → StandsIn (on (described d) bytes) kept
+        (record { node = n; answer = Ok g; asked = ns; uses = us })
 
 -- all nodes but the values that say sizes, which are some nodes' guards
 abbrev pub is_folded : Which → Bool
@@ -67,6 +70,7 @@ is_folded _ = true
 -- An entry that names a node's guard alone, and has the farthest place as its only use, stands in for the node, where its guard is kept and
 -- all that it asks. So an engine needn't hold what such a node asked.
 abbrev pub FoldedStandIn : Type 0
-FoldedStandIn = (d : Description) (bytes : List ℕ) (x : Listing) → IsPlain d bytes x → (k : Which) → IsThere bytes x k → is_folded k ≡ true → (n m : Node) → node_at x k ≡ Some n → guard_node x (guard_of x k) ≡ Some m
+FoldedStandIn = (d : Description) (bytes : List ℕ) (x : Listing) → IsPlain d bytes x → (k : Which) → IsThere bytes x k → is_folded k ≡ true → (n m : Node)
+    → node_at x k ≡ Some n → guard_node x (guard_of x k) ≡ Some m
     → (kept : List Node) → AllByRecursion (λ o. is_among node_number kept o ≡ true) (nodes_of x (asked_by x k)) → is_among node_number kept m ≡ true
     → StandsIn (on (described d) bytes) kept (record { node = n; answer = Ok (answer_at bytes x k); asked = m ∷ []; uses = reach_of bytes x k })

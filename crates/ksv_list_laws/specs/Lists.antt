@@ -1,8 +1,10 @@
 -- What a list may be: plain lists. Such a list goes on to the end of its stream, or has a count. All its elements take the same bytes, or they
 -- are objects of one type that end with their fields; each field takes always the same bytes, or is bytes whose size one earlier field says.
-use Rattle.std.specs.Prelude.{ℕ, zero, suc, ◌-◌, ◌^◌, ◌==◌, nat_lt, Bool, true, false, not, ◌&&◌, ◌||◌, if◌then◌else◌, length, Option, Some, None, is_some, unwrap_or, slice_get}
+use Rattle.std.specs.Prelude.{ℕ, zero, suc, ◌-◌, ◌^◌, ◌==◌, nat_lt, Bool, true, false, not, ◌&&◌, ◌||◌, if◌then◌else◌, length, Option, Some, None, is_some}
+use Rattle.std.specs.Prelude.{unwrap_or, slice_get}
 use Rattle.ksv_expr_tree.specs.Tree.{named}
-use Rattle.ksv_desc.specs.Description.{Description, Field, Attribute, Parameter, Content, Choice, Always, Switch, Extent, Sized, ByItself, Repeat, Once, Eos, Expr, field_at, field_in, fields}
+use Rattle.ksv_desc.specs.Description.{Description, Field, Attribute, Parameter, Content, Choice, Always, Switch, Extent, Sized, ByItself, Repeat, Once, Eos}
+use Rattle.ksv_desc.specs.Description.{Expr, field_at, field_in, fields}
 use Rattle.ksv_desc.specs.Description as contents
 use Rattle.ksv_nodes.specs.declared.given.List as lists
 use Rattle.ksv_rule_meaning.specs.Fields.{Sought, members_of, sought, is_attribute, last_attribute}
@@ -113,7 +115,8 @@ is_once _ = false
 -- a field of a size that isn't 0, or one whose size an earlier integer says that has no `valid`
 abbrev pub is_sized : Layout → ℕ → Option ℕ → Bool
 is_sized y j (Some n) = nat_lt 0 n
-is_sized y j None = nat_lt y.sizer j && (same_name (size_name (y.field j).choice (y.field j).extent) (Some (y.name y.sizer)) && (is_integer (y.field y.sizer).choice && not (is_some (y.field y.sizer).valid)))
+is_sized y j None = nat_lt y.sizer j && (same_name (size_name (y.field j).choice (y.field j).extent) (Some (y.name y.sizer)) &&
+    (is_integer (y.field y.sizer).choice && not (is_some (y.field y.sizer).valid)))
 
 -- it is read once and has no condition
 abbrev pub is_alone : Field → Bool

@@ -1,5 +1,6 @@
 -- The nodes of a plain list's elements, and what each of them is to answer, to ask and to use: in closed form, by numbers alone.
-use Rattle.std.specs.Prelude.{◌≡◌, ℕ, zero, suc, ◌+◌, ◌-◌, ◌==◌, ◌<◌, ◌≤◌, nat_lt, nat_le, Bool, true, false, if◌then◌else◌, List, [], ◌∷◌, length, Option, Some, None, is_some, option_map, option_and_then, unwrap_or, Ok, pos, slice_range}
+use Rattle.std.specs.Prelude.{◌≡◌, ℕ, zero, suc, ◌+◌, ◌-◌, ◌==◌, ◌<◌, ◌≤◌, nat_lt, nat_le, Bool, true, false, if◌then◌else◌, List, [], ◌∷◌, length, Option}
+use Rattle.std.specs.Prelude.{Some, None, is_some, option_map, option_and_then, unwrap_or, Ok, pos, slice_range}
 use Rattle.ksv_basics.specs.Plan.{Answer}
 use Rattle.ksv_bytes.specs.declared.uses.Use.{Use}
 use Rattle.ksv_bytes.specs.declared.uses.Use.TheVariants as uses_are
@@ -88,7 +89,8 @@ nodes_of x (Some k ∷ ks) = with_first (node_at x k) (nodes_of x ks)
 
 -- the object that is read at a byte
 abbrev pub object_from : lists.List → ℕ → ℕ → Object
-object_from g t a = record { origin = Some (record g.origin { case = None }); type_number = t; stream = g.stream; start = at_byte a; ending = endings.ByFields }
+object_from g t a = record { origin = Some (record g.origin { case = None }); type_number = t; stream = g.stream; start = at_byte a; ending =
+    endings.ByFields }
 
 -- what is read from a byte to another
 abbrev pub leaf_from : Origin → ℕ → ℕ → Given
@@ -121,7 +123,8 @@ abbrev pub answer_at : List ℕ → Listing → Which → Given
 answer_at bytes x (ElementHead i) = element_from x.list x.layout.type_number (start x i) (start x (suc i))
 answer_at bytes x (ElementEnd i) = givens.End (at_byte (start x (suc i))) (is_last bytes x i)
 answer_at bytes x (Rest i) = givens.Rest x.count (at_byte (start x x.count))
-answer_at bytes x (FieldHead i j) = leaf_from (origin_of (object_from x.list (unwrap_or x.layout.type_number 0) (start x i)) (sought_at x.layout j)) (place x i j) (place x i (suc j))
+answer_at bytes x (FieldHead i j) = leaf_from (origin_of (object_from x.list (unwrap_or x.layout.type_number 0) (start x i)) (sought_at x.layout j))
+    (place x i j) (place x i (suc j))
 answer_at bytes x (FieldEnd i j) = givens.End (at_byte (place x i (suc j))) false
 answer_at bytes x (SizeValue i) = givens.Value (values.Int (pos (x.says i)))
 
