@@ -45,14 +45,14 @@ same_answer met met' here bytes same {A = A} (Ask (Of n) k) a h = by_given (met 
   where
     by_given : (r : Result Given NodeFault) → met n ≡ r → with_given r (λ g. answer_of met here bytes (k g)) ≡ Ok a
         → ((g : Given) → answer_of met here bytes (k g) ≡ Ok a → answer_of met' here bytes (k g) ≡ Ok a)
-            → with_given (met' n) (λ g. answer_of met' here bytes (k g)) ≡ Ok a
+        → with_given (met' n) (λ g. answer_of met' here bytes (k g)) ≡ Ok a
     by_given (Ok g) is e later = ap (λ r. with_given r (λ x. answer_of met' here bytes (k x))) (same n g is) ∙ later g e
     by_given (Err f) is e later = absurd (cc)
 same_answer met met' here bytes same {A = A} (Ask (See r) k) a h = by_seen (look r bytes).seen h (λ x. same_answer met met' here bytes same (k x) a)
   where
     by_seen : (o : Option (Seen r)) → with_seen here o (λ x. answer_of met here bytes (k x)) ≡ Ok a
         → ((x : Seen r) → answer_of met here bytes (k x) ≡ Ok a → answer_of met' here bytes (k x) ≡ Ok a)
-            → with_seen here o (λ x. answer_of met' here bytes (k x)) ≡ Ok a
+        → with_seen here o (λ x. answer_of met' here bytes (k x)) ≡ Ok a
     by_seen (Some x) e later = later x e
     by_seen None e later = absurd (cc)
 
@@ -103,7 +103,7 @@ pub record IsChain (d : Description) (bytes : List ℕ) (root : Node) (given : G
   pub first : (m : Node) → IsPart c m → AsksFirst d m root ⊎ ((n : Node) × IsPart c n × (c.rank n < c.rank m) × AsksFirst d m n)
   pub steps : (k : c.Part) (m : Node) → c.Is k m → (met : Node → Result Given NodeFault) → met root ≡ Ok given
       → ((j : c.Part) (n : Node) → c.rank n < c.rank m → c.Is j n → met n ≡ Ok (c.answer j))
-          → Says met m.path bytes (rule_of d m) (c.answer k) (c.asked k) (c.used k)
+      → Says met m.path bytes (rule_of d m) (c.answer k) (c.asked k) (c.used k)
 
 module _ (d : Description) (bytes : List ℕ) (root : Node) (given : Given) (c : Chain) (chain : IsChain d bytes root given c) where
   -- nodes of the chain from a rank on
@@ -141,7 +141,7 @@ module _ (d : Description) (bytes : List ℕ) (root : Node) (given : Given) (c :
       by (Ok y) e = never y e
       by (Err f) e =
           let is : answer_of met m.path bytes (rule_of d m) ≡ Err f = ap (λ p. answer_of met m.path bytes p) a.is
-              ∙ ap (λ r. with_given r (λ y. answer_of met m.path bytes (a.rest y))) e in
+          ∙ ap (λ r. with_given r (λ y. answer_of met m.path bytes (a.rest y))) e in
           let both = sym is ∙ h in cc
 
   leads : (fuel depth : ℕ) (opened : List Node) (m : Node) (g : Given) → c.rank m < fuel → IsPart c m → is_among node_number opened root ≡ true
@@ -152,7 +152,7 @@ module _ (d : Description) (bytes : List ℕ) (root : Node) (given : Given) (c :
       let ran = ruled d bytes depth opened m g h in
       let met = answer_within d bytes depth (m ∷ opened) in
       let above : is_among node_number (m ∷ opened) root ≡ true = or_true (nat_eq (node_number root) (node_number m)) (is_among node_number opened root)
-          (inr up) in
+      (inr up) in
       elim (chain.first m a) [
         | inl x ↦ no_answer met m root g x (λ y e. (let shut = sym (open_is d bytes depth (m ∷ opened) root above) ∙ e in cc)) ran.1
         | inr x ↦ no_answer met m x.0 g x.3 (λ y e. leads fuel depth (m ∷ opened) x.0 y (let below = x.2 in omega (arith, below, lt)) x.1 above e) ran.1
@@ -188,7 +188,7 @@ module _ (d : Description) (bytes : List ℕ) (root : Node) (given : Given) (c :
       let rule = answer_of (answer_within d bytes depth (n ∷ others)) n.path bytes (rule_of d n) in
       let same : rule ≡ Ok g = same_answer (answer_within d bytes depth (n ∷ opened)) (answer_within d bytes depth (n ∷ others)) n.path bytes
       (λ m g' e. stays depth (n ∷ opened) (n ∷ others) m g' (or_true (nat_eq (node_number root) (node_number m)) (is_among node_number (n ∷ opened) root)
-          (inr held))
+      (inr held))
       (extra_both n opened others extra) e) (rule_of d n) g r.1 in
       ap (λ b. cond b (circle n) rule) (free r.0 (is_among node_number others n) refl) ∙ same
     where

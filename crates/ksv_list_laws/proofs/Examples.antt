@@ -55,9 +55,9 @@ module _ (f : Field) (bytes : List ℕ) (l : Trail) (is : child root (steps.Name
       let met = from_nothing (of_list f) bytes (head_node l ∷ []) in
       let all : Says met l bytes (rule_of (of_list f) (head_node l)) (givens.Head (heads.List g)) (head_node root ∷ []) us =
       says_by met l bytes _ _ _ _ _ (member_rule (of_list f) root l 0 is)
-          (says_given met l bytes (head_node root) _ (givens.Head root_head) _ [] us root_answers said) in
+      (says_given met l bytes (head_node root) _ (givens.Head root_head) _ [] us root_answers said) in
       answers_follow_rules (of_list f) bytes [] (head_node l) (record { distinct = AreDistinct-none (on (described (of_list f)) bytes); apart = refl })
-          ∙ all.answer
+      ∙ all.answer
 
   short : length l.upward < 63
   short = let n = ap length (trail_of-steps (steps.Name 0 ∷ []) l is) in omega (arith, n)

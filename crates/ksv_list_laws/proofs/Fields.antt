@@ -100,7 +100,7 @@ module _ (met : Node → Result Given NodeFault) (bytes : List ℕ) (d : Descrip
     there_is b =
         let f = y.field j in
         ap (λ c. bind (holds (at b) c) (λ there. if there then repeated (at b) (origin_of o (sought_at y j)) o.stream (at_byte b) f f.repeat else Answer
-            (heads.Absent (Some (at_byte b))))) (laid.free j low)
+        (heads.Absent (Some (at_byte b))))) (laid.free j low)
         ∙ ap (λ r. repeated (at b) (origin_of o (sought_at y j)) o.stream (at_byte b) f r) (laid.once j low)
 
     abbrev begun : Rule Place → Rule Given
@@ -125,7 +125,7 @@ module _ (met : Node → Result Given NodeFault) (bytes : List ℕ) (d : Descrip
     read_fixed b n c always size room =
         says_by met x bytes (begun (Answer (at_byte b))) _ _ [] (uses_are.Reach (b + n) ∷ [])
         (ap (λ z. bind z (λ h. Answer (givens.Head h))) (there_is b ∙ shape_is (at b) (origin_of o (sought_at y j)) o.stream (at_byte b)
-            (y.field j) c n always size))
+        (y.field j) c n always size))
         (leaf_says met x bytes (origin_of o (sought_at y j)) o.stream b n within room)
 
     -- what has a size by name: its value is asked
@@ -139,7 +139,7 @@ module _ (met : Node → Result Given NodeFault) (bytes : List ℕ) (d : Descrip
 
     size_rule : (b k : ℕ) (w : Word) (q : Trail) → w.number ≡ Some k → child p (steps.Name k) ≡ Some q
         → size_of (at b) (named w) ≡ bind (bind (bind (bind (ask_value q) (λ v. Answer (Valued v))) (λ h. translate (wanted (at b)) Here (asked_value h)))
-            (λ v. in_integer v)) (λ z. in_size z)
+        (λ v. in_integer v)) (λ z. in_size z)
     unfolding size_of integer_of expression wanted expression_value member_value member_path bind
     size_rule b k w q number was =
         ap (λ z. bind (bind (translate (wanted (at b)) Here (member_value p z)) (λ v. in_integer v)) (λ z. in_size z)) number
@@ -171,7 +171,7 @@ module _ (met : Node → Result Given NodeFault) (bytes : List ℕ) (d : Descrip
     pub next_part : (i b n : ℕ) (q : Trail) (ns : List Node) → j ≡ suc i → child p (steps.Name (y.name i)) ≡ Some q
         → met (end_node q) ≡ Ok (givens.End (at_byte b) false)
         → is_of_bits (y.field j).choice ≡ false → Reads b n ns → says x (rule_of d (head_node x)) (leaf_from (origin_of o (sought_at y j)) b (b + n))
-            (head_node p ∷ end_node q ∷ ns) (uses_are.Reach (b + n) ∷ [])
+        (head_node p ∷ end_node q ∷ ns) (uses_are.Reach (b + n) ∷ [])
     unfolding attribute_start part_end bind
     next_part i b n q ns later was ended no_bits reads =
         part_head _ (end_node q ∷ ns) _
@@ -189,7 +189,7 @@ module _ (met : Node → Result Given NodeFault) (bytes : List ℕ) (d : Descrip
   part_ends n x k is e =
       let up = part_of p x (steps.Name n) is in
       says_by met x bytes _ _ _ _ [] (ap (λ z. bind (bind (ask_head x) (λ h. bind (place_of d x h) (λ w. end_at d x z h w)))
-          (λ v. Answer (givens.End v.place v.last))) up.1)
+      (λ v. Answer (givens.End v.place v.last))) up.1)
       (says_given met x bytes (head_node x) _ (givens.Head (heads.Leaf k)) _ [] [] e (says_answer met x bytes _))
 
   -- ---- the value that says a size
@@ -231,9 +231,9 @@ module _ (met : Node → Result Given NodeFault) (bytes : List ℕ) (d : Descrip
         sym (ap (λ c. integer_in c (slice_range bytes from to)) number.always) ∙ said in
         says_given met x bytes (head_node x) _ (givens.Head (heads.Leaf leaf_there)) _ [] (uses_are.Bytes from to ∷ []) headed
         (says_by met x bytes (checked (value_at d x (heads.Leaf leaf_there)))
-            (Ask (See (Peek from to)) (λ zs. checked (number_in number.is_signed number.order None zs))) _ [] _
+        (Ask (See (Peek from to)) (λ zs. checked (number_in number.is_signed number.order None zs))) _ [] _
         (ap checked read_value ∙ ap (λ k. Ask (See (Peek k (byte_of (at_byte to)))) (λ zs. checked (number_in number.is_signed number.order None zs)))
-            (byte_of_byte from)
+        (byte_of_byte from)
         ∙ ap (λ k. Ask (See (Peek from k)) (λ zs. checked (number_in number.is_signed number.order None zs))) (byte_of_byte to))
         (says_seen met x bytes (Peek from to) _ (slice_range bytes from to) (uses_are.Bytes from to ∷ []) _ (peeks some room)
         (ap checked number_is ∙ ap (λ z. bind (bind z (λ u. Answer (values.Int (pos n)))) (λ v. Answer (givens.Value v))) (check_is (values.Int (pos n))))))

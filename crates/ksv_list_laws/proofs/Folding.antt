@@ -119,7 +119,7 @@ module _ (d : Description) (bytes : List ℕ) (x : Listing) (plain : IsPlain d b
     where
       by : (o : Option Node) → ((m : Node) × Contains (node_tree o) m × P m) ⊎ AnyOf (λ k'. (m : Node) × Contains (tree_of k') m × P m) ks
           → (AnyOf (λ k'. (m : Node) × Contains (tree_of k') m × P m) ks → (m : Node) × Contains (flat_map (tree w) (nodes_of x ks)) m × P m) → (m : Node)
-              × Contains (flat_map (tree w) (with_first o (nodes_of x ks))) m × P m
+          × Contains (flat_map (tree w) (with_first o (nodes_of x ks))) m × P m
       by None (inl h') f = absurd (let none = h'.1.1 in omega (arith, none))
       by None (inr h') f = f h'
       by (Some n) (inl h') f = (h'.0, Contains-append_left _ _ h'.0 h'.1, h'.2)
@@ -134,9 +134,12 @@ module _ (d : Description) (bytes : List ℕ) (x : Listing) (plain : IsPlain d b
       rises : Rises bytes x (λ j. (m : Node) × Contains (tree_of j) m × Contains (tells w [] m).uses u)
       rises j there' a =
           let n = node_is d bytes x plain j there' in
-          let r = among (λ m. Contains (tells w [] m).uses u) (asked_by x j) a in
-          (r.0, subst (λ o. Contains (node_tree o) r.0) (sym n.1) (subst (λ ms. Contains ms r.0) (sym (own j there' n.0 n.1).whole)
-              (Contains-append_left _ _ r.0 r.1)), r.2)
+          let r = among (λ m. Contains (tells w [] m).uses u) (asked_by x j) a in (
+            r.0,
+            subst (λ o. Contains (node_tree o) r.0) (sym n.1) (subst (λ ms. Contains ms r.0) (sym (own j there' n.0 n.1).whole)
+                (Contains-append_left _ _ r.0 r.1)),
+            r.2,
+          )
 
       uses_in : (us : List Use) → AnyOf (λ v. v ≡ u) us → Contains us u
       uses_in [] h' = absurd h'
@@ -251,11 +254,13 @@ folded_stand_in d bytes x plain k there folded n m is guard kept all named =
           ∙ or_out (engines.is_touched (on (described d) bytes) change m) (list_any (is_use_touched change) (reach_of bytes x k));
       few = (let same = ap length o.asked in omega (arith, asks, same));
       once = single_once (reach_of bytes x k) (reach_single d bytes x plain k);
-      bytes = λ from to. ((λ h. absurd (no_bytes (reach_of bytes x k) from to (reach_places d bytes x plain k) h)),
-          (λ h. absurd (no_bytes (uses_at bytes x k) from to (use_places d bytes x plain k folded) ((o.used (uses_are.Bytes from to)).0 h))));
+      bytes = λ from to. (
+        (λ h. absurd (no_bytes (reach_of bytes x k) from to (reach_places d bytes x plain k) h)),
+        (λ h. absurd (no_bytes (uses_at bytes x k) from to (use_places d bytes x plain k folded) ((o.used (uses_are.Bytes from to)).0 h))),
+      );
       made = each (reach_of bytes x k) (λ u h. (let r = made d bytes x plain u k there h in
           let c : Contains (tree (on (described d) bytes) n) r.0 = subst (λ z. Contains (node_tree d bytes x plain z) r.0) is r.1 in
-              (c.0, r.0, c.1, c.2, r.2)));
+          (c.0, r.0, c.1, c.2, r.2)));
     }
   where
     each : {P : Use → Type 0} (us : List Use) → ((u : Use) → AnyOf (λ v. v ≡ u) us → P u) → AllByRecursion P us

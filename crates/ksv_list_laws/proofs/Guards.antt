@@ -58,11 +58,11 @@ module _ (d : Description) (bytes : List ℕ) (x : Listing) (plain : IsPlain d b
   abbrev touched : Option Which → Bool
   touched k = node_touched (guard_node x k)
 
-  abbrev T : Option Which → Type 0
-  T k = touched k ≡ true
+  abbrev IsTouched : Option Which → Type 0
+  IsTouched k = touched k ≡ true
 
-  abbrev U : List Use → Type 0
-  U us = AnyOf (λ u. hit u ≡ true) us
+  abbrev AreHit : List Use → Type 0
+  AreHit us = AnyOf (λ u. hit u ≡ true) us
 
   any_asked : (ks : List (Option Which)) → list_any (is_touched d bytes change) (nodes_of x ks) ≡ list_any touched ks
   any_asked [] = refl
@@ -79,18 +79,18 @@ module _ (d : Description) (bytes : List ℕ) (x : Listing) (plain : IsPlain d b
   by_asks k there =
       let n = node_is d bytes x plain k there in
       ap node_touched n.1 ∙ touched_is d bytes change n.0 _ _ _ (tells d bytes x plain k there n.0 n.1)
-          ∙ ap (λ b. b || list_any hit (uses_at bytes x k)) (any_asked (asked_by x k))
+      ∙ ap (λ b. b || list_any hit (uses_at bytes x k)) (any_asked (asked_by x k))
 
-  rises : Rises bytes x T
+  rises : Rises bytes x IsTouched
   rises k there q = by_asks k there ∙ or_true _ _ (inl (any_true touched (asked_by x k) q))
 
-  makes : (k : Which) → IsThere bytes x k → U (uses_at bytes x k) → T (Some k)
+  makes : (k : Which) → IsThere bytes x k → AreHit (uses_at bytes x k) → IsTouched (Some k)
   makes k there u = by_asks k there ∙ or_true _ _ (inr (any_true hit (uses_at bytes x k) u))
 
-  falls : (k : Which) → IsThere bytes x k → T (Some k) → AnyOf T (asked_by x k) ⊎ U (uses_at bytes x k)
+  falls : (k : Which) → IsThere bytes x k → IsTouched (Some k) → AnyOf IsTouched (asked_by x k) ⊎ AreHit (uses_at bytes x k)
   falls k there t = by (true_or _ _ (sym (by_asks k there) ∙ t))
     where
-      by : (list_any touched (asked_by x k) ≡ true) ⊎ (list_any hit (uses_at bytes x k) ≡ true) → AnyOf T (asked_by x k) ⊎ U (uses_at bytes x k)
+      by : (list_any touched (asked_by x k) ≡ true) ⊎ (list_any hit (uses_at bytes x k) ≡ true) → AnyOf IsTouched (asked_by x k) ⊎ AreHit (uses_at bytes x k)
       by (inl e) = inl (true_any touched (asked_by x k) e)
       by (inr e) = inr (true_any hit (uses_at bytes x k) e)
 
@@ -124,10 +124,10 @@ module _ (d : Description) (bytes : List ℕ) (x : Listing) (plain : IsPlain d b
       by None None room' h =
           let is : nat_lt (start x (suc i)) (length bytes) ≡ true = grind (arith, nat_tests) in
           reach_more change (start x (suc i) + 1) z (omega (arith, less))
-              (sym (ap (λ b. is_use_touched change (if b then uses_are.Reach (start x (suc i) + 1) else uses_are.Size)) is) ∙ h)
+          (sym (ap (λ b. is_use_touched change (if b then uses_are.Reach (start x (suc i) + 1) else uses_are.Size)) is) ∙ h)
 
   -- what an end uses itself
-  uses_far : (i : ℕ) → U (uses_at bytes x (ElementEnd i)) → hit (far i) ≡ true
+  uses_far : (i : ℕ) → AreHit (uses_at bytes x (ElementEnd i)) → hit (far i) ≡ true
   uses_far i = by x.list.count x.list.stream.to
     where
       by : (c o : Option ℕ) → AnyOf (λ u. is_use_touched change u ≡ true) (end_uses c bytes o (start x (suc i)))
@@ -139,14 +139,14 @@ module _ (d : Description) (bytes : List ℕ) (x : Listing) (plain : IsPlain d b
 
   -- ---- each node, by what it asks
 
-  abbrev G : Which → Type 0
-  G k = T (guard_of x k) ⊎ U (reach_of bytes x k)
+  abbrev IsGuarded : Which → Type 0
+  IsGuarded k = IsTouched (guard_of x k) ⊎ AreHit (reach_of bytes x k)
 
-  to_prior : (i : ℕ) → i < x.count → T None → T (prior_guard x (suc i))
+  to_prior : (i : ℕ) → i < x.count → IsTouched None → IsTouched (prior_guard x (suc i))
   to_prior i low t = by (is_named_to x.layout x.layout.last) refl
     where
-      by : (b : Bool) → is_named_to x.layout x.layout.last ≡ b → T (if b then Some (SizeValue i) else None)
-      by true e = head_value d bytes x plain T rises i low e (rises (ElementHead i) low (inl t))
+      by : (b : Bool) → is_named_to x.layout x.layout.last ≡ b → IsTouched (if b then Some (SizeValue i) else None)
+      by true e = head_value d bytes x plain IsTouched rises i low e (rises (ElementHead i) low (inl t))
       by false e = t
 
   -- where none has a size by name the list's head guards all
@@ -154,128 +154,128 @@ module _ (d : Description) (bytes : List ℕ) (x : Listing) (plain : IsPlain d b
   fixed_prior e zero = refl
   fixed_prior e (suc i) = ap (λ b. if b then Some (SizeValue i) else None) e
 
-  head_uses : (i : ℕ) (o : Option ℕ) → U (element_uses o (start x (suc i))) → U (element_reach bytes x o i)
+  head_uses : (i : ℕ) (o : Option ℕ) → AreHit (element_uses o (start x (suc i))) → AreHit (element_reach bytes x o i)
   head_uses i None u = u
   head_uses i (Some t) u = absurd u
 
-  head_from_end : (i : ℕ) → suc i < x.count → (o : Option ℕ) → hit (far i) ≡ true → U (element_reach bytes x o (suc i))
+  head_from_end : (i : ℕ) → suc i < x.count → (o : Option ℕ) → hit (far i) ≡ true → AreHit (element_reach bytes x o (suc i))
   head_from_end i low (Some t) h = inl h
   head_from_end i low None h = inl (far_to i (start x (suc (suc i))) (start_less d bytes x plain (suc i)) (plain.whole (suc i) low).room h)
 
-  module _ (i : ℕ) (low : i < x.count) (head : T (Some (ElementHead i)) → G (ElementHead i)) where
+  module _ (i : ℕ) (low : i < x.count) (head : IsTouched (Some (ElementHead i)) → IsGuarded (ElementHead i)) where
     -- ---- fields
 
     module _ (some : is_some x.layout.type_number ≡ true) where
-      reach_field : (n j : ℕ) → n < x.count → j ≤ x.layout.last → (o : Option ℕ) → is_some o ≡ true → U (element_reach bytes x o n)
+      reach_field : (n j : ℕ) → n < x.count → j ≤ x.layout.last → (o : Option ℕ) → is_some o ≡ true → AreHit (element_reach bytes x o n)
           → hit (uses_are.Reach (place x n (suc j))) ≡ true
       reach_field n j low' few None e h = absurd (cc)
       reach_field zero j low' few (Some t) e h = absurd h
       reach_field (suc n) j low' few (Some t) e (inl h) =
           let first = first_size d bytes x plain in
           far_to n (place x (suc n) (suc j)) (first_some x.layout (x.says (suc n)) (start x (suc n)) first.0 j first.1 first.2)
-              (field_room d bytes x plain (suc n) j low' few) h
+          (field_room d bytes x plain (suc n) j low' few) h
       reach_field (suc n) j low' few (Some t) e (inr h) = absurd h
 
-      head_field : (j : ℕ) → j ≤ x.layout.last → T (Some (ElementHead i)) → G (FieldHead i j)
+      head_field : (j : ℕ) → j ≤ x.layout.last → IsTouched (Some (ElementHead i)) → IsGuarded (FieldHead i j)
       head_field j few t = by (is_named_to x.layout j) refl (head t)
         where
-          by : (b : Bool) → is_named_to x.layout j ≡ b → G (ElementHead i)
-              → T (if b then Some (SizeValue i) else prior_guard x i) ⊎ U (reach_of bytes x (FieldHead i j))
-          by true e h = inl (head_value d bytes x plain T rises i low (named_more d bytes x plain j x.layout.last few e) t)
+          by : (b : Bool) → is_named_to x.layout j ≡ b → IsGuarded (ElementHead i)
+              → IsTouched (if b then Some (SizeValue i) else prior_guard x i) ⊎ AreHit (reach_of bytes x (FieldHead i j))
+          by true e h = inl (head_value d bytes x plain IsTouched rises i low (named_more d bytes x plain j x.layout.last few e) t)
           by false e (inl g) = inl g
           by false e (inr u) = inr (inl (reach_field i j low few x.layout.type_number some u))
 
-      sized_field : (j : ℕ) → AnyOf T (size_asked i (size_at x.layout j)) → T (field_guard x i j)
+      sized_field : (j : ℕ) → AnyOf IsTouched (size_asked i (size_at x.layout j)) → IsTouched (field_guard x i j)
       sized_field j h = by (size_at x.layout j) refl h
         where
-          by : (o : Option ℕ) → size_at x.layout j ≡ o → AnyOf T (size_asked i o) → T (field_guard x i j)
+          by : (o : Option ℕ) → size_at x.layout j ≡ o → AnyOf IsTouched (size_asked i o) → IsTouched (field_guard x i j)
           by (Some n) e h' = absurd h'
-          by None e (inl v) = subst (λ b. T (if b then Some (SizeValue i) else prior_guard x i)) (sym (named_here d bytes x plain j e)) v
+          by None e (inl v) = subst (λ b. IsTouched (if b then Some (SizeValue i) else prior_guard x i)) (sym (named_here d bytes x plain j e)) v
           by None e (inr v) = absurd v
 
-      guard_next : (j : ℕ) → suc j ≤ x.layout.last → T (field_guard x i j) → T (field_guard x i (suc j))
+      guard_next : (j : ℕ) → suc j ≤ x.layout.last → IsTouched (field_guard x i j) → IsTouched (field_guard x i (suc j))
       guard_next j few t = by (is_named_to x.layout (suc j)) refl
         where
-          before : (b : Bool) → T (if b then Some (SizeValue i) else prior_guard x i) → is_named_to x.layout (suc j) ≡ true → T (Some (SizeValue i))
+          before : (b : Bool) → IsTouched (if b then Some (SizeValue i) else prior_guard x i) → is_named_to x.layout (suc j) ≡ true → IsTouched (Some (SizeValue i))
           before true g e = g
-          before false g e = head_value d bytes x plain T rises i low (named_more d bytes x plain (suc j) x.layout.last few e)
-              (head_guard d bytes x plain T rises i low g)
+          before false g e = head_value d bytes x plain IsTouched rises i low (named_more d bytes x plain (suc j) x.layout.last few e)
+              (head_guard d bytes x plain IsTouched rises i low g)
 
-          none : (b : Bool) → is_named_to x.layout j ≡ b → is_named_to x.layout (suc j) ≡ false → T (if b then Some (SizeValue i) else prior_guard x i)
-              → T (prior_guard x i)
+          none : (b : Bool) → is_named_to x.layout j ≡ b → is_named_to x.layout (suc j) ≡ false → IsTouched (if b then Some (SizeValue i) else prior_guard x i)
+              → IsTouched (prior_guard x i)
           none true e f g = absurd (let never : true ≡ false = sym (named_more d bytes x plain j (suc j) (omega arith) e) ∙ f in cc)
           none false e f g = g
 
-          by : (b : Bool) → is_named_to x.layout (suc j) ≡ b → T (if b then Some (SizeValue i) else prior_guard x i)
+          by : (b : Bool) → is_named_to x.layout (suc j) ≡ b → IsTouched (if b then Some (SizeValue i) else prior_guard x i)
           by true e = before (is_named_to x.layout j) t e
           by false e = none (is_named_to x.layout j) refl e t
 
-      field_falls : (j : ℕ) → j ≤ x.layout.last → T (Some (FieldHead i j)) → G (FieldHead i j)
+      field_falls : (j : ℕ) → j ≤ x.layout.last → IsTouched (Some (FieldHead i j)) → IsGuarded (FieldHead i j)
       field_falls zero few t = by (falls (FieldHead i 0) (low, few, some) t)
         where
-          by : AnyOf T (asked_by x (FieldHead i 0)) ⊎ U (uses_at bytes x (FieldHead i 0)) → G (FieldHead i 0)
+          by : AnyOf IsTouched (asked_by x (FieldHead i 0)) ⊎ AreHit (uses_at bytes x (FieldHead i 0)) → IsGuarded (FieldHead i 0)
           by (inl (inl h)) = head_field 0 few h
           by (inl (inr h)) = inl (sized_field 0 h)
           by (inr u) = inr u
       field_falls (suc j) few t = by (falls (FieldHead i (suc j)) (low, few, some) t)
           (λ h. before (falls (FieldEnd i j) (low, omega (arith, few), some) h) (field_falls j (omega (arith, few))))
         where
-          next : G (FieldHead i j) → G (FieldHead i (suc j))
+          next : IsGuarded (FieldHead i j) → IsGuarded (FieldHead i (suc j))
           next (inl g) = inl (guard_next j few g)
           next (inr (inl u)) = inr (inl (reach_more change (place x i (suc j)) (place x i (suc (suc j))) (omega arith) u))
           next (inr (inr u)) = absurd u
 
-          before : AnyOf T (asked_by x (FieldEnd i j)) ⊎ U (uses_at bytes x (FieldEnd i j)) → (T (Some (FieldHead i j)) → G (FieldHead i j))
-              → G (FieldHead i (suc j))
+          before : AnyOf IsTouched (asked_by x (FieldEnd i j)) ⊎ AreHit (uses_at bytes x (FieldEnd i j)) → (IsTouched (Some (FieldHead i j)) → IsGuarded (FieldHead i j))
+              → IsGuarded (FieldHead i (suc j))
           before (inl (inl h)) f = next (f h)
           before (inl (inr h)) f = absurd h
           before (inr u) f = absurd u
 
-          by : AnyOf T (asked_by x (FieldHead i (suc j))) ⊎ U (uses_at bytes x (FieldHead i (suc j))) → (T (Some (FieldEnd i j)) → G (FieldHead i (suc j)))
-              → G (FieldHead i (suc j))
+          by : AnyOf IsTouched (asked_by x (FieldHead i (suc j))) ⊎ AreHit (uses_at bytes x (FieldHead i (suc j))) → (IsTouched (Some (FieldEnd i j)) → IsGuarded (FieldHead i (suc j)))
+              → IsGuarded (FieldHead i (suc j))
           by (inl (inl h)) f = head_field (suc j) few h
           by (inl (inr (inl h))) f = f h
           by (inl (inr (inr h))) f = inl (sized_field (suc j) h)
           by (inr u) f = inr u
 
-      field_end_falls : (j : ℕ) → j ≤ x.layout.last → T (Some (FieldEnd i j)) → G (FieldEnd i j)
+      field_end_falls : (j : ℕ) → j ≤ x.layout.last → IsTouched (Some (FieldEnd i j)) → IsGuarded (FieldEnd i j)
       field_end_falls j few t = by (falls (FieldEnd i j) (low, few, some) t)
         where
-          by : AnyOf T (asked_by x (FieldEnd i j)) ⊎ U (uses_at bytes x (FieldEnd i j)) → G (FieldEnd i j)
+          by : AnyOf IsTouched (asked_by x (FieldEnd i j)) ⊎ AreHit (uses_at bytes x (FieldEnd i j)) → IsGuarded (FieldEnd i j)
           by (inl (inl h)) = field_falls j few h
           by (inl (inr h)) = absurd h
           by (inr u) = absurd u
 
     -- ---- the end of an element
 
-    prior_of : is_named_to x.layout x.layout.last ≡ false → T (prior_guard x i) → T (prior_guard x (suc i))
-    prior_of e t = subst T (sym (fixed_prior e (suc i))) (subst T (fixed_prior e i) t)
+    prior_of : is_named_to x.layout x.layout.last ≡ false → IsTouched (prior_guard x i) → IsTouched (prior_guard x (suc i))
+    prior_of e t = subst IsTouched (sym (fixed_prior e (suc i))) (subst IsTouched (fixed_prior e i) t)
 
-    last_falls : is_some x.layout.type_number ≡ true → G (FieldHead i x.layout.last) → G (ElementEnd i)
+    last_falls : is_some x.layout.type_number ≡ true → IsGuarded (FieldHead i x.layout.last) → IsGuarded (ElementEnd i)
     last_falls some (inl g) = by (is_named_to x.layout x.layout.last) refl g
       where
-        by : (b : Bool) → is_named_to x.layout x.layout.last ≡ b → T (if b then Some (SizeValue i) else prior_guard x i) → G (ElementEnd i)
-        by true e h = inl (subst (λ b. T (if b then Some (SizeValue i) else None)) (sym e) h)
+        by : (b : Bool) → is_named_to x.layout x.layout.last ≡ b → IsTouched (if b then Some (SizeValue i) else prior_guard x i) → IsGuarded (ElementEnd i)
+        by true e h = inl (subst (λ b. IsTouched (if b then Some (SizeValue i) else None)) (sym e) h)
         by false e h = inl (prior_of e h)
     last_falls some (inr (inl u)) = inr (inl (far_from i u))
     last_falls some (inr (inr u)) = absurd u
 
-    end_head : (o : Option ℕ) → x.layout.type_number ≡ o → T (Some (ElementHead i)) → G (ElementEnd i)
+    end_head : (o : Option ℕ) → x.layout.type_number ≡ o → IsTouched (Some (ElementHead i)) → IsGuarded (ElementEnd i)
     end_head (Some t) e h = let some : is_some x.layout.type_number ≡ true = ap is_some e in last_falls some (head_field some x.layout.last (omega arith) h)
     end_head None e h = by (head h)
       where
-        reach : U (element_reach bytes x None i) → G (ElementEnd i)
+        reach : AreHit (element_reach bytes x None i) → IsGuarded (ElementEnd i)
         reach (inl u) = inr (inl (far_from i u))
         reach (inr u) = absurd u
 
-        by : G (ElementHead i) → G (ElementEnd i)
+        by : IsGuarded (ElementHead i) → IsGuarded (ElementEnd i)
         by (inl g) = inl (prior_of (none_named d bytes x plain e) g)
-        by (inr u) = reach (subst (λ o. U (element_reach bytes x o i)) e u)
+        by (inr u) = reach (subst (λ o. AreHit (element_reach bytes x o i)) e u)
 
-    end_falls : T (Some (ElementEnd i)) → G (ElementEnd i)
+    end_falls : IsTouched (Some (ElementEnd i)) → IsGuarded (ElementEnd i)
     end_falls t = by (falls (ElementEnd i) low t)
       where
-        last_by : (o : Option ℕ) → x.layout.type_number ≡ o → AnyOf T (last_asked o i x.layout.last) → G (ElementEnd i)
+        last_by : (o : Option ℕ) → x.layout.type_number ≡ o → AnyOf IsTouched (last_asked o i x.layout.last) → IsGuarded (ElementEnd i)
         last_by None e (inl h) = inl (to_prior i low h)
         last_by None e (inr h) = absurd h
         last_by (Some k) e (inl h) = let some : is_some x.layout.type_number ≡ true = ap is_some e in
@@ -283,27 +283,27 @@ module _ (d : Description) (bytes : List ℕ) (x : Listing) (plain : IsPlain d b
         last_by (Some k) e (inr (inl h)) = inl (to_prior i low h)
         last_by (Some k) e (inr (inr h)) = absurd h
 
-        by : AnyOf T (asked_by x (ElementEnd i)) ⊎ U (uses_at bytes x (ElementEnd i)) → G (ElementEnd i)
+        by : AnyOf IsTouched (asked_by x (ElementEnd i)) ⊎ AreHit (uses_at bytes x (ElementEnd i)) → IsGuarded (ElementEnd i)
         by (inl (inl h)) = end_head x.layout.type_number refl h
         by (inl (inr h)) = last_by x.layout.type_number refl h
         by (inr u) = inr (inl (uses_far i u))
 
-  head_falls : (i : ℕ) → i < x.count → T (Some (ElementHead i)) → G (ElementHead i)
+  head_falls : (i : ℕ) → i < x.count → IsTouched (Some (ElementHead i)) → IsGuarded (ElementHead i)
   head_falls zero low t = by (falls (ElementHead 0) low t)
     where
-      by : AnyOf T (asked_by x (ElementHead 0)) ⊎ U (uses_at bytes x (ElementHead 0)) → G (ElementHead 0)
+      by : AnyOf IsTouched (asked_by x (ElementHead 0)) ⊎ AreHit (uses_at bytes x (ElementHead 0)) → IsGuarded (ElementHead 0)
       by (inl (inl h)) = inl h
       by (inl (inr h)) = absurd h
       by (inr u) = inr (head_uses 0 x.layout.type_number u)
   head_falls (suc i) low t = by (falls (ElementHead (suc i)) low t) (end_falls i (omega (arith, low)) (head_falls i (omega (arith, low))))
     where
-      before : G (ElementEnd i) → G (ElementHead (suc i))
+      before : IsGuarded (ElementEnd i) → IsGuarded (ElementHead (suc i))
       before (inl g) = inl g
       before (inr (inl u)) = inr (head_from_end i low x.layout.type_number u)
       before (inr (inr u)) = absurd u
 
-      by : AnyOf T (asked_by x (ElementHead (suc i))) ⊎ U (uses_at bytes x (ElementHead (suc i))) → (T (Some (ElementEnd i)) → G (ElementEnd i))
-          → G (ElementHead (suc i))
+      by : AnyOf IsTouched (asked_by x (ElementHead (suc i))) ⊎ AreHit (uses_at bytes x (ElementHead (suc i))) → (IsTouched (Some (ElementEnd i)) → IsGuarded (ElementEnd i))
+          → IsGuarded (ElementHead (suc i))
       by (inl (inl h)) f = inl (to_prior i (omega (arith, low)) h)
       by (inl (inr (inl h))) f = before (f h)
       by (inl (inr (inr h))) f = absurd h
@@ -312,75 +312,75 @@ module _ (d : Description) (bytes : List ℕ) (x : Listing) (plain : IsPlain d b
   -- ---- rests
 
   -- by the end, or the rest behind it
-  rest_splits : (i m : ℕ) → m < x.count → IsThere bytes x (Rest i) → T (Some (Rest i))
-      → T (Some (ElementEnd m)) ⊎ AnyOf T (Some (ElementEnd i) ∷ later_asked x.count i)
+  rest_splits : (i m : ℕ) → m < x.count → IsThere bytes x (Rest i) → IsTouched (Some (Rest i))
+      → IsTouched (Some (ElementEnd m)) ⊎ AnyOf IsTouched (Some (ElementEnd i) ∷ later_asked x.count i)
   rest_splits zero m last there t = by (falls (Rest 0) there t)
     where
-      by : AnyOf T (asked_by x (Rest 0)) ⊎ U (uses_at bytes x (Rest 0)) → T (Some (ElementEnd m)) ⊎ AnyOf T (Some (ElementEnd 0) ∷ later_asked x.count 0)
+      by : AnyOf IsTouched (asked_by x (Rest 0)) ⊎ AreHit (uses_at bytes x (Rest 0)) → IsTouched (Some (ElementEnd m)) ⊎ AnyOf IsTouched (Some (ElementEnd 0) ∷ later_asked x.count 0)
       by (inl (inl h)) = inl (rises (ElementEnd m) last (inl (rises (ElementHead m) last (inl h))))
       by (inl (inr h)) = inr h
       by (inr u) = absurd u
   rest_splits (suc i) m last there t = by (falls (Rest (suc i)) there t)
     where
-      by : AnyOf T (asked_by x (Rest (suc i))) ⊎ U (uses_at bytes x (Rest (suc i)))
-          → T (Some (ElementEnd m)) ⊎ AnyOf T (Some (ElementEnd (suc i)) ∷ later_asked x.count (suc i))
+      by : AnyOf IsTouched (asked_by x (Rest (suc i))) ⊎ AreHit (uses_at bytes x (Rest (suc i)))
+          → IsTouched (Some (ElementEnd m)) ⊎ AnyOf IsTouched (Some (ElementEnd (suc i)) ∷ later_asked x.count (suc i))
       by (inl h) = inr h
       by (inr u) = absurd u
 
-  rest_falls : (k i m : ℕ) → i + k ≡ m → x.count ≡ suc m → is_last bytes x (x.count - 1) ≡ true → T (Some (Rest i)) → T (Some (ElementEnd m))
+  rest_falls : (k i m : ℕ) → i + k ≡ m → x.count ≡ suc m → is_last bytes x (x.count - 1) ≡ true → IsTouched (Some (Rest i)) → IsTouched (Some (ElementEnd m))
   rest_falls zero i m sum counted full t = by (rest_splits i m (omega (arith, counted)) (omega (arith, sum, counted), full) t)
     where
-      by : T (Some (ElementEnd m)) ⊎ AnyOf T (Some (ElementEnd i) ∷ later_asked x.count i) → T (Some (ElementEnd m))
+      by : IsTouched (Some (ElementEnd m)) ⊎ AnyOf IsTouched (Some (ElementEnd i) ∷ later_asked x.count i) → IsTouched (Some (ElementEnd m))
       by (inl h) = h
-      by (inr (inl h)) = end_later d bytes x plain T rises 0 i m sum (omega (arith, counted)) h
+      by (inr (inl h)) = end_later d bytes x plain IsTouched rises 0 i m sum (omega (arith, counted)) h
       by (inr (inr h)) = let none : nat_le x.count (suc i) ≡ true = grind (arith, nat_tests) in
-          absurd (subst (λ b. AnyOf T (if b then [] else Some (Rest (suc i)) ∷ [])) none h)
+          absurd (subst (λ b. AnyOf IsTouched (if b then [] else Some (Rest (suc i)) ∷ [])) none h)
   rest_falls (suc k) i m sum counted full t = by (rest_splits i m (omega (arith, counted)) (omega (arith, sum, counted), full) t)
       (rest_falls k (suc i) m (omega (arith, sum)) counted full)
     where
-      next : AnyOf T (Some (Rest (suc i)) ∷ []) → (T (Some (Rest (suc i))) → T (Some (ElementEnd m))) → T (Some (ElementEnd m))
+      next : AnyOf IsTouched (Some (Rest (suc i)) ∷ []) → (IsTouched (Some (Rest (suc i))) → IsTouched (Some (ElementEnd m))) → IsTouched (Some (ElementEnd m))
       next (inl h) f = f h
       next (inr h) f = absurd h
 
-      by : T (Some (ElementEnd m)) ⊎ AnyOf T (Some (ElementEnd i) ∷ later_asked x.count i) → (T (Some (Rest (suc i))) → T (Some (ElementEnd m)))
-          → T (Some (ElementEnd m))
+      by : IsTouched (Some (ElementEnd m)) ⊎ AnyOf IsTouched (Some (ElementEnd i) ∷ later_asked x.count i) → (IsTouched (Some (Rest (suc i))) → IsTouched (Some (ElementEnd m)))
+          → IsTouched (Some (ElementEnd m))
       by (inl h) f = h
-      by (inr (inl h)) f = end_later d bytes x plain T rises (suc k) i m sum (omega (arith, counted)) h
+      by (inr (inl h)) f = end_later d bytes x plain IsTouched rises (suc k) i m sum (omega (arith, counted)) h
       by (inr (inr h)) f = let more : nat_le x.count (suc i) ≡ false = grind (arith, nat_tests) in
-          next (subst (λ b. AnyOf T (if b then [] else Some (Rest (suc i)) ∷ [])) more h) f
+          next (subst (λ b. AnyOf IsTouched (if b then [] else Some (Rest (suc i)) ∷ [])) more h) f
 
   -- ---- all nodes
 
-  all_fall : (k : Which) → IsThere bytes x k → T (Some k) → G k
+  all_fall : (k : Which) → IsThere bytes x k → IsTouched (Some k) → IsGuarded k
   all_fall (ElementHead i) there t = head_falls i there t
   all_fall (ElementEnd i) there t = end_falls i there (head_falls i there) t
   all_fall (Rest i) there t =
       let low = there.0 in
       let counted : x.count ≡ suc (x.count - 1) = omega (arith, low) in
       let last : x.count - 1 < x.count = omega (arith, low) in
-      subst (λ n. T (prior_guard x n) ⊎ U (prior_reach bytes x n)) (sym counted)
+      subst (λ n. IsTouched (prior_guard x n) ⊎ AreHit (prior_reach bytes x n)) (sym counted)
       (end_falls (x.count - 1) last (head_falls (x.count - 1) last) (rest_falls (x.count - 1 - i) i (x.count - 1) (omega (arith, low)) counted there.1 t))
   all_fall (FieldHead i j) there t = field_falls i there.0 (head_falls i there.0) there.2 j there.1 t
   all_fall (FieldEnd i j) there t = field_end_falls i there.0 (head_falls i there.0) there.2 j there.1 t
   all_fall (SizeValue i) there t = inl t
 
-  all_rise : (k : Which) → IsThere bytes x k → G k → T (Some k)
-  all_rise k there (inl g) = guard_rises d bytes x plain T rises k there g
-  all_rise k there (inr u) = reach_rises d bytes x plain T rises (λ u'. hit u' ≡ true) makes k there u
+  all_rise : (k : Which) → IsThere bytes x k → IsGuarded k → IsTouched (Some k)
+  all_rise k there (inl g) = guard_rises d bytes x plain IsTouched rises k there g
+  all_rise k there (inr u) = reach_rises d bytes x plain IsTouched rises (λ u'. hit u' ≡ true) makes k there u
 
   guarded : (k : Which) → IsThere bytes x k → touched (Some k) ≡ (touched (guard_of x k) || list_any hit (reach_of bytes x k))
   guarded k there = same_truth (touched (Some k)) (touched (guard_of x k) || list_any hit (reach_of bytes x k)) (λ t. there_is (all_fall k there t))
       (λ t. back (true_or _ _ t))
     where
-      there_is : G k → (touched (guard_of x k) || list_any hit (reach_of bytes x k)) ≡ true
+      there_is : IsGuarded k → (touched (guard_of x k) || list_any hit (reach_of bytes x k)) ≡ true
       there_is (inl g) = or_true _ _ (inl g)
       there_is (inr u) = or_true _ _ (inr (any_true hit (reach_of bytes x k) u))
 
-      back : (touched (guard_of x k) ≡ true) ⊎ (list_any hit (reach_of bytes x k) ≡ true) → T (Some k)
+      back : (touched (guard_of x k) ≡ true) ⊎ (list_any hit (reach_of bytes x k) ≡ true) → IsTouched (Some k)
       back (inl g) = all_rise k there (inl g)
       back (inr u) = all_rise k there (inr (true_any hit (reach_of bytes x k) u))
 
 pub guards_tell : GuardsTell
 guards_tell d bytes x plain k there n m is guard change =
     sym (ap (node_touched d bytes x plain change) is) ∙ guarded d bytes x plain change k there
-        ∙ ap (λ o. node_touched d bytes x plain change o || list_any (is_use_touched change) (reach_of bytes x k)) guard
+    ∙ ap (λ o. node_touched d bytes x plain change o || list_any (is_use_touched change) (reach_of bytes x k)) guard

@@ -82,5 +82,5 @@ pub rank_field : (x : Listing) (k : NodeKind) (l p q : Trail) (i j : ℕ) → ch
     → steps_rank x k q.upward ≡ turns (width x) i + 3 * j + kind_rank k
 rank_field x k l p q i j is was at =
     ap (steps_rank x k) (sym (ap (λ u. steps.Name (x.layout.name j) ∷ u) (trail_of-steps (steps.Index i ∷ l.upward) p is)
-        ∙ trail_of-steps (steps.Name (x.layout.name j) ∷ p.upward) q was))
+    ∙ trail_of-steps (steps.Name (x.layout.name j) ∷ p.upward) q was))
     ∙ ap (λ n. turns (width x) i + 3 * n + kind_rank k) at

@@ -116,9 +116,11 @@ sized_is y j (Some n) e h = let k = fixed_is (y.field j) (y.field j).choice n re
 sized_is y j None e h =
     let a = both _ _ h in
     let b = both _ _ a.1 in
-    let c = both _ _ b.1 in
-    (less_is y.sizer j a.0, named_is (y.field j) (y.field j).choice (y.name y.sizer) refl (name_is _ _ b.0),
-        number_is (y.field y.sizer) (y.field y.sizer).choice refl c.0 (none_is _ c.1))
+    let c = both _ _ b.1 in (
+      less_is y.sizer j a.0,
+      named_is (y.field j) (y.field j).choice (y.name y.sizer) refl (name_is _ _ b.0),
+      number_is (y.field y.sizer) (y.field y.sizer).choice refl c.0 (none_is _ c.1),
+    )
 
 -- ---- members
 
@@ -143,8 +145,11 @@ kind_found x i b (m ∷ ms) s h = by (m.name == x) h (kind_found x (i + 1) (behi
 -- the attribute that was found
 attribute_is : (o : Option Sought) (b : Option ℕ) → is_attribute (unwrap_or o no_attribute).kind ≡ true
     → (unwrap_or o no_attribute).before ≡ b
-    → o ≡ Some (record { member = (unwrap_or o no_attribute).member; before = b;
-        kind = Attribute (unwrap_or (field_in (unwrap_or o no_attribute).kind) no_field) })
+    → o ≡ Some (record {
+      member = (unwrap_or o no_attribute).member;
+      before = b;
+      kind = Attribute (unwrap_or (field_in (unwrap_or o no_attribute).kind) no_field);
+    })
 attribute_is None b h e = absurd (cc)
 attribute_is (Some s) b h e = by s.kind refl h
   where
@@ -188,7 +193,7 @@ module _ (d : Description) (t : ℕ) (ok : is_plain_type d t (layout_of d t) ≡
   before_is : (j k : ℕ) → j ≤ y.last → k ≤ y.last → y.name j ≡ y.name k → before y j ≡ before y k
   before_is j k low few same =
       sym (name_is _ _ (in_order j low).1) ∙ ap (λ x. (unwrap_or (sought x 0 None (members_of d t)) no_attribute).before) same
-          ∙ name_is _ _ (in_order k few).1
+      ∙ name_is _ _ (in_order k few).1
 
   distinct_are : (j k : ℕ) → j ≤ y.last → k ≤ y.last → y.name j ≡ y.name k → j ≡ k
   distinct_are zero zero low few same = refl

@@ -114,7 +114,7 @@ module _ (d : Description) (bytes : List ℕ) (x : Listing) (plain : IsPlain d b
     rest_end (suc k) i m sum counted full q =
         let more : nat_le x.count (suc i) ≡ false = grind (arith, nat_tests) in
         rest_later i (omega (arith, sum, counted), full) (inr (subst (λ b. AnyOf Q (if b then [] else Some (Rest (suc i)) ∷ [])) (sym more)
-            (inl (rest_end k (suc i) m (omega (arith, sum)) counted full q))))
+        (inl (rest_end k (suc i) m (omega (arith, sum)) counted full q))))
 
     pub guard_rises : (k : Which) → IsThere bytes x k → Q (guard_of x k) → Q (Some k)
     guard_rises (ElementHead i) there q = head_guard i there q
@@ -123,7 +123,7 @@ module _ (d : Description) (bytes : List ℕ) (x : Listing) (plain : IsPlain d b
         let low = there.0 in
         let counted : x.count ≡ suc (x.count - 1) = omega (arith, low) in
         rest_end (x.count - 1 - i) i (x.count - 1) (omega (arith, low)) counted there.1
-            (end_guard (x.count - 1) (omega (arith, low)) (subst (λ n. Q (prior_guard x n)) counted q))
+        (end_guard (x.count - 1) (omega (arith, low)) (subst (λ n. Q (prior_guard x n)) counted q))
     guard_rises (FieldHead i j) there q = field_guarded i j there q
     guard_rises (FieldEnd i j) there q = rises (FieldEnd i j) there (inl (field_guarded i j there q))
     guard_rises (SizeValue i) there q = q
@@ -163,7 +163,7 @@ module _ (d : Description) (bytes : List ℕ) (x : Listing) (plain : IsPlain d b
           let low = there.0 in
           let counted : x.count ≡ suc (x.count - 1) = omega (arith, low) in
           rest_end (x.count - 1 - i) i (x.count - 1) (omega (arith, low)) counted there.1
-              (by (subst (λ n. AnyOf R (prior_reach bytes x n)) counted r) (omega (arith, low)))
+          (by (subst (λ n. AnyOf R (prior_reach bytes x n)) counted r) (omega (arith, low)))
         where
           by : AnyOf R (prior_reach bytes x (suc (x.count - 1))) → x.count - 1 < x.count → Q (Some (ElementEnd (x.count - 1)))
           by (inl h) low' = end_reaches (x.count - 1) low' h

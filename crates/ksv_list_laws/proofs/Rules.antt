@@ -57,7 +57,7 @@ unfolding rule_of meaning_of rest_of
 first_rule d l p is =
     let up = part_of l p (steps.Index 0) is in
     ap (λ o. bind (rest_at p o) (λ r. Answer (givens.Rest r.count r.place))) up.1
-        ∙ ap (λ q. bind (whole_rest p q) (λ r. Answer (givens.Rest r.count r.place))) up.0
+    ∙ ap (λ q. bind (whole_rest p q) (λ r. Answer (givens.Rest r.count r.place))) up.0
 
 next_rule : (d : Description) (l p : Trail) (i : ℕ) → child l (steps.Index (suc i)) ≡ Some p
     → rule_of d (rest_node p) ≡ bind (rest_from p l (suc i)) (λ r. Answer (givens.Rest r.count r.place))
@@ -92,14 +92,14 @@ rest_next d l p i is = record { rest = _; is = next_rule d l p i is }
 pub leaf_says : (met : Node → Result Given NodeFault) (here : Trail) (bytes : List ℕ) (origin : Origin) (w : Stream) (a n : ℕ)
     → end_in bytes w.to ≤ length bytes → a + n ≤ end_in bytes w.to
     → Says met here bytes (bind (leaf origin w (at_byte a) n) (λ h. Answer (givens.Head h)))
-        (givens.Head (heads.Leaf (record { origin = origin; from = at_byte a; to = at_byte (a + n); end = at_byte (a + n) })))
-        [] (uses_are.Reach (a + n) ∷ [])
+    (givens.Head (heads.Leaf (record { origin = origin; from = at_byte a; to = at_byte (a + n); end = at_byte (a + n) })))
+    [] (uses_are.Reach (a + n) ∷ [])
 unfolding leaf bind
 leaf_says met here bytes origin w a n within room =
     says_by met here bytes _ (Ask (See (Reach w (a + n))) (λ x. Answer
-        (givens.Head (heads.Leaf (record { origin = origin; from = at_byte a; to = at_byte (a + n); end = at_byte (a + n) }))))) _ [] _
+    (givens.Head (heads.Leaf (record { origin = origin; from = at_byte a; to = at_byte (a + n); end = at_byte (a + n) }))))) _ [] _
     (ap (λ b. Ask (See (Reach w (b + n))) (λ x. Answer (givens.Head (heads.Leaf
-        (record { origin = origin; from = at_byte a; to = at_byte (b + n); end = at_byte (b + n) }))))) (byte_of_byte a))
+    (record { origin = origin; from = at_byte a; to = at_byte (b + n); end = at_byte (b + n) }))))) (byte_of_byte a))
     (says_seen met here bytes (Reach w (a + n)) _ tt (uses_are.Reach (a + n) ∷ []) _ (reaches bytes w (a + n) within room) refl)
 
 module _ (met : Node → Result Given NodeFault) (bytes : List ℕ) (d : Description) (g : lists.List) (l p : Trail)
@@ -135,7 +135,7 @@ module _ (met : Node → Result Given NodeFault) (bytes : List ℕ) (d : Descrip
   pub next_head : (i b : ℕ) (q : Trail) (a : Given) (us : List Use) → child l (steps.Index (suc i)) ≡ Some p → child l (steps.Index i) ≡ Some q
       → g.is_empty ≡ false → is_past g.count (suc i) ≡ false
       → met (end_node q) ≡ Ok (givens.End (at_byte b) false) → says (read_at (suc i) (Answer (at_byte b))) a [] us
-          → says (rule_of d (head_node p)) a (head_node l ∷ end_node q ∷ []) us
+      → says (rule_of d (head_node p)) a (head_node l ∷ end_node q ∷ []) us
   unfolding element_start next_start part_end bind
   next_head i b q a us is was filled counted ended s =
       let later : (suc i == 0) ≡ false = grind (arith, nat_tests) in
@@ -165,7 +165,7 @@ module _ (met : Node → Result Given NodeFault) (bytes : List ℕ) (d : Descrip
     by i a z Eos None lt same good =
         says_by met p bytes _ (Ask (See (Done g.stream (at_byte z))) (λ b. Answer (givens.End (at_byte z) b))) _ [] _
         (ap (λ b. as_end (bind (if b then raise {A = Unit {0}} kinds.NoBytes else Answer tt)
-            (λ u. bind (is_last (parent l) g p i (at_byte z) Eos) (λ c. Answer (record { place = at_byte z; last = c }))))) (apart a z lt))
+        (λ u. bind (is_last (parent l) g p i (at_byte z) Eos) (λ c. Answer (record { place = at_byte z; last = c }))))) (apart a z lt))
         (says_seen met p bytes (Done g.stream (at_byte z)) _ (nat_le (end_in bytes g.stream.to) z) _ _ (ends_there bytes g.stream z) refl)
     by i a z (Expr e) (Some n) lt same good =
         says_by met p bytes _ (Answer (givens.End (at_byte z) (n == i + 1))) _ [] []
@@ -178,12 +178,12 @@ module _ (met : Node → Result Given NodeFault) (bytes : List ℕ) (d : Descrip
     -- an element that begins at a and ends at z
     pub closes : (i a z : ℕ) (h : Head) → start_of h ≡ at_byte a → a < z
         → says (as_end (element_end d p l (parent l) i h (at_byte z))) (givens.End (at_byte z) (is_last_at g.count bytes g.stream.to i z)) (head_node l ∷ [])
-            (end_uses g.count bytes g.stream.to z)
+        (end_uses g.count bytes g.stream.to z)
     unfolding element_end bind
     closes i a z h begins lt =
         says_given met p bytes (head_node l) _ (givens.Head (heads.List g)) _ [] _ listed
         (says_by met p bytes _ _ _ [] _ (ap (λ r. as_end (bind r (λ k. bind (not_empty k.repeat (start_of h) (at_byte z))
-            (λ u. bind (is_last (parent l) g p i (at_byte z) k.repeat) (λ b. Answer (record { place = at_byte z; last = b })))))) is_field
+        (λ u. bind (is_last (parent l) g p i (at_byte z) k.repeat) (λ b. Answer (record { place = at_byte z; last = b })))))) is_field
         ∙ ap (λ s. by_repeat i s (at_byte z) f.repeat) begins) (by i a z f.repeat g.count lt refl ok))
 
   -- ---- rests
@@ -199,7 +199,7 @@ module _ (met : Node → Result Given NodeFault) (bytes : List ℕ) (d : Descrip
   pub more_rest : (i : ℕ) (e : Place) (q : Trail) → child l (steps.Index (suc i)) ≡ Some q → suc i < element_limit
       → met (end_node p) ≡ Ok (givens.End e false)
       → (n : ℕ) (place : Place) → met (rest_node q) ≡ Ok (givens.Rest n place)
-          → says (as_rest (rest_from p l i)) (givens.Rest n place) (end_node p ∷ rest_node q ∷ []) []
+      → says (as_rest (rest_from p l i)) (givens.Rest n place) (end_node p ∷ rest_node q ∷ []) []
   unfolding rest_from next_rest part_rest bind
   more_rest i e q is low ended n place rested =
       let inner : (i + 1 == element_limit) ≡ false = grind (arith, nat_tests) in

@@ -63,7 +63,7 @@ reaches bytes w t within le = by w.to within le
         let is : nat_le t (length bytes) ≡ true = grind (arith, nat_tests) in
         let no : nat_lt e t ≡ false = grind (arith, nat_tests) in
         ap (λ b. if b then ends_before [] else reach_file bytes t) no ∙ ap
-            (λ b. if b then gives tt (uses_are.Reach t ∷ []) else ends_before (uses_are.Size ∷ [])) is
+        (λ b. if b then gives tt (uses_are.Reach t ∷ []) else ends_before (uses_are.Size ∷ [])) is
 
 byte_in_byte : (t : ℕ) → byte_in (at_byte t) ≡ t
 unfolding byte_in at_byte
@@ -75,7 +75,7 @@ ends_there bytes w t = ap (λ n. done_at bytes w.to n) (byte_in_byte t) ∙ by w
   where
     turned : (b c : Bool) → (b ≡ true → c ≡ false) → (b ≡ false → c ≡ true)
         → (if b then gives false (uses_are.Reach (t + 1) ∷ []) else gives true (uses_are.Size ∷ [])) ≡ gives c
-            ((if b then uses_are.Reach (t + 1) else uses_are.Size) ∷ [])
+        ((if b then uses_are.Reach (t + 1) else uses_are.Size) ∷ [])
     turned true c f g = ap (λ x. gives x (uses_are.Reach (t + 1) ∷ [])) (sym (f refl))
     turned false c f g = ap (λ x. gives x (uses_are.Size ∷ [])) (sym (g refl))
 

@@ -28,7 +28,7 @@ use Rattle.ksv_list_laws.proofs.Plain.{IsNumber, IsLaidOut, IsSized, IsElementOf
 use Rattle.ksv_list_laws.proofs.Rules as rules
 use Rattle.ksv_list_laws.proofs.Says.{Says, says_answer, says_given, says_by, says_asking}
 use Rattle.ksv_list_laws.proofs.Truth.{none_is, or_true}
-use Rattle.ksv_list_laws.specs.Laws.{NodesArePaths, NodesTell}
+use Rattle.ksv_list_laws.specs.Laws.{NodesHavePaths, NodesTell}
 use Rattle.ksv_list_laws.specs.Lists.{choice_size}
 use Rattle.ksv_list_laws.specs.Lists as layouts
 use Rattle.ksv_list_laws.specs.Nodes.{place, field_start, element_path, field_path, object_from, element_from, is_last_at, is_last, answer_at, IsField}
@@ -98,10 +98,10 @@ module _ (d : Description) (bytes : List ℕ) (x : Listing) (plain : IsPlain d b
   abbrev Below : Trail → ℕ → Trail → Type 0
   Below p j q = child p (steps.Name (x.layout.name j)) ≡ Some q
 
-  pub path_of : (i : ℕ) → i < x.count → (p : Trail) × (At i p)
+  pub path_of : (i : ℕ) → i < x.count → (p : Trail) × At i p
   path_of i low = element_is x.path i plain.short (let few = plain.few in omega (arith, low, few))
 
-  pub below : (i j : ℕ) → IsField x i j → (p : Trail) × (q : Trail) × (At i p) × (Below p j q)
+  pub below : (i j : ℕ) → IsField x i j → (p : Trail) × (q : Trail) × At i p × Below p j q
   below i j there =
       let p = path_of i there.0 in
       let q = field_is x.path p.0 i (x.layout.name j) plain.short p.1 ((laid there.2).named j there.1) in (p.0, q.0, p.1, q.1)
@@ -155,7 +155,7 @@ module _ (d : Description) (bytes : List ℕ) (x : Listing) (plain : IsPlain d b
       let b = then_is (λ p. child p (steps.Name (x.layout.name j))) (element_path x i) a.0 a.1 in
       longer_two (steps.Name (x.layout.name j)) (steps.Index i) x.path.upward
       (ap (λ z. steps.Name (x.layout.name j) ∷ z) (trail_of-steps (steps.Index i ∷ x.path.upward) b.0 b.1)
-          ∙ trail_of-steps (steps.Name (x.layout.name j) ∷ b.0.upward) a.0 b.2
+      ∙ trail_of-steps (steps.Name (x.layout.name j) ∷ b.0.upward) a.0 b.2
       ∙ ap (λ (n : Node). n.path.upward) (a.2 ∙ e))
 
   no_element : (i : ℕ) (m : Node) (k : NodeKind) → option_map (λ q. record { kind = k; path = q }) (element_path x i) ≡ Some m → m ≡ head_node x.path → ⊥
@@ -178,7 +178,7 @@ module _ (d : Description) (bytes : List ℕ) (x : Listing) (plain : IsPlain d b
 
   -- the paths of a field that is there
   abbrev FieldPaths : ℕ → ℕ → (Trail → Node) → Node → Type 0
-  FieldPaths i j f m = (p : Trail) × (q : Trail) × (At i p) × (Below p j q) × (f q ≡ m)
+  FieldPaths i j f m = (p : Trail) × (q : Trail) × At i p × Below p j q × (f q ≡ m)
 
   field_paths : (i j : ℕ) (f : Trail → Node) (m : Node) → option_map f (field_path x i j) ≡ Some m → FieldPaths i j f m
   field_paths i j f m h =
@@ -189,30 +189,47 @@ module _ (d : Description) (bytes : List ℕ) (x : Listing) (plain : IsPlain d b
   first_is (ElementHead i) m a = let p = mapped head_node (element_path x i) m a.1 in subst First p.2 (inl (rules.head_first d x.path p.0 i p.1))
   first_is (ElementEnd i) m a =
       let p = mapped end_node (element_path x i) m a.1 in
-      subst First p.2 (inr (head_node p.0, (ElementHead i, (a.0, ap (option_map head_node) p.1)),
-          (let u = head_rank i p.0 p.1 in let v = end_rank i p.0 p.1 in omega (arith, u, v)), rules.end_first d p.0))
+      subst First p.2 (inr (
+        head_node p.0,
+        (ElementHead i, (a.0, ap (option_map head_node) p.1)),
+        (let u = head_rank i p.0 p.1 in let v = end_rank i p.0 p.1 in omega (arith, u, v)),
+        rules.end_first d p.0,
+      ))
   first_is (Rest zero) m a = let p = mapped rest_node (element_path x 0) m a.1 in subst First p.2 (inl (rules.rest_first d x.path p.0 p.1))
   first_is (Rest (suc i)) m a =
       let p = mapped rest_node (element_path x (suc i)) m a.1 in
       let low = a.0.0 in
-      subst First p.2 (inr (end_node p.0, (ElementEnd (suc i), (low, ap (option_map end_node) p.1)),
-      (let u = end_rank (suc i) p.0 p.1 in let v = rest_rank (suc i) p.0 p.1 in let w = turns_low (width x) (suc i) x.count low in omega (arith, u, v, w)),
-          rules.rest_next d x.path p.0 i p.1))
+      subst First p.2 (inr (
+        end_node p.0,
+        (ElementEnd (suc i), (low, ap (option_map end_node) p.1)),
+        (let u = end_rank (suc i) p.0 p.1 in let v = rest_rank (suc i) p.0 p.1 in let w = turns_low (width x) (suc i) x.count low in omega (arith, u, v, w)),
+        rules.rest_next d x.path p.0 i p.1,
+      ))
   first_is (FieldHead i j) m a =
       let f = field_paths i j head_node m a.1 in
-      subst First f.4 (inr (head_node f.0, (ElementHead i, (a.0.0, ap (option_map head_node) f.2)),
-      (let u = head_rank i f.0 f.2 in let v = field_rank nodes.Head i j a.0 f.0 f.1 f.2 f.3 in omega (arith, u, v)),
-          fields.member_first d f.0 f.1 (x.layout.name j) f.3))
+      subst First f.4 (inr (
+        head_node f.0,
+        (ElementHead i, (a.0.0, ap (option_map head_node) f.2)),
+        (let u = head_rank i f.0 f.2 in let v = field_rank nodes.Head i j a.0 f.0 f.1 f.2 f.3 in omega (arith, u, v)),
+        fields.member_first d f.0 f.1 (x.layout.name j) f.3,
+      ))
   first_is (FieldEnd i j) m a =
       let f = field_paths i j end_node m a.1 in
-      subst First f.4 (inr (head_node f.1, (FieldHead i j, (a.0, ap (option_map head_node) (field_path_is i j f.0 f.1 f.2 f.3))),
-      (let u = field_rank nodes.Head i j a.0 f.0 f.1 f.2 f.3 in let v = field_rank nodes.End i j a.0 f.0 f.1 f.2 f.3 in omega (arith, u, v)),
-          rules.end_first d f.1))
+      subst First f.4 (inr (
+        head_node f.1,
+        (FieldHead i j, (a.0, ap (option_map head_node) (field_path_is i j f.0 f.1 f.2 f.3))),
+        (let u = field_rank nodes.Head i j a.0 f.0 f.1 f.2 f.3 in let v = field_rank nodes.End i j a.0 f.0 f.1 f.2 f.3 in omega (arith, u, v)),
+        rules.end_first d f.1,
+      ))
   first_is (SizeValue i) m a =
       let f = field_paths i x.layout.sizer value_node m a.1 in
-      subst First f.4 (inr (head_node f.1, (FieldHead i x.layout.sizer, (a.0.0, ap (option_map head_node) (field_path_is i x.layout.sizer f.0 f.1 f.2 f.3))),
-      (let u = field_rank nodes.Head i x.layout.sizer a.0.0 f.0 f.1 f.2 f.3 in let v = field_rank nodes.Value i x.layout.sizer a.0.0 f.0 f.1 f.2 f.3 in
-          omega (arith, u, v)), fields.value_first d f.1))
+      subst First f.4 (inr (
+        head_node f.1,
+        (FieldHead i x.layout.sizer, (a.0.0, ap (option_map head_node) (field_path_is i x.layout.sizer f.0 f.1 f.2 f.3))),
+        (let u = field_rank nodes.Head i x.layout.sizer a.0.0 f.0 f.1 f.2 f.3 in let v = field_rank nodes.Value i x.layout.sizer a.0.0 f.0 f.1 f.2 f.3 in
+            omega (arith, u, v)),
+        fields.value_first d f.1,
+      ))
 
   -- ---- sizes by name
 
@@ -286,33 +303,33 @@ module _ (d : Description) (bytes : List ℕ) (x : Listing) (plain : IsPlain d b
     -- what is read where an element begins
     read_says : (i : ℕ) (p : Trail) → i < x.count
         → Says met p bytes (rules.read_at met bytes d x.list x.path p listed i (Answer (at_byte (start x i)))) (answer_at bytes x (ElementHead i)) []
-            (uses_at bytes x (ElementHead i))
+        (uses_at bytes x (ElementHead i))
     unfolding shape_at choose content_at object_at bind
     read_says i p low = by x.layout.type_number (IsRead.element read)
       where
         by : (o : Option ℕ) → IsElementOf d (IsRead.field read) x.layout o
             → Says met p bytes (rules.read_at met bytes d x.list x.path p listed i (Answer (at_byte (start x i))))
-                (element_from x.list o (start x i) (start x (suc i))) [] (element_uses o (start x (suc i)))
+            (element_from x.list o (start x i) (start x (suc i))) [] (element_uses o (start x (suc i)))
         by (Some k) e =
             let at = element_setting p (parent x.path) x.list.origin (at_byte (start x i)) i in
             says_by met p bytes _ (Answer (element_from x.list (Some k) (start x i) (start x (suc i)))) _ [] []
             (ap (λ z. bind (bind z (λ f. shape_at at x.list.origin x.list.stream (at_byte (start x i)) f)) (λ h. Answer (givens.Head h))) (IsRead.is read)
             ∙ ap (λ c. bind (bind (choose at c) (λ z. chosen_at at x.list.origin x.list.stream (at_byte (start x i)) (IsRead.field read) z))
-                (λ h. Answer (givens.Head h))) e.1
+            (λ h. Answer (givens.Head h))) e.1
             ∙ ap (λ z. bind (object_at at (record x.list.origin { case = None }) k x.list.stream (at_byte (start x i)) z) (λ h. Answer (givens.Head h))) e.2)
-                (says_answer met p bytes _)
+            (says_answer met p bytes _)
         by None e =
             let at = element_setting p (parent x.path) x.list.origin (at_byte (start x i)) i in
             let far : start x (suc i) ≡ start x i + e.2 = ap (λ k. field_start x.layout (x.says i) (start x i) (suc k)) e.0
-                ∙ ap (λ o. start x i + unwrap_or o (x.says i)) e.5 in
+            ∙ ap (λ o. start x i + unwrap_or o (x.says i)) e.5 in
             let room = (plain.whole i low).room in
             subst (λ z. Says met p bytes (rules.read_at met bytes d x.list x.path p listed i (Answer (at_byte (start x i))))
-                (element_from x.list None (start x i) z) [] (element_uses None z)) (sym far)
+            (element_from x.list None (start x i) z) [] (element_uses None z)) (sym far)
             (says_by met p bytes _ (bind (leaf (record x.list.origin { case = None }) x.list.stream (at_byte (start x i)) e.2)
-                (λ h. Answer (givens.Head h))) _ [] _
+            (λ h. Answer (givens.Head h))) _ [] _
             (ap (λ z. bind (bind z (λ f. shape_at at x.list.origin x.list.stream (at_byte (start x i)) f)) (λ h. Answer (givens.Head h))) (IsRead.is read)
             ∙ ap (λ z. bind z (λ h. Answer (givens.Head h))) (fields.shape_is at x.list.origin x.list.stream (at_byte (start x i))
-                (IsRead.field read) e.1 e.2 e.3 e.4))
+            (IsRead.field read) e.1 e.2 e.3 e.4))
             (rules.leaf_says met p bytes (record x.list.origin { case = None }) x.list.stream (start x i) e.2 plain.within (omega (arith, far, room))))
 
     says_head : (i : ℕ) (p : Trail) → i < x.count → At i p → r ≡ turns (width x) i
@@ -325,7 +342,7 @@ module _ (d : Description) (bytes : List ℕ) (x : Listing) (plain : IsPlain d b
         let ended = end_heard i q.0 few q.1 (omega (arith, at)) ∙ ap (λ b. Ok (givens.End (at_byte (start x (suc i))) b)) (not_last i low) in
         says_asking met p bytes _ _ _ _ _ (ap (λ ns. head_node x.path ∷ ns) (node_next (ElementEnd i) (end_node q.0) [] (ap (option_map end_node) q.1)))
         (rules.next_head met bytes d x.list x.path p listed i (start x (suc i)) q.0 _ _ is q.1 plain.filled (plain.whole (suc i) low).counted ended
-            (read_says (suc i) p low))
+        (read_says (suc i) p low))
 
     says_end : (i : ℕ) (p : Trail) → i < x.count → At i p → r ≡ turns (width x) i + 3 * x.layout.last + 4
         → Said (ElementEnd i) (end_node p)
@@ -344,28 +361,33 @@ module _ (d : Description) (bytes : List ℕ) (x : Listing) (plain : IsPlain d b
         by : (o : Option ℕ) → x.layout.type_number ≡ o → IsElementOf d (IsRead.field read) x.layout o
             → met (head_node p) ≡ Ok (element_from x.list o (start x i) (start x (suc i)))
             → Says met p bytes (rules.ending d x.path p i) (answer_at bytes x (ElementEnd i))
-                (head_node p ∷ nodes_of x (last_asked o i x.layout.last)) (uses_at bytes x (ElementEnd i))
+            (head_node p ∷ nodes_of x (last_asked o i x.layout.last)) (uses_at bytes x (ElementEnd i))
         by None same e headed =
-            let h : Head = heads.Leaf (record { origin = record x.list.origin { case = None }; from = at_byte (start x i); to =
-                at_byte (start x (suc i)); end = at_byte (start x (suc i)) }) in
+            let h : Head = heads.Leaf (record {
+              origin = record x.list.origin { case = None };
+              from = at_byte (start x i);
+              to =
+                  at_byte (start x (suc i));
+              end = at_byte (start x (suc i));
+            }) in
             says_given met p bytes (head_node p) _ (givens.Head h) _ (head_node x.path ∷ []) _ headed (closes h refl)
         by (Some k) same e headed =
             let there : IsField x i x.layout.last = (low, omega arith, has_fields k same) in
             let q = below i x.layout.last there in
             let one : Below p x.layout.last q.1 = ap (λ o. option_and_then (λ z. child z (steps.Name (x.layout.name x.layout.last))) o) (sym is)
-                ∙ field_path_is i x.layout.last q.0 q.1 q.2 q.3 in
+            ∙ field_path_is i x.layout.last q.0 q.1 q.2 q.3 in
             let h : Head = heads.Object (object_from x.list k (start x i)) in
             says_asking met p bytes _ _ _ _ _ (ap (λ ns. head_node p ∷ ns)
-                (node_next (FieldEnd i x.layout.last) (end_node q.1) (None ∷ []) (ap (option_map end_node) (field_path_is i x.layout.last p q.1 is one))))
+            (node_next (FieldEnd i x.layout.last) (end_node q.1) (None ∷ []) (ap (option_map end_node) (field_path_is i x.layout.last p q.1 is one))))
             (says_given met p bytes (head_node p) _ (givens.Head h) _ (end_node q.1 ∷ head_node x.path ∷ []) _ headed
             (says_by met p bytes _ _ _ (end_node q.1 ∷ head_node x.path ∷ []) _
             (ap (λ v. rules.as_end (bind (fields_end p (at_byte (start x i)) v) (λ z. element_end d p x.path (parent x.path) i h z))) e.3.ends
             ∙ ap (λ v. rules.as_end (bind (bind (bind (in_path v) (λ z. ask_end z)) (λ z. Answer (aligned z.place)))
-                (λ z. element_end d p x.path (parent x.path) i h z))) one)
+            (λ z. element_end d p x.path (parent x.path) i h z))) one)
             (says_given met p bytes (end_node q.1) _ (givens.End (at_byte (start x (suc i))) false) _ (head_node x.path ∷ []) _
-                (field_end_heard i x.layout.last p q.1 there is one (omega (arith, at)))
+            (field_end_heard i x.layout.last p q.1 there is one (omega (arith, at)))
             (says_by met p bytes _ _ _ (head_node x.path ∷ []) _ (ap (λ n. rules.as_end (element_end d p x.path (parent x.path) i h (at_byte n)))
-                (byte_of_byte (start x (suc i)))) (closes h refl)))))
+            (byte_of_byte (start x (suc i)))) (closes h refl)))))
 
     -- ---- rests
 
@@ -379,14 +401,14 @@ module _ (d : Description) (bytes : List ℕ) (x : Listing) (plain : IsPlain d b
       where
         by : (b : Bool) → nat_le x.count (suc i) ≡ b → met (end_node p) ≡ Ok (answer_at bytes x (ElementEnd i))
             → Says met p bytes (rules.as_rest (rest_from p x.path i)) (answer_at bytes x (Rest i))
-                (end_node p ∷ nodes_of x (if b then [] else Some (Rest (suc i)) ∷ [])) []
+            (end_node p ∷ nodes_of x (if b then [] else Some (Rest (suc i)) ∷ [])) []
         by true e ended =
             let low = there.0 in
             let count : suc i ≡ x.count = grind (arith, nat_tests) in
             let before : i ≡ x.count - 1 = omega (arith, count) in
             rules.last_rest met bytes d x.list x.path p listed x.count i (at_byte (start x x.count)) (omega (arith, count))
             (ended ∙ ap (λ b. Ok (givens.End (at_byte (start x (suc i))) b)) (ap (λ k. is_last bytes x k) before ∙ there.1)
-                ∙ ap (λ k. Ok (givens.End (at_byte (start x k)) true)) count)
+            ∙ ap (λ k. Ok (givens.End (at_byte (start x k)) true)) count)
         by false e ended =
             let more : suc i < x.count = grind (arith, nat_tests) in
             let q = path_of (suc i) more in
@@ -394,7 +416,7 @@ module _ (d : Description) (bytes : List ℕ) (x : Listing) (plain : IsPlain d b
             let beneath : rank x (rest_node q.0) < r = (let z = rest_rank (suc i) q.0 q.1 in omega (arith, z, at, more)) in
             says_asking met p bytes _ _ _ _ _ (ap (λ ns. end_node p ∷ ns) (node_next (Rest (suc i)) (rest_node q.0) [] (ap (option_map rest_node) q.1)))
             (rules.more_rest met bytes d x.list x.path p listed i (at_byte (start x (suc i))) q.0 q.1 (omega (arith, more, most))
-                (ended ∙ ap (λ b. Ok (givens.End (at_byte (start x (suc i))) b)) (not_last i more))
+            (ended ∙ ap (λ b. Ok (givens.End (at_byte (start x (suc i))) b)) (not_last i more))
             x.count (at_byte (start x x.count)) (lower (Rest (suc i)) (rest_node q.0) beneath ((more, there.1), ap (option_map rest_node) q.1)))
 
     says_rest : (i : ℕ) (p : Trail) → IsThere bytes x (Rest i) → At i p → r ≡ turns (width x) x.count + (x.count - i)
@@ -411,17 +433,17 @@ module _ (d : Description) (bytes : List ℕ) (x : Listing) (plain : IsPlain d b
       -- reading it where it begins says this
       reads : turns (width x) i + 3 * j + 1 ≡ r → (lt : turns (width x) i < r)
           → fields.Reads met bytes d x.list t x.layout (laid there.2) p (start x i) plain.within j there.1 q was (headed lt) (place x i j)
-              (unwrap_or (size_at x.layout j) (x.says i)) (nodes_of x (size_asked i (size_at x.layout j)))
+          (unwrap_or (size_at x.layout j) (x.says i)) (nodes_of x (size_asked i (size_at x.layout j)))
       reads at lt = by (size_at x.layout j) refl ((laid there.2).sized j there.1)
         where
           by : (o : Option ℕ) → size_at x.layout j ≡ o → IsSized x.layout j o
               → fields.Reads met bytes d x.list t x.layout (laid there.2) p (start x i) plain.within j there.1 q was (headed lt) (place x i j)
-                  (unwrap_or o (x.says i)) (nodes_of x (size_asked i o))
+              (unwrap_or o (x.says i)) (nodes_of x (size_asked i o))
           by (Some n) e z =
               let far : place x i (suc j) ≡ place x i j + n = ap (λ o. place x i j + unwrap_or o (x.says i)) e in
               let room = field_room i j there.0 there.1 in
               fields.read_fixed met bytes d x.list t x.layout (laid there.2) p (start x i) plain.within j there.1 q was (headed lt)
-                  (place x i j) n z.1 z.2 z.3 (omega (arith, far, room))
+              (place x i j) n z.1 z.2 z.3 (omega (arith, far, room))
           by None e z =
               let far : place x i (suc j) ≡ place x i j + x.says i = ap (λ o. place x i j + unwrap_or o (x.says i)) e in
               let room = field_room i j there.0 there.1 in
@@ -431,11 +453,11 @@ module _ (d : Description) (bytes : List ℕ) (x : Listing) (plain : IsPlain d b
               let s = field_is x.path p i (x.layout.name x.layout.sizer) plain.short is ((laid there.2).named x.layout.sizer sizer.1) in
               let path = field_path_is i x.layout.sizer p s.0 is s.1 in
               let valued = lower (SizeValue i) (value_node s.0) (let u = field_rank nodes.Value i x.layout.sizer sizer p s.0 is s.1 in
-                  omega (arith, u, before, at)) ((sizer, named_more j x.layout.last there.1 (named_here j e)), ap (option_map value_node) path) in
+              omega (arith, u, before, at)) ((sizer, named_more j x.layout.last there.1 (named_here j e)), ap (option_map value_node) path) in
               subst (λ ns. fields.Reads met bytes d x.list t x.layout (laid there.2) p (start x i) plain.within j there.1 q was (headed lt) (place x i j)
-                  (x.says i) ns) (sym (node_next (SizeValue i) (value_node s.0) [] (ap (option_map value_node) path)))
+              (x.says i) ns) (sym (node_next (SizeValue i) (value_node s.0) [] (ap (option_map value_node) path)))
               (fields.read_named met bytes d x.list t x.layout (laid there.2) p (start x i) plain.within j there.1 q was (headed lt) (place x i j) (x.says i)
-                  (x.layout.name x.layout.sizer) s.0 z.1 s.1 valued (omega (arith, far, room)))
+              (x.layout.name x.layout.sizer) s.0 z.1 s.1 valued (omega (arith, far, room)))
 
     says_field : (i j : ℕ) (there : IsField x i j) (p q : Trail) → At i p → Below p j q → turns (width x) i + 3 * j + 1 ≡ r
         → Said (FieldHead i j) (head_node q)
@@ -443,20 +465,20 @@ module _ (d : Description) (bytes : List ℕ) (x : Listing) (plain : IsPlain d b
         let lt : turns (width x) i < r = omega (arith, at) in
         says_asking met q bytes _ _ _ _ _ (node_next (ElementHead i) (head_node p) _ (ap (option_map head_node) is))
         (fields.first_part met bytes d x.list t x.layout (laid there.2) p (start x i) plain.within 0 there.1 q was (headed i 0 there p q is was lt) _ _ refl
-            (reads i 0 there p q is was at lt))
+        (reads i 0 there p q is was at lt))
     says_field i (suc j) there p q is was at =
         let lt : turns (width x) i < r = omega (arith, at) in
         let high = there.1 in
         let few : IsField x i j = (there.0, omega (arith, high), there.2) in
         let s = field_is x.path p i (x.layout.name j) plain.short is ((laid there.2).named j few.1) in
         says_asking met q bytes _ _ _ _ _ (node_next (ElementHead i) (head_node p) (Some (FieldEnd i j) ∷ size_asked i (size_at x.layout (suc j)))
-            (ap (option_map head_node) is)
+        (ap (option_map head_node) is)
         ∙ ap (λ ns. head_node p ∷ ns) (node_next (FieldEnd i j) (end_node s.0) (size_asked i (size_at x.layout (suc j)))
-            (ap (option_map end_node) (field_path_is i j p s.0 is s.1))))
+        (ap (option_map end_node) (field_path_is i j p s.0 is s.1))))
         (fields.next_part met bytes d x.list t x.layout (laid there.2) p (start x i) plain.within (suc j) there.1 q was
-            (headed i (suc j) there p q is was lt) j (place x i (suc j)) _ s.0 _ refl s.1
+        (headed i (suc j) there p q is was lt) j (place x i (suc j)) _ s.0 _ refl s.1
         (field_end_heard i j p s.0 few is s.1 (omega (arith, at))) (no_bits (suc j) (size_at x.layout (suc j)) ((laid there.2).sized (suc j) there.1))
-            (reads i (suc j) there p q is was at lt))
+        (reads i (suc j) there p q is was at lt))
 
     says_field_end : (i j : ℕ) (there : IsField x i j) (p q : Trail) → At i p → Below p j q → turns (width x) i + 3 * j + 2 ≡ r
         → Said (FieldEnd i j) (end_node q)
@@ -464,7 +486,7 @@ module _ (d : Description) (bytes : List ℕ) (x : Listing) (plain : IsPlain d b
         let path = ap (option_map head_node) (field_path_is i j p q is was) in
         says_asking met q bytes _ _ _ _ _ (node_next (FieldHead i j) (head_node q) [] path)
         (fields.part_ends met bytes d x.list t x.layout (laid there.2) p (x.layout.name j) q _ was
-            (lower (FieldHead i j) (head_node q) (let e = field_rank nodes.Head i j there p q is was in omega (arith, e, at)) (there, path)))
+        (lower (FieldHead i j) (head_node q) (let e = field_rank nodes.Head i j there p q is was in omega (arith, e, at)) (there, path)))
 
     says_value : (i : ℕ) (there : IsThere bytes x (SizeValue i)) (p q : Trail) → At i p → Below p x.layout.sizer q
         → turns (width x) i + 3 * x.layout.sizer + 3 ≡ r
@@ -479,9 +501,9 @@ module _ (d : Description) (bytes : List ℕ) (x : Listing) (plain : IsPlain d b
         let within = plain.within in
         says_asking met q bytes _ _ _ _ _ (node_next (FieldHead i x.layout.sizer) (head_node q) [] path)
         (fields.value_says met bytes d x.list t x.layout (laid there.0.2) p (start x i) x.layout.sizer (place x i x.layout.sizer)
-            (place x i (suc x.layout.sizer)) (x.says i) there.0.1 q by.0
+        (place x i (suc x.layout.sizer)) (x.says i) there.0.1 q by.0
         (lower (FieldHead i x.layout.sizer) (head_node q) (let e = field_rank nodes.Head i x.layout.sizer there.0 p q is was in omega (arith, e, at))
-            (there.0, path))
+        (there.0, path))
         (omega (arith, far, some)) (omega (arith, room, within)) ((plain.whole i there.0.0).says there.1))
 
   -- ---- each node of the list
@@ -501,15 +523,15 @@ module _ (d : Description) (bytes : List ℕ) (x : Listing) (plain : IsPlain d b
   step_is (FieldHead i j) m a =
       let f = field_paths i j head_node m a.1 in
       subst (Saying (FieldHead i j)) f.4 (λ met listed lower. says_field (rank x (head_node f.1)) met listed lower i j a.0 f.0 f.1 f.2 f.3
-          (sym (field_rank nodes.Head i j a.0 f.0 f.1 f.2 f.3)))
+      (sym (field_rank nodes.Head i j a.0 f.0 f.1 f.2 f.3)))
   step_is (FieldEnd i j) m a =
       let f = field_paths i j end_node m a.1 in
       subst (Saying (FieldEnd i j)) f.4 (λ met listed lower. says_field_end (rank x (end_node f.1)) met listed lower i j a.0 f.0 f.1 f.2 f.3
-          (sym (field_rank nodes.End i j a.0 f.0 f.1 f.2 f.3)))
+      (sym (field_rank nodes.End i j a.0 f.0 f.1 f.2 f.3)))
   step_is (SizeValue i) m a =
       let f = field_paths i x.layout.sizer value_node m a.1 in
       subst (Saying (SizeValue i)) f.4 (λ met listed lower. says_value (rank x (value_node f.1)) met listed lower i a.0 f.0 f.1 f.2 f.3
-          (sym (field_rank nodes.Value i x.layout.sizer a.0.0 f.0 f.1 f.2 f.3)))
+      (sym (field_rank nodes.Value i x.layout.sizer a.0.0 f.0 f.1 f.2 f.3)))
 
   is_chain : IsChain d bytes (head_node x.path) (givens.Head (heads.List x.list)) chain
   is_chain = record { apart = λ a. apart a.0 a.1; first = λ m a. first_is a.0 m a.1; steps = step_is }
@@ -527,8 +549,8 @@ module _ (d : Description) (bytes : List ℕ) (x : Listing) (plain : IsPlain d b
   node_is (SizeValue i) there = let p = below i x.layout.sizer there.0 in
       (value_node p.1, ap (option_map value_node) (field_path_is i x.layout.sizer p.0 p.1 p.2 p.3))
 
-pub nodes_are_paths : NodesArePaths
-nodes_are_paths d bytes x plain k there = node_is d bytes x plain k there
+pub nodes_have_paths : NodesHavePaths
+nodes_have_paths d bytes x plain k there = node_is d bytes x plain k there
 
 pub nodes_tell : NodesTell
 nodes_tell d bytes x plain k there n is = tells d bytes x plain k there n is

@@ -40,7 +40,7 @@ module _ (d : Description) (bytes : List ℕ) where
       let direct : done w [] ≡ completed d bytes [] = fun_ext (λ m. done_direct d bytes [] m (AreDistinct-none w)) in
       let settled : IsSettled w = law_on (described d) (described_lawful d) bytes in
       sym (done_direct d bytes [] n (AreDistinct-none w)) ∙ kept-tree w settled n
-          (answered_by (tells w [] n).outcome g (answers_are_direct d bytes [] n ∙ t.answer))
+      (answered_by (tells w [] n).outcome g (answers_are_direct d bytes [] n ∙ t.answer))
       ∙ ap (λ ms. flat_map (done w []) ms ++ n ∷ []) ((asks_are_direct d bytes [] n (record { distinct = AreDistinct-none w; apart = refl })).asked ∙ t.asked)
       ∙ ap (λ f. flat_map f ns ++ n ∷ []) direct
 

@@ -30,8 +30,11 @@ byte = contents.Number false 1 Big None
 abbrev pub of_list : Field → Description
 of_list f = record {
   types = record { id = []; members = attribute 0 f ∷ [] }
-      ∷ record { id = []; members = attribute 1 (field Once byte ByItself) ∷ attribute 2
-          (field Once contents.Bytes (Sized (named (record { text = []; number = Some 1 })))) ∷ [] } ∷ [];
+      ∷ record {
+        id = [];
+        members = attribute 1 (field Once byte ByItself) ∷ attribute 2
+            (field Once contents.Bytes (Sized (named (record { text = []; number = Some 1 })))) ∷ [];
+      } ∷ [];
   enums = [];
   names = [] ∷ [] ∷ [] ∷ [];
   known = 3;
@@ -62,8 +65,14 @@ says (suc i) = 2
 abbrev pub listing : Trail → Option ℕ → Layout → ℕ → Listing
 listing l count y n = record {
   path = l;
-  list = record { origin = record { member = record { type_number = 0; member = 0 }; case = None; home = whole }; stream = whole; start = at_byte 0; count =
-      count; is_empty = false };
+  list = record {
+    origin = record { member = record { type_number = 0; member = 0 }; case = None; home = whole };
+    stream = whole;
+    start = at_byte 0;
+    count =
+        count;
+    is_empty = false;
+  };
   layout = y;
   first = 0;
   count = n;

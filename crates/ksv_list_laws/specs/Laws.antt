@@ -26,8 +26,8 @@ pub record Tells (d : Description) (bytes : List ℕ) (opened : List Node) (n : 
   pub used : uses d bytes opened n ≡ us
 
 -- Each node of a plain list has a path, and tells what it is to.
-abbrev pub NodesArePaths : Type 0
-NodesArePaths = (d : Description) (bytes : List ℕ) (x : Listing) → IsPlain d bytes x → (k : Which) → IsThere bytes x k → (n : Node) × (node_at x k ≡ Some n)
+abbrev pub NodesHavePaths : Type 0
+NodesHavePaths = (d : Description) (bytes : List ℕ) (x : Listing) → IsPlain d bytes x → (k : Which) → IsThere bytes x k → (n : Node) × (node_at x k ≡ Some n)
 
 abbrev pub NodesTell : Type 0
 NodesTell = (d : Description) (bytes : List ℕ) (x : Listing) → IsPlain d bytes x → (k : Which) → IsThere bytes x k → (n : Node) → node_at x k ≡ Some n
@@ -60,7 +60,7 @@ abbrev pub EntriesAreRight : Type 0
 EntriesAreRight = (d : Description) (bytes : List ℕ) (kept : List Node) (n : Node) (g : Given) (ns : List Node) (us : List Use) → Tells d bytes [] n g ns us
     → IsSingle us
     → AllByRecursion (λ m. is_among node_number kept m ≡ true) ns → StandsIn (on (described d) bytes) kept
-        (record { node = n; answer = Ok g; asked = ns; uses = us })
+    (record { node = n; answer = Ok g; asked = ns; uses = us })
 
 -- all nodes but the values that say sizes, which are some nodes' guards
 abbrev pub is_folded : Which → Bool

@@ -89,8 +89,14 @@ nodes_of x (Some k ∷ ks) = with_first (node_at x k) (nodes_of x ks)
 
 -- the object that is read at a byte
 abbrev pub object_from : lists.List → ℕ → ℕ → Object
-object_from g t a = record { origin = Some (record g.origin { case = None }); type_number = t; stream = g.stream; start = at_byte a; ending =
-    endings.ByFields }
+object_from g t a = record {
+  origin = Some (record g.origin { case = None });
+  type_number = t;
+  stream = g.stream;
+  start = at_byte a;
+  ending =
+      endings.ByFields;
+}
 
 -- what is read from a byte to another
 abbrev pub leaf_from : Origin → ℕ → ℕ → Given
@@ -237,7 +243,7 @@ pub record IsWhole (bytes : List ℕ) (x : Listing) (i : ℕ) : Type 0 where
   pub counted : is_past x.list.count i ≡ false
   pub says : is_named_to x.layout x.layout.last ≡ true
       → integer_in (x.layout.field x.layout.sizer).choice (slice_range bytes (place x i x.layout.sizer) (place x i (suc x.layout.sizer)))
-          ≡ Answer (values.Int (pos (x.says i)))
+      ≡ Answer (values.Int (pos (x.says i)))
 
 -- A plain list, the first elements of which are whole. Its path is short enough for paths of fields; it begins at a byte; and its stream
 -- ends in the file.

@@ -1,31 +1,33 @@
 //! The laws, each a contract of a function that does nothing.
 
 ghost use Rattle.ksv_list_laws.specs.Examples.{NumbersArePlain, CountedArePlain, ItemsArePlain, ItemsAreNamed};
-ghost use Rattle.ksv_list_laws.specs.Laws.{NodesArePaths, NodesTell, GuardsTell, TreesAreAsked, EntriesAreRight, FoldedStandIn};
+ghost use Rattle.ksv_list_laws.specs.Laws.{NodesHavePaths, NodesTell, GuardsTell, TreesAreAsked, EntriesAreRight, FoldedStandIn};
 
-/// Each node.
+/// Each node of a plain list has a path, and answers, asks and uses from nothing what numbers alone tell: the heads and ends of its
+/// elements and of their fields, the values that say sizes, and, where the last element is known, the rests.
 pub fn nodes_tell()
-    ensures paths { NodesArePaths }
+    ensures paths { NodesHavePaths }
     ensures tell { NodesTell }
 {}
 
-/// Guards.
+/// A change touches the tree of such a node just where it touches that of its guard, or the farthest place to which the node reads.
 pub fn guards_tell()
     ensures { GuardsTell }
 {}
 
-/// Trees.
+/// What evaluating a node completes is what each node that it asks completes, and then it.
 pub fn trees_are_asked()
     ensures { TreesAreAsked }
 {}
 
-/// Entries.
+/// What a node tells is right for an engine to keep. For all nodes of a plain list but the values that say sizes, so is an entry
+/// that names the node's guard alone, and has the farthest place as its only use.
 pub fn entries_are_right()
     ensures own { EntriesAreRight }
     ensures folded { FoldedStandIn }
 {}
 
-/// Examples.
+/// The laws are of something: three integers to the end of a file, the same by a count, and two items that say their sizes.
 pub fn examples_are_plain()
     ensures numbers { NumbersArePlain }
     ensures counted { CountedArePlain }
