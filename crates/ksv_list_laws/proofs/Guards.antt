@@ -196,12 +196,14 @@ module _ (d : Description) (bytes : List ℕ) (x : Listing) (plain : IsPlain d b
       guard_next : (j : ℕ) → suc j ≤ x.layout.last → IsTouched (field_guard x i j) → IsTouched (field_guard x i (suc j))
       guard_next j few t = by (is_named_to x.layout (suc j)) refl
         where
-          before : (b : Bool) → IsTouched (if b then Some (SizeValue i) else prior_guard x i) → is_named_to x.layout (suc j) ≡ true → IsTouched (Some (SizeValue i))
+          before : (b : Bool) → IsTouched (if b then Some (SizeValue i) else prior_guard x i) → is_named_to x.layout (suc j) ≡ true
+              → IsTouched (Some (SizeValue i))
           before true g e = g
           before false g e = head_value d bytes x plain IsTouched rises i low (named_more d bytes x plain (suc j) x.layout.last few e)
               (head_guard d bytes x plain IsTouched rises i low g)
 
-          none : (b : Bool) → is_named_to x.layout j ≡ b → is_named_to x.layout (suc j) ≡ false → IsTouched (if b then Some (SizeValue i) else prior_guard x i)
+          none : (b : Bool) → is_named_to x.layout j ≡ b → is_named_to x.layout (suc j) ≡ false
+              → IsTouched (if b then Some (SizeValue i) else prior_guard x i)
               → IsTouched (prior_guard x i)
           none true e f g = absurd (let never : true ≡ false = sym (named_more d bytes x plain j (suc j) (omega arith) e) ∙ f in cc)
           none false e f g = g
@@ -225,13 +227,15 @@ module _ (d : Description) (bytes : List ℕ) (x : Listing) (plain : IsPlain d b
           next (inr (inl u)) = inr (inl (reach_more change (place x i (suc j)) (place x i (suc (suc j))) (omega arith) u))
           next (inr (inr u)) = absurd u
 
-          before : AnyOf IsTouched (asked_by x (FieldEnd i j)) ⊎ AreHit (uses_at bytes x (FieldEnd i j)) → (IsTouched (Some (FieldHead i j)) → IsGuarded (FieldHead i j))
+          before : AnyOf IsTouched (asked_by x (FieldEnd i j)) ⊎ AreHit (uses_at bytes x (FieldEnd i j))
+              → (IsTouched (Some (FieldHead i j)) → IsGuarded (FieldHead i j))
               → IsGuarded (FieldHead i (suc j))
           before (inl (inl h)) f = next (f h)
           before (inl (inr h)) f = absurd h
           before (inr u) f = absurd u
 
-          by : AnyOf IsTouched (asked_by x (FieldHead i (suc j))) ⊎ AreHit (uses_at bytes x (FieldHead i (suc j))) → (IsTouched (Some (FieldEnd i j)) → IsGuarded (FieldHead i (suc j)))
+          by : AnyOf IsTouched (asked_by x (FieldHead i (suc j))) ⊎ AreHit (uses_at bytes x (FieldHead i (suc j)))
+              → (IsTouched (Some (FieldEnd i j)) → IsGuarded (FieldHead i (suc j)))
               → IsGuarded (FieldHead i (suc j))
           by (inl (inl h)) f = head_field (suc j) few h
           by (inl (inr (inl h))) f = f h
@@ -302,7 +306,8 @@ module _ (d : Description) (bytes : List ℕ) (x : Listing) (plain : IsPlain d b
       before (inr (inl u)) = inr (head_from_end i low x.layout.type_number u)
       before (inr (inr u)) = absurd u
 
-      by : AnyOf IsTouched (asked_by x (ElementHead (suc i))) ⊎ AreHit (uses_at bytes x (ElementHead (suc i))) → (IsTouched (Some (ElementEnd i)) → IsGuarded (ElementEnd i))
+      by : AnyOf IsTouched (asked_by x (ElementHead (suc i))) ⊎ AreHit (uses_at bytes x (ElementHead (suc i)))
+          → (IsTouched (Some (ElementEnd i)) → IsGuarded (ElementEnd i))
           → IsGuarded (ElementHead (suc i))
       by (inl (inl h)) f = inl (to_prior i (omega (arith, low)) h)
       by (inl (inr (inl h))) f = before (f h)
@@ -316,7 +321,8 @@ module _ (d : Description) (bytes : List ℕ) (x : Listing) (plain : IsPlain d b
       → IsTouched (Some (ElementEnd m)) ⊎ AnyOf IsTouched (Some (ElementEnd i) ∷ later_asked x.count i)
   rest_splits zero m last there t = by (falls (Rest 0) there t)
     where
-      by : AnyOf IsTouched (asked_by x (Rest 0)) ⊎ AreHit (uses_at bytes x (Rest 0)) → IsTouched (Some (ElementEnd m)) ⊎ AnyOf IsTouched (Some (ElementEnd 0) ∷ later_asked x.count 0)
+      by : AnyOf IsTouched (asked_by x (Rest 0)) ⊎ AreHit (uses_at bytes x (Rest 0))
+          → IsTouched (Some (ElementEnd m)) ⊎ AnyOf IsTouched (Some (ElementEnd 0) ∷ later_asked x.count 0)
       by (inl (inl h)) = inl (rises (ElementEnd m) last (inl (rises (ElementHead m) last (inl h))))
       by (inl (inr h)) = inr h
       by (inr u) = absurd u
@@ -338,11 +344,13 @@ module _ (d : Description) (bytes : List ℕ) (x : Listing) (plain : IsPlain d b
   rest_falls (suc k) i m sum counted full t = by (rest_splits i m (omega (arith, counted)) (omega (arith, sum, counted), full) t)
       (rest_falls k (suc i) m (omega (arith, sum)) counted full)
     where
-      next : AnyOf IsTouched (Some (Rest (suc i)) ∷ []) → (IsTouched (Some (Rest (suc i))) → IsTouched (Some (ElementEnd m))) → IsTouched (Some (ElementEnd m))
+      next : AnyOf IsTouched (Some (Rest (suc i)) ∷ []) → (IsTouched (Some (Rest (suc i))) → IsTouched (Some (ElementEnd m)))
+          → IsTouched (Some (ElementEnd m))
       next (inl h) f = f h
       next (inr h) f = absurd h
 
-      by : IsTouched (Some (ElementEnd m)) ⊎ AnyOf IsTouched (Some (ElementEnd i) ∷ later_asked x.count i) → (IsTouched (Some (Rest (suc i))) → IsTouched (Some (ElementEnd m)))
+      by : IsTouched (Some (ElementEnd m)) ⊎ AnyOf IsTouched (Some (ElementEnd i) ∷ later_asked x.count i)
+          → (IsTouched (Some (Rest (suc i))) → IsTouched (Some (ElementEnd m)))
           → IsTouched (Some (ElementEnd m))
       by (inl h) f = h
       by (inr (inl h)) f = end_later d bytes x plain IsTouched rises (suc k) i m sum (omega (arith, counted)) h
