@@ -23,7 +23,7 @@ use Rattle.ksv_list_laws.proofs.Common.{at_byte, Trail, child, trail_of-steps, F
 use Rattle.ksv_list_laws.proofs.Common.{head_of, meaning_of, rule_of}
 use Rattle.ksv_list_laws.proofs.Fields.{member_rule}
 use Rattle.ksv_list_laws.proofs.Says.{Says, says_answer, says_given, says_by, says_seen, ends_there}
-use Rattle.ksv_list_laws.specs.Examples.{of_list, numbers, three, items, of_three, of_two, listing, NumbersArePlain, CountedArePlain, ItemsArePlain}
+use Rattle.ksv_list_laws.specs.Examples.{of_list, numbers, three, items, item_layout, of_three, of_two, listing, NumbersArePlain, CountedArePlain, ItemsArePlain}
 use Rattle.ksv_list_laws.specs.Examples.{ItemsAreNamed}
 use Rattle.ksv_list_laws.specs.Lists as layouts
 use Rattle.ksv_list_laws.specs.Nodes.{IsWhole}
@@ -66,11 +66,11 @@ module _ (f : Field) (bytes : List ℕ) (l : Trail) (is : child root (steps.Name
 
 pub numbers_are_plain : NumbersArePlain
 unfolding attribute_head attribute_start attribute_at holds repeated until_eos bind members_of
-numbers_are_plain l is = record {
+numbers_are_plain f l is = record {
   plain = record {
     laid = refl;
-    listed = listed numbers of_three l is _ _ (says_seen _ l of_three (Done whole (at_byte 0)) _ false _ _ (ends_there of_three whole 0) refl);
-    short = short numbers of_three l is;
+    listed = listed (numbers f) of_three l is _ _ (says_seen _ l of_three (Done whole (at_byte 0)) _ false _ _ (ends_there of_three whole 0) refl);
+    short = short (numbers f) of_three l is;
     few = omega arith;
     begins = refl;
     filled = refl;
@@ -80,7 +80,7 @@ numbers_are_plain l is = record {
   full = refl;
 }
   where
-    each : (i : ℕ) → i < 3 → IsWhole of_three (listing l None (layouts.whole numbers) 3) i
+    each : (i : ℕ) → i < 3 → IsWhole of_three (listing l None (layouts.whole (numbers f)) 3) i
     each zero low = record { room = omega arith; counted = refl; says = λ e. absurd (cc) }
     each (suc zero) low = record { room = omega arith; counted = refl; says = λ e. absurd (cc) }
     each (suc (suc zero)) low = record { room = omega arith; counted = refl; says = λ e. absurd (cc) }
@@ -88,11 +88,11 @@ numbers_are_plain l is = record {
 
 pub counted_are_plain : CountedArePlain
 unfolding attribute_head attribute_start attribute_at holds repeated counted count_of size_of integer_of expression value_of bind members_of
-counted_are_plain l is = record {
+counted_are_plain f l is = record {
   plain = record {
     laid = refl;
-    listed = listed three of_three l is _ _ (says_answer _ l of_three _);
-    short = short three of_three l is;
+    listed = listed (three f) of_three l is _ _ (says_answer _ l of_three _);
+    short = short (three f) of_three l is;
     few = omega arith;
     begins = refl;
     filled = refl;
@@ -102,7 +102,7 @@ counted_are_plain l is = record {
   full = refl;
 }
   where
-    each : (i : ℕ) → i < 3 → IsWhole of_three (listing l (Some 3) (layouts.whole three) 3) i
+    each : (i : ℕ) → i < 3 → IsWhole of_three (listing l (Some 3) (layouts.whole (three f)) 3) i
     each zero low = record { room = omega arith; counted = refl; says = λ e. absurd (cc) }
     each (suc zero) low = record { room = omega arith; counted = refl; says = λ e. absurd (cc) }
     each (suc (suc zero)) low = record { room = omega arith; counted = refl; says = λ e. absurd (cc) }
@@ -110,11 +110,11 @@ counted_are_plain l is = record {
 
 pub items_are_plain : ItemsArePlain
 unfolding attribute_head attribute_start attribute_at holds repeated until_eos bind members_of sought integer_value
-items_are_plain l is = record {
+items_are_plain f l is = record {
   plain = record {
     laid = refl;
-    listed = listed items of_two l is _ _ (says_seen _ l of_two (Done whole (at_byte 0)) _ false _ _ (ends_there of_two whole 0) refl);
-    short = short items of_two l is;
+    listed = listed (items f) of_two l is _ _ (says_seen _ l of_two (Done whole (at_byte 0)) _ false _ _ (ends_there of_two whole 0) refl);
+    short = short (items f) of_two l is;
     few = omega arith;
     begins = refl;
     filled = refl;
@@ -124,11 +124,11 @@ items_are_plain l is = record {
   full = refl;
 }
   where
-    each : (i : ℕ) → i < 2 → IsWhole of_two (listing l None (layouts.layout_of (of_list items) 1) 2) i
+    each : (i : ℕ) → i < 2 → IsWhole of_two (listing l None (item_layout f) 2) i
     each zero low = record { room = omega arith; counted = refl; says = λ e. refl }
     each (suc zero) low = record { room = omega arith; counted = refl; says = λ e. refl }
     each (suc (suc i)) low = absurd (omega (arith, low))
 
 pub items_are_named : ItemsAreNamed
 unfolding members_of sought
-items_are_named = refl
+items_are_named f = refl

@@ -15,7 +15,7 @@ use Rattle.ksv_list_laws.proofs.Common.{◌≡◌, ◌∙◌, ℕ, zero, suc, �
 use Rattle.ksv_list_laws.proofs.Common.{inl, inr, refl, sym, ap, subst, arith, nat_tests, cases_lt, is_some, unwrap_or, option_and_then, Answer, Description}
 use Rattle.ksv_list_laws.proofs.Common.{Field, Content, Choice, Always, field_of, Layout, content_size, size_at}
 use Rattle.ksv_list_laws.proofs.Truth.{none_is, some_is}
-use Rattle.ksv_list_laws.specs.Lists.{no_attribute, choice_size, extent_name, size_name, is_integer, before, whole, found, no_field, layout_of, same_name}
+use Rattle.ksv_list_laws.specs.Lists.{no_attribute, choice_size, extent_name, size_name, is_integer, before, whole, found, layout_of, same_name}
 use Rattle.ksv_list_laws.specs.Lists.{is_once, is_sized, is_alone, is_in_order, is_plain_field, all_to, is_plain_type, repeats, object_layout, whole_layout}
 use Rattle.ksv_list_laws.specs.Lists.{content_layout, field_layout, list_layout}
 use Rattle.ksv_list_laws.specs.Nodes.{sought_at}
@@ -143,26 +143,24 @@ kind_found x i b (m ∷ ms) s h = by (m.name == x) h (kind_found x (i + 1) (behi
     by false e later = let z = later e in (suc z.0, z.1, (let n = z.2 in omega (arith, n)), z.3, z.4)
 
 -- the attribute that was found
-attribute_is : (o : Option Sought) (b : Option ℕ) → is_attribute (unwrap_or o no_attribute).kind ≡ true
+attribute_is : (f : Field) (o : Option Sought) (b : Option ℕ) → is_attribute (unwrap_or o no_attribute).kind ≡ true
     → (unwrap_or o no_attribute).before ≡ b
-    → o ≡ Some (record {
-      member = (unwrap_or o no_attribute).member;
-      before = b;
-      kind = Attribute (unwrap_or (field_in (unwrap_or o no_attribute).kind) no_field);
+    → o ≡ Some (record { member = (unwrap_or o no_attribute).member; before = b;
+      kind = Attribute (unwrap_or (field_in (unwrap_or o no_attribute).kind) f);
     })
-attribute_is None b h e = absurd (cc)
-attribute_is (Some s) b h e = by s.kind refl h
+attribute_is f None b h e = absurd (cc)
+attribute_is f (Some s) b h e = by s.kind refl h
   where
-    by : (k : MemberKind) → s.kind ≡ k → is_attribute k ≡ true → Some s ≡ Some
-        (record { member = s.member; before = b; kind = Attribute (unwrap_or (field_in s.kind) no_field) })
-    by (Attribute f) is h' =
-        ap (λ z. Some (record { member = s.member; before = z; kind = s.kind })) e
-        ∙ ap (λ k. Some (record { member = s.member; before = b; kind = k })) (is ∙ ap (λ k. Attribute (unwrap_or (field_in k) no_field)) (sym is))
+    by : (k : MemberKind) → s.kind ≡ k → is_attribute k ≡ true
+        → ◌≡◌ {A = Option Sought} (Some s) (Some (record { member = s.member; before = b; kind = Attribute (unwrap_or (field_in s.kind) f) }))
+    by (Attribute z) is h' =
+        ap (λ c. Some (record { member = s.member; before = c; kind = s.kind })) e
+        ∙ ap (λ k. Some (record { member = s.member; before = b; kind = k })) (is ∙ ap (λ k. Attribute (unwrap_or (field_in k) f)) (sym is))
     by _ is h' = absurd (cc)
 
-module _ (d : Description) (t : ℕ) (ok : is_plain_type d t (layout_of d t) ≡ true) where
+module _ (d : Description) (f : Field) (t : ℕ) (ok : is_plain_type d t (layout_of d f t) ≡ true) where
   abbrev y : Layout
-  y = layout_of d t
+  y = layout_of d f t
 
   each : (j : ℕ) → j ≤ y.last → is_plain_field d t y j ≡ true
   each j low = all_is (is_plain_field d t y) y.last j (both _ _ ok).0 low
@@ -174,7 +172,7 @@ module _ (d : Description) (t : ℕ) (ok : is_plain_type d t (layout_of d t) ≡
   others j low = both _ _ (both (is_in_order y j (found d t j)) _ (each j low)).1
 
   part_is : (j : ℕ) → j ≤ y.last → sought (y.name j) 0 None (members_of d t) ≡ Some (sought_at y j)
-  part_is j low = let a = in_order j low in attribute_is (sought (y.name j) 0 None (members_of d t)) (before y j) a.0 (name_is _ _ a.1)
+  part_is j low = let a = in_order j low in attribute_is f (sought (y.name j) 0 None (members_of d t)) (before y j) a.0 (name_is _ _ a.1)
 
   there : (j : ℕ) → j ≤ y.last → (m : MemberOfType) × (slice_get (members_of d t) (y.member j) ≡ Some m) × (m.kind ≡ Attribute (y.field j))
   there j low =
@@ -222,13 +220,13 @@ module _ (d : Description) (f : Field) (y : Layout) where
   Is = IsElementOf d f y y.type_number
 
   by_object : (t : ℕ) (given : Arguments) (b : Bool) → f.choice ≡ Always (contents.Object t given) → f.extent ≡ ByItself
-      → is_plain_type d t (layout_of d t) ≡ b
-      → (if b then Some (layout_of d t) else None) ≡ Some y → Is
-  by_object t given true c e ok is = subst (λ z. IsElementOf d f z z.type_number) (some_is (layout_of d t) y is) (given, c, e, laid_out d t ok)
+      → is_plain_type d t (layout_of d f t) ≡ b
+      → (if b then Some (layout_of d f t) else None) ≡ Some y → Is
+  by_object t given true c e ok is = subst (λ z. IsElementOf d f z z.type_number) (some_is (layout_of d f t) y is) (given, c, e, laid_out d f t ok)
   by_object t given false c e ok is = absurd (cc)
 
-  by_content : (c : Content) (x : Extent) → f.choice ≡ Always c → f.extent ≡ x → object_layout d c x ≡ Some y → Is
-  by_content (contents.Object t given) ByItself e h is = by_object t given (is_plain_type d t (layout_of d t)) e h refl is
+  by_content : (c : Content) (x : Extent) → f.choice ≡ Always c → f.extent ≡ x → object_layout d f c x ≡ Some y → Is
+  by_content (contents.Object t given) ByItself e h is = by_object t given (is_plain_type d t (layout_of d f t)) e h refl is
   by_content _ x e h is = absurd (cc)
 
   by_size : (c : Content) (n : ℕ) (b : Bool) → f.choice ≡ Always c → content_size c ≡ Some n → nat_lt 0 n ≡ b → (if b then Some (whole f) else None) ≡ Some y
@@ -238,7 +236,7 @@ module _ (d : Description) (f : Field) (y : Layout) where
   by_size c n false e h some is = absurd (cc)
 
   by_sizes : (c : Content) (o : Option ℕ) → f.choice ≡ Always c → content_size c ≡ o
-      → (if is_some o then whole_layout f o else object_layout d c f.extent) ≡ Some y → Is
+      → (if is_some o then whole_layout f o else object_layout d f c f.extent) ≡ Some y → Is
   by_sizes c (Some n) e h is = by_size c n (nat_lt 0 n) e h refl is
   by_sizes c None e h is = by_content c f.extent e refl is
 

@@ -5,7 +5,7 @@ use Rattle.ksv_expr_tree.specs.Tree.{integer, literal, named, no_arguments}
 use Rattle.ksv_expr_value.specs.Places.{at_byte}
 use Rattle.ksv_expr_value.specs.Trail.{Trail, root, child}
 use Rattle.ksv_expr_value.specs.declared.step.Step.TheVariants as steps
-use Rattle.ksv_desc.specs.Description.{Description, MemberOfType, Field, Attribute, Content, Always, Repeat, Once, Eos, Expr, Extent, Sized, ByItself}
+use Rattle.ksv_desc.specs.Description.{Description, Field, Attribute, Content, Always, Repeat, Once, Eos, Expr, Extent, Sized, ByItself}
 use Rattle.ksv_desc.specs.Description as contents
 use Rattle.ksv_desc.specs.declared.order.ByteOrder.TheVariants.{Big}
 use Rattle.ksv_rule_meaning.specs.Wanted.{whole}
@@ -15,39 +15,39 @@ use Rattle.ksv_list_laws.specs.Nodes.{Listing, is_last, IsPlain}
 
 -- ---- descriptions
 
--- the members of a type have the names 0, 1, .. of the file, in its order
-abbrev pub field : Repeat → Content → Extent → Field
-field repeat c extent = record { condition = None; repeat = repeat; choice = Always c; extent = extent; terminator = None; valid = None }
-
-abbrev pub attribute : ℕ → Field → MemberOfType
-attribute name f = record { name = name; kind = Attribute f }
+-- the same but for what matters here, without a condition and without `valid`
+abbrev pub field : Field → Repeat → Content → Extent → Field
+field f repeat c extent = record f { condition = None; repeat = repeat; choice = Always c; extent = extent; valid = None }
 
 -- one byte
 abbrev pub byte : Content
 byte = contents.Number false 1 Big None
 
+-- bytes of the size that the member of the name 1 says
+abbrev pub by_name : Extent
+by_name = Sized (named (record { text = []; number = Some 1 }))
+
 -- the file is a list; its elements are of the second type where they are objects
 abbrev pub of_list : Field → Description
 of_list f = record {
-  types = record { id = []; members = attribute 0 f ∷ [] }
-      ∷ record {
-        id = [];
-        members = attribute 1 (field Once byte ByItself) ∷ attribute 2
-            (field Once contents.Bytes (Sized (named (record { text = []; number = Some 1 })))) ∷ [];
-      } ∷ [];
+  types = record { id = []; members = record { name = 0; kind = Attribute f } ∷ [] }
+      ∷ record { id = []; members = record { name = 1; kind = Attribute (field f Once byte ByItself) } ∷ record { name = 2; kind = Attribute (field f Once contents.Bytes by_name) } ∷ [] } ∷ [];
   enums = [];
   names = [] ∷ [] ∷ [] ∷ [];
   known = 3;
 }
 
-abbrev pub numbers : Field
-numbers = field Eos byte ByItself
+abbrev pub numbers : Field → Field
+numbers f = field f Eos byte ByItself
 
-abbrev pub three : Field
-three = field (Expr (literal (integer 3))) byte ByItself
+abbrev pub three : Field → Field
+three f = field f (Expr (literal (integer 3))) byte ByItself
 
-abbrev pub items : Field
-items = field Eos (contents.Object 1 no_arguments) ByItself
+abbrev pub items : Field → Field
+items f = field f Eos (contents.Object 1 no_arguments) ByItself
+
+abbrev pub item_layout : Field → Layout
+item_layout f = layout_of (of_list (items f)) (items f) 1
 
 -- ---- files, and the lists in them
 
@@ -69,8 +69,7 @@ listing l count y n = record {
     origin = record { member = record { type_number = 0; member = 0 }; case = None; home = whole };
     stream = whole;
     start = at_byte 0;
-    count =
-        count;
+    count = count;
     is_empty = false;
   };
   layout = y;
@@ -85,14 +84,14 @@ pub record IsListOf (f : Field) (bytes : List ℕ) (x : Listing) : Type 0 where
   pub full : is_last bytes x (x.count - 1) ≡ true
 
 abbrev pub NumbersArePlain : Type 0
-NumbersArePlain = (l : Trail) → child root (steps.Name 0) ≡ Some l → IsListOf numbers of_three (listing l None (layouts.whole numbers) 3)
+NumbersArePlain = (f : Field) (l : Trail) → child root (steps.Name 0) ≡ Some l → IsListOf (numbers f) of_three (listing l None (layouts.whole (numbers f)) 3)
 
 abbrev pub CountedArePlain : Type 0
-CountedArePlain = (l : Trail) → child root (steps.Name 0) ≡ Some l → IsListOf three of_three (listing l (Some 3) (layouts.whole three) 3)
+CountedArePlain = (f : Field) (l : Trail) → child root (steps.Name 0) ≡ Some l → IsListOf (three f) of_three (listing l (Some 3) (layouts.whole (three f)) 3)
 
 -- the first of an item's fields says the size of the other
 abbrev pub ItemsArePlain : Type 0
-ItemsArePlain = (l : Trail) → child root (steps.Name 0) ≡ Some l → IsListOf items of_two (listing l None (layout_of (of_list items) 1) 2)
+ItemsArePlain = (f : Field) (l : Trail) → child root (steps.Name 0) ≡ Some l → IsListOf (items f) of_two (listing l None (item_layout f) 2)
 
 abbrev pub ItemsAreNamed : Type 0
-ItemsAreNamed = is_named_to (layout_of (of_list items) 1) 1 ≡ true
+ItemsAreNamed = (f : Field) → is_named_to (item_layout f) 1 ≡ true

@@ -85,20 +85,18 @@ no_attribute = record { member = 0; before = None; kind = Parameter }
 abbrev pub found : Description → ℕ → ℕ → Sought
 found d t j = unwrap_or (sought (unwrap_or (slice_get (fields d t) j) 0) 0 None (members_of d t)) no_attribute
 
-abbrev pub no_field : Field
-no_field = record { condition = None; repeat = Once; choice = Always contents.Bytes; extent = ByItself; terminator = None; valid = None }
+-- how it is read; where there is none, as the list is
+abbrev pub found_field : Description → Field → ℕ → ℕ → Field
+found_field d f t j = unwrap_or (field_in (found d t j).kind) f
 
-abbrev pub found_field : Description → ℕ → ℕ → Field
-found_field d t j = unwrap_or (field_in (found d t j).kind) no_field
-
-abbrev pub layout_of : Description → ℕ → Layout
-layout_of d t = record {
+abbrev pub layout_of : Description → Field → ℕ → Layout
+layout_of d f t = record {
   type_number = Some t;
   name = λ j. unwrap_or (slice_get (fields d t) j) 0;
   member = λ j. (found d t j).member;
-  field = λ j. found_field d t j;
+  field = λ j. found_field d f t j;
   last = length (fields d t) - 1;
-  sizer = sizer_of (λ j. unwrap_or (slice_get (fields d t) j) 0) (λ j. found_field d t j) (length (fields d t) - 1);
+  sizer = sizer_of (λ j. unwrap_or (slice_get (fields d t) j) 0) (λ j. found_field d f t j) (length (fields d t) - 1);
 }
 
 -- ---- which are plain
@@ -145,16 +143,16 @@ repeats (Expr e) (Some n) = true
 repeats _ _ = false
 
 -- the layout of what a field reads each time, where it is plain
-abbrev pub object_layout : Description → Content → Extent → Option Layout
-object_layout d (contents.Object t given) ByItself = if is_plain_type d t (layout_of d t) then Some (layout_of d t) else None
-object_layout d _ _ = None
+abbrev pub object_layout : Description → Field → Content → Extent → Option Layout
+object_layout d f (contents.Object t given) ByItself = if is_plain_type d t (layout_of d f t) then Some (layout_of d f t) else None
+object_layout d f _ _ = None
 
 abbrev pub whole_layout : Field → Option ℕ → Option Layout
 whole_layout f (Some n) = if nat_lt 0 n then Some (whole f) else None
 whole_layout f None = None
 
 abbrev pub content_layout : Description → Field → Choice → Option Layout
-content_layout d f (Always c) = if is_some (content_size c) then whole_layout f (content_size c) else object_layout d c f.extent
+content_layout d f (Always c) = if is_some (content_size c) then whole_layout f (content_size c) else object_layout d f c f.extent
 content_layout d f (Switch on cases) = None
 
 abbrev pub field_layout : Description → lists.List → Option Field → Option Layout
