@@ -1,6 +1,5 @@
 -- Chains: nodes with ranks, of which each asks, first of all, a node that is answered, or one of them of a lower rank. If each says what it is
 -- to say where the lower ones answer what they are to, then all do from nothing.
--- ---- lists of nodes
 use Rattle.std.proofs.Common.{cond, Err}
 use Rattle.std.specs.Prelude.{nat_eq}
 use Rattle.ksv_basics.specs.Plan.{Fail}
@@ -19,6 +18,8 @@ use Rattle.ksv_list_laws.proofs.Common.{inr, refl, sym, ap, subst, arith, AllByR
 use Rattle.ksv_list_laws.proofs.Common.{AreDistinct-none, Node, Given, NodeFault, node_number, look, Rule, See, described, rule_of, Tells}
 use Rattle.ksv_list_laws.proofs.Says.{Says}
 use Rattle.ksv_list_laws.proofs.Truth.{or_true, true_or}
+
+-- ---- lists of nodes
 
 or_none : (b c : Bool) → (b ≡ true → ⊥) → c ≡ false → (b || c) ≡ false
 or_none true c never e = absurd (never refl)
@@ -85,30 +86,32 @@ pub record AsksFirst (d : Description) (m n : Node) : Type 0 where
   pub rest : Given → Rule Given
   pub is : rule_of d m ≡ Ask (Of n) rest
 
--- names of nodes, which node each is of, what it is to answer, to ask and to use, and the ranks of nodes
+-- names of nodes, which node each is of, what it is to answer, to ask and to use, and its rank, which the node tells, too
 pub record Chain : Type 1 where
   pub Part : Type 0
   pub Is : Part → Node → Type 0
   pub answer : Part → Given
   pub asked : Part → List Node
   pub used : Part → List Use
-  pub rank : Node → ℕ
+  pub rank : Part → ℕ
+  pub node_rank : Node → ℕ
 
 -- a node of the chain
 abbrev pub IsPart : Chain → Node → Type 0
 IsPart c m = (k : c.Part) × c.Is k m
 
 pub record IsChain (d : Description) (bytes : List ℕ) (root : Node) (given : Given) (c : Chain) : Type 0 where
+  pub ranked : (k : c.Part) (m : Node) → c.Is k m → c.node_rank m ≡ c.rank k
   pub apart : IsPart c root → ⊥
-  pub first : (m : Node) → IsPart c m → AsksFirst d m root ⊎ ((n : Node) × IsPart c n × (c.rank n < c.rank m) × AsksFirst d m n)
+  pub first : (k : c.Part) (m : Node) → c.Is k m → AsksFirst d m root ⊎ ((j : c.Part) × (n : Node) × c.Is j n × (c.rank j < c.rank k) × AsksFirst d m n)
   pub steps : (k : c.Part) (m : Node) → c.Is k m → (met : Node → Result Given NodeFault) → met root ≡ Ok given
-      → ((j : c.Part) (n : Node) → c.rank n < c.rank m → c.Is j n → met n ≡ Ok (c.answer j))
+      → ((j : c.Part) (n : Node) → c.rank j < c.rank k → c.Is j n → met n ≡ Ok (c.answer j))
       → Says met m.path bytes (rule_of d m) (c.answer k) (c.asked k) (c.used k)
 
 module _ (d : Description) (bytes : List ℕ) (root : Node) (given : Given) (c : Chain) (chain : IsChain d bytes root given c) where
   -- nodes of the chain from a rank on
   abbrev AreFrom : ℕ → List Node → Type 0
-  AreFrom r os = AllByRecursion (λ o. (r ≤ c.rank o) × IsPart c o) os
+  AreFrom r os = AllByRecursion (λ o. (r ≤ c.node_rank o) × IsPart c o) os
 
   member_is : (r : ℕ) (os : List Node) (m : Node) → AreFrom r os → is_among node_number os m ≡ true → IsPart c m
   member_is r [] m all h = absurd (cc)
@@ -122,14 +125,16 @@ module _ (d : Description) (bytes : List ℕ) (root : Node) (given : Given) (c :
     pub distinct : AreDistinct (on (described d) bytes) os
     pub from : AreFrom r os
 
-  clear_free : (r : ℕ) (os : List Node) (m : Node) → IsClear r os → c.rank m < r → is_among node_number os m ≡ false
-  clear_free r os m free lt = none_among os m (All-map (λ o h e. (let same = ap c.rank e in let le = h.0 in omega (arith, same, le, lt))) os free.from)
+  clear_free : (r : ℕ) (os : List Node) (m : Node) → IsClear r os → c.node_rank m < r → is_among node_number os m ≡ false
+  clear_free r os m free lt = none_among os m (All-map (λ o h e. (let same = ap c.node_rank e in let le = h.0 in omega (arith, same, le, lt))) os free.from)
 
-  clear_more : (r : ℕ) (os : List Node) (m : Node) → IsClear r os → IsPart c m → c.rank m < r → IsClear (c.rank m) (m ∷ os)
-  clear_more r os m free a lt = record {
-    distinct = AreDistinct-cons (on (described d) bytes) m os (clear_free r os m free lt) free.distinct;
-    from = ((omega arith, a), All-map (λ o h. ((let le = h.0 in omega (arith, le, lt)), h.1)) os free.from);
-  }
+  clear_more : (r : ℕ) (os : List Node) (k : c.Part) (m : Node) → IsClear r os → c.Is k m → c.rank k < r → IsClear (c.rank k) (m ∷ os)
+  clear_more r os k m free a lt =
+      let own = chain.ranked k m a in
+      record {
+        distinct = AreDistinct-cons (on (described d) bytes) m os (clear_free r os m free (omega (arith, own, lt))) free.distinct;
+        from = ((omega (arith, own), (k, a)), All-map (λ o h. ((let le = h.0 in omega (arith, le, lt)), h.1)) os free.from);
+      }
 
   -- ---- while the root is open no node of the chain answers
 
@@ -144,18 +149,18 @@ module _ (d : Description) (bytes : List ℕ) (root : Node) (given : Given) (c :
           ∙ ap (λ r. with_given r (λ y. answer_of met m.path bytes (a.rest y))) e in
           let both = sym is ∙ h in cc
 
-  leads : (fuel depth : ℕ) (opened : List Node) (m : Node) (g : Given) → c.rank m < fuel → IsPart c m → is_among node_number opened root ≡ true
+  leads : (fuel depth : ℕ) (opened : List Node) (k : c.Part) (m : Node) (g : Given) → c.rank k < fuel → c.Is k m → is_among node_number opened root ≡ true
       → answer_within d bytes depth opened m ≡ Ok g → ⊥
-  leads zero depth opened m g lt a up h = absurd (omega (arith, lt))
-  leads (suc fuel) zero opened m g lt a up h = no_depth d bytes opened m g h
-  leads (suc fuel) (suc depth) opened m g lt a up h =
+  leads zero depth opened k m g lt a up h = absurd (omega (arith, lt))
+  leads (suc fuel) zero opened k m g lt a up h = no_depth d bytes opened m g h
+  leads (suc fuel) (suc depth) opened k m g lt a up h =
       let ran = ruled d bytes depth opened m g h in
       let met = answer_within d bytes depth (m ∷ opened) in
       let above : is_among node_number (m ∷ opened) root ≡ true = or_true (nat_eq (node_number root) (node_number m)) (is_among node_number opened root)
       (inr up) in
-      elim (chain.first m a) [
+      elim (chain.first k m a) [
         | inl x ↦ no_answer met m root g x (λ y e. (let shut = sym (open_is d bytes depth (m ∷ opened) root above) ∙ e in cc)) ran.1
-        | inr x ↦ no_answer met m x.0 g x.3 (λ y e. leads fuel depth (m ∷ opened) x.0 y (let below = x.2 in omega (arith, below, lt)) x.1 above e) ran.1
+        | inr x ↦ no_answer met m x.1 g x.4 (λ y e. leads fuel depth (m ∷ opened) x.0 x.1 y (let below = x.3 in omega (arith, below, lt)) x.2 above e) ran.1
       ]
 
   -- ---- so the root answers the same while nodes of the chain are open
@@ -176,7 +181,7 @@ module _ (d : Description) (bytes : List ℕ) (root : Node) (given : Given) (c :
       → answer_within d bytes depth opened n ≡ Ok g → IsPart c n → ⊥
   no_part depth opened n g held h a = elim (true_or (nat_eq (node_number root) (node_number n)) (is_among node_number opened root) held) [
     | inl e ↦ chain.apart (subst (IsPart c) (sym (same_node root n e)) a)
-    | inr e ↦ leads (suc (c.rank n)) depth opened n g (omega arith) a e h
+    | inr e ↦ leads (suc (c.rank a.0)) depth opened a.0 n g (omega arith) a.1 e h
   ]
 
   stays : (depth : ℕ) (opened others : List Node) (n : Node) (g : Given) → is_among node_number (n ∷ opened) root ≡ true → Extra opened others
@@ -206,18 +211,18 @@ module _ (d : Description) (bytes : List ℕ) (root : Node) (given : Given) (c :
 
   -- ---- what the nodes tell
 
-  tell : (fuel : ℕ) → from_nothing d bytes [] root ≡ Ok given → (k : c.Part) (m : Node) → c.Is k m → c.rank m < fuel → (r : ℕ) (os : List Node) → c.rank m < r
-      → IsClear r os
-      → Tells d bytes os m (c.answer k) (c.asked k) (c.used k)
+  tell : (fuel : ℕ) → from_nothing d bytes [] root ≡ Ok given → (k : c.Part) (m : Node) → c.Is k m → c.rank k < fuel → (r : ℕ) (os : List Node) → c.rank k < r
+      → IsClear r os → Tells d bytes os m (c.answer k) (c.asked k) (c.used k)
   tell zero root_is k m a lt r os below clear = absurd (omega (arith, lt))
   tell (suc fuel) root_is k m a lt r os below clear =
-      let more = clear_more r os m clear (k, a) below in
-      let free : IsFree d bytes os m = record { distinct = clear.distinct; apart = clear_free r os m clear below } in
-      let said = chain.steps k m a (from_nothing d bytes (m ∷ os)) (root_stays (c.rank m) (m ∷ os) more.from root_is)
-      (λ j n low b. (tell fuel root_is j n b (omega (arith, low, lt)) (c.rank m) (m ∷ os) low more).answer) in
+      let more = clear_more r os k m clear a below in
+      let own = chain.ranked k m a in
+      let free : IsFree d bytes os m = record { distinct = clear.distinct; apart = clear_free r os m clear (omega (arith, own, below)) } in
+      let said = chain.steps k m a (from_nothing d bytes (m ∷ os)) (root_stays (c.rank k) (m ∷ os) more.from root_is)
+      (λ j n low b. (tell fuel root_is j n b (omega (arith, low, lt)) (c.rank k) (m ∷ os) low more).answer) in
       record { answer = answers_follow_rules d bytes os m free ∙ said.answer; asked = said.asked; used = said.used }
 
   -- from nothing each node of a chain answers, asks and uses what it is to
   pub chain_tells : from_nothing d bytes [] root ≡ Ok given → (k : c.Part) (m : Node) → c.Is k m → Tells d bytes [] m (c.answer k) (c.asked k) (c.used k)
-  chain_tells root_is k m a = tell (suc (c.rank m)) root_is k m a (omega arith) (suc (c.rank m)) [] (omega arith)
+  chain_tells root_is k m a = tell (suc (c.rank k)) root_is k m a (omega arith) (suc (c.rank k)) [] (omega arith)
       (record { distinct = AreDistinct-none (on (described d) bytes); from = tt })

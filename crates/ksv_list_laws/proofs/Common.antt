@@ -9,7 +9,7 @@ pub use Rattle.ksv_basics.specs.Plan.{Answer, Ask}
 unfoldable pub use Rattle.ksv_basics.specs.Plan.{bind}
 pub use Rattle.ksv_bytes.specs.Uses.{is_use_touched}
 pub use Rattle.ksv_bytes.specs.declared.uses.Use.{Use}
-pub use Rattle.ksv_desc.specs.Description.{Always, Choice, Content, Description, Field}
+pub use Rattle.ksv_desc.specs.Description.{Always, Content, Description, Field}
 pub use Rattle.ksv_expr_value.proofs.Places.{byte_of_byte}
 unfoldable pub use Rattle.ksv_expr_value.specs.Places.{at_byte}
 pub use Rattle.ksv_expr_value.specs.Trail.{Trail, child, parent, trail_of-steps}

@@ -1,5 +1,4 @@
 -- The lists of the examples are plain: their heads answer them, and their elements are whole.
--- the object at the root
 use Rattle.ksv_desc.specs.Description.{Attribute}
 use Rattle.ksv_expr_meaning.specs.Meaning.{value_of}
 use Rattle.ksv_expr_value.specs.Trail.{root}
@@ -23,11 +22,12 @@ use Rattle.ksv_list_laws.proofs.Common.{at_byte, Trail, child, trail_of-steps, F
 use Rattle.ksv_list_laws.proofs.Common.{head_of, meaning_of, rule_of}
 use Rattle.ksv_list_laws.proofs.Fields.{member_rule}
 use Rattle.ksv_list_laws.proofs.Says.{Says, says_answer, says_given, says_by, says_seen, ends_there}
-use Rattle.ksv_list_laws.specs.Examples.{of_list, numbers, three, items, item_layout, of_three, of_two, listing, NumbersArePlain, CountedArePlain, ItemsArePlain}
-use Rattle.ksv_list_laws.specs.Examples.{ItemsAreNamed}
+use Rattle.ksv_list_laws.specs.Examples.{of_list, numbers, three, items, item_layout, of_three, of_two, listing, NumbersArePlain, CountedArePlain}
+use Rattle.ksv_list_laws.specs.Examples.{ItemsArePlain, ItemsAreNamed}
 use Rattle.ksv_list_laws.specs.Lists as layouts
 use Rattle.ksv_list_laws.specs.Nodes.{IsWhole}
 
+-- the object at the root
 abbrev root_object : Object
 root_object = record { origin = None; type_number = 0; stream = whole; start = at_byte 0; ending = endings.ByFields }
 

@@ -1,9 +1,8 @@
 -- What the rules of an element's fields say, and of the value that says the size of some; and how an element is read.
--- ---- what is read at a place
 use Rattle.std.specs.Prelude.{◌==◌, pos, slice_range}
 use Rattle.ksv_basics.specs.Plan.{translate}
 use Rattle.ksv_bytes.specs.declared.uses.Use.TheVariants as uses_are
-use Rattle.ksv_desc.specs.Description.{Extent, Sized, ByItself, MemberKind, valid_of}
+use Rattle.ksv_desc.specs.Description.{Extent, Sized, ByItself, MemberKind, valid_of, Choice}
 use Rattle.ksv_desc.specs.Description as contents
 use Rattle.ksv_expr_meaning.specs.Asked.{value_for, in_value as asked_value}
 use Rattle.ksv_expr_meaning.specs.Heard.{Valued}
@@ -35,8 +34,8 @@ use Rattle.ksv_rule_meaning.specs.Wanted.{holds, wanted, expression, integer_of,
 use Rattle.ksv_list_laws.proofs.Chains.{AsksFirst}
 use Rattle.ksv_list_laws.proofs.Common.{◌≡◌, ◌∙◌, ℕ, suc, ◌+◌, ◌<◌, ◌≤◌, nat_lt, nat_le, true, false, if◌then◌else◌, List, [], ◌∷◌, length, Some, None}
 use Rattle.ksv_list_laws.proofs.Common.{Result, Ok, refl, sym, ap, arith, nat_tests, Answer, Ask, bind, Use, byte_of_byte, at_byte, Trail, child, Stream}
-use Rattle.ksv_list_laws.proofs.Common.{Description, Field, Content, Choice, Always, Node, NodeFault, Given, Head, look, end_in, Rule, See, head_node}
-use Rattle.ksv_list_laws.proofs.Common.{end_node, in_path, ask_end, field_of, leaf, shape_at, part_end, head_of, meaning_of, rule_of, Layout, content_size}
+use Rattle.ksv_list_laws.proofs.Common.{Description, Field, Content, Always, Node, NodeFault, Given, Head, look, end_in, Rule, See, head_node, end_node}
+use Rattle.ksv_list_laws.proofs.Common.{in_path, ask_end, field_of, leaf, shape_at, part_end, head_of, meaning_of, rule_of, Layout, content_size}
 use Rattle.ksv_list_laws.proofs.Paths.{part_of}
 use Rattle.ksv_list_laws.proofs.Plain.{IsNumber, IsNamed, IsLaidOut}
 use Rattle.ksv_list_laws.proofs.Rules.{leaf_says}
@@ -44,6 +43,8 @@ use Rattle.ksv_list_laws.proofs.Says.{Says, says_answer, says_given, says_seen, 
 use Rattle.ksv_list_laws.proofs.Truth.{some_is}
 use Rattle.ksv_list_laws.specs.Lists.{before}
 use Rattle.ksv_list_laws.specs.Nodes.{object_from, sought_at, leaf_from, integer_in}
+
+-- ---- what is read at a place
 
 content_is : (at : Setting) (origin : Origin) (w : Stream) (s : Place) (f : Field) (c : Content) (n : ℕ) → content_size c ≡ Some n
     → content_at at origin w s f c ≡ leaf origin w s n

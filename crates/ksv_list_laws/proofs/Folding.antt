@@ -1,5 +1,4 @@
 -- An entry with a node's guard and the farthest place to which it reads stands in for the node.
--- ---- uses that are places
 use Rattle.std.proofs.Common.{length-append, Contains}
 use Rattle.std.proofs.lemmas.List.Elements.{All-from_recursion, All-contains, Contains-get_or, Contains-append_left, Contains-append_right}
 use Rattle.ksv_bytes.specs.declared.uses.Use.TheVariants as uses_are
@@ -20,6 +19,8 @@ use Rattle.ksv_list_laws.proofs.Telling.{node_is}
 use Rattle.ksv_list_laws.proofs.Telling as telling
 use Rattle.ksv_list_laws.specs.Laws.{guard_node, IsSingle, is_folded, FoldedStandIn}
 use Rattle.ksv_list_laws.specs.Nodes.{answer_at}
+
+-- ---- uses that are places
 
 abbrev IsPlace : Use → Type 0
 IsPlace (uses_are.Bytes from to) = ⊥

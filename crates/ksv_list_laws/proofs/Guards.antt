@@ -1,6 +1,4 @@
 -- A change touches the tree of a node just where it touches that of its guard, or the farthest place to which the node reads.
--- ---- changes
--- a change that touches a place touches each further one, and the size
 use Rattle.ksv_bytes.specs.declared.uses.Change.{Change}
 use Rattle.ksv_bytes.specs.declared.uses.Change.TheVariants.{Overwrite, Insert, Delete, Append}
 use Rattle.ksv_bytes.specs.declared.uses.Use.TheVariants as uses_are
@@ -19,6 +17,9 @@ use Rattle.ksv_list_laws.proofs.Truth.{or_true, true_or, same_truth}
 use Rattle.ksv_list_laws.specs.Laws.{guard_node, GuardsTell}
 use Rattle.ksv_list_laws.specs.Nodes.{place, is_last, field_guard}
 
+-- ---- changes
+
+-- a change that touches a place touches each further one, and the size
 reach_more : (change : Change) (a b : ℕ) → a ≤ b → is_use_touched change (uses_are.Reach a) ≡ true → is_use_touched change (uses_are.Reach b) ≡ true
 reach_more (Overwrite at n) a b le h = absurd (cc)
 reach_more (Insert at n) a b le h = grind (arith, nat_tests)

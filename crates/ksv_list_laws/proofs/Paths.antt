@@ -1,5 +1,4 @@
 -- Paths of elements and of their fields.
--- a step more leads back by one
 use Rattle.std.proofs.Common.{◌^◌}
 use Rattle.std.specs.Prelude.{option_map}
 use Rattle.ksv_expr_value.specs.Trail.{last, element_limit, all_but_last, first_step, same_trail, step_fits, fits, fits-more, trail_of-true}
@@ -7,6 +6,7 @@ use Rattle.ksv_expr_value.specs.declared.step.Step.TheVariants as steps
 use Rattle.ksv_list_laws.proofs.Common.{◌≡◌, ℕ, ◌<◌, true, ◌∷◌, length, Option, Some, None, refl, sym, ap, arith, nat_tests, option_and_then, Trail, child}
 use Rattle.ksv_list_laws.proofs.Common.{parent, trail_of-steps, Step}
 
+-- a step more leads back by one
 pub part_of : (q r : Trail) (step : Step) → child q step ≡ Some r → (parent r ≡ q) × (last r ≡ Some step)
 part_of q r step e =
     let up : step ∷ q.upward ≡ r.upward = trail_of-steps (step ∷ q.upward) r e in

@@ -1,13 +1,15 @@
 -- Where elements and fields begin, in order; and the ranks of nodes.
--- ---- places
 use Rattle.std.proofs.Common.{◌*◌, ◌==◌}
 use Rattle.ksv_expr_value.specs.declared.step.Step.TheVariants as steps
 use Rattle.ksv_nodes.specs.declared.node.NodeKind.{NodeKind}
 use Rattle.ksv_nodes.specs.declared.node.NodeKind.TheVariants as nodes
-use Rattle.ksv_list_laws.proofs.Common.{◌≡◌, ◌∙◌, ℕ, zero, suc, ◌+◌, ◌-◌, ◌<◌, ◌≤◌, Bool, true, false, if◌then◌else◌, List, ◌∷◌, Some, inl, inr, refl, sym}
-use Rattle.ksv_list_laws.proofs.Common.{ap, arith, nat_tests, cases_lt, unwrap_or, Trail, child, trail_of-steps, Step, Node, Layout, size_at, Listing}
+use Rattle.ksv_list_laws.proofs.Common.{◌≡◌, ℕ, zero, suc, ◌+◌, ◌-◌, ◌<◌, ◌≤◌, Bool, true, false, if◌then◌else◌, List, ◌∷◌, Some, inl, inr, refl}
+use Rattle.ksv_list_laws.proofs.Common.{ap, arith, nat_tests, cases_lt, unwrap_or, Step, Node, Layout, size_at, Listing}
+use Rattle.ksv_list_laws.proofs.Common.{ElementHead, ElementEnd, Rest, FieldHead, FieldEnd, SizeValue, Which}
 use Rattle.ksv_list_laws.specs.Lists.{place_of}
 use Rattle.ksv_list_laws.specs.Nodes.{field_start}
+
+-- ---- places
 
 pub field_low : (y : Layout) (n a j k : ℕ) → j ≤ k → field_start y n a j ≤ field_start y n a k
 field_low y n a j zero le = let same : j ≡ 0 = omega (arith, le) in let e : field_start y n a j ≡ field_start y n a 0 = ap (field_start y n a) same in
@@ -50,37 +52,27 @@ place_is name (suc k) j le one = by (name (suc k) == name j) refl (λ few. place
       | inr more ↦ lower more
     ]
 
--- a node's rank: those of an element go from its head to its end, with three a field between them; rests come last, the last of them first
+-- A node's rank: those of an element go from its head to its end, with three a field between them; rests come last, the last of them first.
 abbrev pub width : Listing → ℕ
 width x = 3 * x.layout.last + 5
 
-abbrev pub element_rank : Listing → NodeKind → ℕ → ℕ
-element_rank x nodes.Head i = turns (width x) i
-element_rank x nodes.Value i = 0
-element_rank x nodes.End i = turns (width x) i + 3 * x.layout.last + 4
-element_rank x nodes.Rest i = turns (width x) x.count + (x.count - i)
+abbrev pub rank : Listing → Which → ℕ
+rank x (ElementHead i) = turns (width x) i
+rank x (ElementEnd i) = turns (width x) i + 3 * x.layout.last + 4
+rank x (Rest i) = turns (width x) x.count + (x.count - i)
+rank x (FieldHead i j) = turns (width x) i + 3 * j + 1
+rank x (FieldEnd i j) = turns (width x) i + 3 * j + 2
+rank x (SizeValue i) = turns (width x) i + 3 * x.layout.sizer + 3
 
-abbrev pub kind_rank : NodeKind → ℕ
-kind_rank nodes.Head = 1
-kind_rank nodes.End = 2
-kind_rank nodes.Value = 3
-kind_rank nodes.Rest = 0
+-- the same by the steps of its path
+abbrev pub step_rank : Listing → NodeKind → List Step → ℕ
+step_rank x nodes.Head (steps.Index i ∷ up) = rank x (ElementHead i)
+step_rank x nodes.End (steps.Index i ∷ up) = rank x (ElementEnd i)
+step_rank x nodes.Rest (steps.Index i ∷ up) = rank x (Rest i)
+step_rank x nodes.Head (steps.Name n ∷ steps.Index i ∷ up) = rank x (FieldHead i (place_of x.layout.name n x.layout.last))
+step_rank x nodes.End (steps.Name n ∷ steps.Index i ∷ up) = rank x (FieldEnd i (place_of x.layout.name n x.layout.last))
+step_rank x nodes.Value (steps.Name n ∷ steps.Index i ∷ up) = rank x (SizeValue i)
+step_rank x _ _ = 0
 
-abbrev pub steps_rank : Listing → NodeKind → List Step → ℕ
-steps_rank x k (steps.Index i ∷ up) = element_rank x k i
-steps_rank x k (steps.Name n ∷ steps.Index i ∷ up) = turns (width x) i + 3 * place_of x.layout.name n x.layout.last + kind_rank k
-steps_rank x k _ = 0
-
-abbrev pub rank : Listing → Node → ℕ
-rank x m = steps_rank x m.kind m.path.upward
-
-pub rank_element : (x : Listing) (k : NodeKind) (l p : Trail) (i : ℕ) → child l (steps.Index i) ≡ Some p → steps_rank x k p.upward ≡ element_rank x k i
-rank_element x k l p i is = ap (steps_rank x k) (sym (trail_of-steps (steps.Index i ∷ l.upward) p is))
-
-pub rank_field : (x : Listing) (k : NodeKind) (l p q : Trail) (i j : ℕ) → child l (steps.Index i) ≡ Some p → child p (steps.Name (x.layout.name j)) ≡ Some q
-    → place_of x.layout.name (x.layout.name j) x.layout.last ≡ j
-    → steps_rank x k q.upward ≡ turns (width x) i + 3 * j + kind_rank k
-rank_field x k l p q i j is was at =
-    ap (steps_rank x k) (sym (ap (λ u. steps.Name (x.layout.name j) ∷ u) (trail_of-steps (steps.Index i ∷ l.upward) p is)
-    ∙ trail_of-steps (steps.Name (x.layout.name j) ∷ p.upward) q was))
-    ∙ ap (λ n. turns (width x) i + 3 * n + kind_rank k) at
+abbrev pub node_rank : Listing → Node → ℕ
+node_rank x m = step_rank x m.kind m.path.upward

@@ -1,11 +1,9 @@
 -- What the test of a plain list says: how its elements are read, and their fields.
--- ---- what there is to know of fields
--- an integer, which has no `valid`
 use Rattle.std.proofs.Common.{◌^◌, ◌==◌, ◌&&◌}
 use Rattle.std.specs.Cmp.{first_so, second_so}
 use Rattle.std.specs.Prelude.{slice_get}
 use Rattle.ksv_desc.specs.Description.{MemberOfType, MemberKind, Parameter, Attribute, ParseInstance, ValueInstance, Switch, Extent, Sized, SizeEos, ByItself}
-use Rattle.ksv_desc.specs.Description.{Repeat, Once, Eos, Expr, Until, field_in, field_at}
+use Rattle.ksv_desc.specs.Description.{Repeat, Once, Eos, Expr, Until, field_in, field_at, Choice}
 use Rattle.ksv_desc.specs.Description as contents
 use Rattle.ksv_desc.specs.declared.order.ByteOrder.{ByteOrder}
 use Rattle.ksv_expr_tree.specs.Tree.{Arguments, Word, named}
@@ -13,13 +11,16 @@ use Rattle.ksv_nodes.specs.declared.given.List as lists
 use Rattle.ksv_rule_meaning.specs.Fields.{Sought, members_of, behind, sought, is_attribute, last_attribute, in_field, in_kind, kind_of}
 use Rattle.ksv_list_laws.proofs.Common.{◌≡◌, ◌∙◌, ℕ, zero, suc, ◌+◌, ◌<◌, ◌≤◌, nat_lt, Bool, true, false, if◌then◌else◌, List, [], ◌∷◌, Option, Some, None}
 use Rattle.ksv_list_laws.proofs.Common.{inl, inr, refl, sym, ap, subst, arith, nat_tests, cases_lt, is_some, unwrap_or, option_and_then, Answer, Description}
-use Rattle.ksv_list_laws.proofs.Common.{Field, Content, Choice, Always, field_of, Layout, content_size, size_at}
+use Rattle.ksv_list_laws.proofs.Common.{Field, Content, Always, field_of, Layout, content_size, size_at}
 use Rattle.ksv_list_laws.proofs.Truth.{none_is, some_is}
-use Rattle.ksv_list_laws.specs.Lists.{no_attribute, choice_size, extent_name, size_name, is_integer, before, whole, found, layout_of, same_name}
-use Rattle.ksv_list_laws.specs.Lists.{is_once, is_sized, is_alone, is_in_order, is_plain_field, all_to, is_plain_type, repeats, object_layout, whole_layout}
+use Rattle.ksv_list_laws.specs.Lists.{no_attribute, choice_size, extent_name, size_name, is_integer, before, whole, found, layout_of, same_name, is_once}
+use Rattle.ksv_list_laws.specs.Lists.{is_sized, is_alone, is_in_order, is_plain_field, all_to, is_plain_type, repeats, object_layout, whole_layout}
 use Rattle.ksv_list_laws.specs.Lists.{content_layout, field_layout, list_layout}
 use Rattle.ksv_list_laws.specs.Nodes.{sought_at}
 
+-- ---- what there is to know of fields
+
+-- an integer, which has no `valid`
 pub record IsNumber (f : Field) : Type 0 where
   pub is_signed : Bool
   pub size : ℕ
@@ -145,7 +146,9 @@ kind_found x i b (m ∷ ms) s h = by (m.name == x) h (kind_found x (i + 1) (behi
 -- the attribute that was found
 attribute_is : (f : Field) (o : Option Sought) (b : Option ℕ) → is_attribute (unwrap_or o no_attribute).kind ≡ true
     → (unwrap_or o no_attribute).before ≡ b
-    → o ≡ Some (record { member = (unwrap_or o no_attribute).member; before = b;
+    → o ≡ Some (record {
+      member = (unwrap_or o no_attribute).member;
+      before = b;
       kind = Attribute (unwrap_or (field_in (unwrap_or o no_attribute).kind) f);
     })
 attribute_is f None b h e = absurd (cc)

@@ -1,5 +1,4 @@
 -- What is so of a node where it is so of one that it asks: then it is so of a node where it is so of its guard, or where a node makes its use.
--- this is so of one of some
 use Rattle.std.proofs.Common.{not}
 use Rattle.ksv_bytes.specs.declared.uses.Use.TheVariants as uses_are
 use Rattle.ksv_list_laws.proofs.Common.{◌≡◌, ◌∙◌, ℕ, zero, suc, ◌+◌, ◌-◌, ◌<◌, nat_le, Bool, true, false, if◌then◌else◌, ◌||◌, List, [], ◌∷◌, Option, Some}
@@ -12,6 +11,7 @@ use Rattle.ksv_list_laws.proofs.Telling.{read, first_size, sizer_low}
 use Rattle.ksv_list_laws.proofs.Truth.{none_is}
 use Rattle.ksv_list_laws.specs.Nodes.{is_last, field_guard, IsField}
 
+-- this is so of one of some
 abbrev pub AnyOf : {A : Type 0} → (A → Type 0) → List A → Type 0
 AnyOf Q [] = ⊥
 AnyOf Q (a ∷ xs) = Q a ⊎ AnyOf Q xs

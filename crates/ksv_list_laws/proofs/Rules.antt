@@ -1,5 +1,4 @@
 -- What the rules of a list's elements and rests say: where each begins, where it ends, and how many are behind it.
--- ---- the rules of an element's head, end and rest
 use Rattle.std.proofs.Common.{◌==◌}
 use Rattle.ksv_bytes.specs.declared.uses.Use.TheVariants as uses_are
 use Rattle.ksv_desc.specs.Description.{Repeat, Once, Eos, Expr, Until}
@@ -27,6 +26,8 @@ use Rattle.ksv_list_laws.proofs.Paths.{part_of}
 use Rattle.ksv_list_laws.proofs.Says.{Says, says_answer, says_given, says_seen, says_by, reaches, ends_there}
 use Rattle.ksv_list_laws.specs.Lists.{repeats}
 use Rattle.ksv_list_laws.specs.Nodes.{is_last_at}
+
+-- ---- the rules of an element's head, end and rest
 
 pub head_rule : (d : Description) (l p : Trail) (i : ℕ) → child l (steps.Index i) ≡ Some p
     → rule_of d (head_node p) ≡ bind (element_head d p l (parent l) i) (λ h. Answer (givens.Head h))

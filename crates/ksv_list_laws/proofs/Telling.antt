@@ -1,5 +1,4 @@
 -- The nodes of a plain list are a chain.
--- ---- kinds and lengths
 use Rattle.std.proofs.Common.{◌*◌, not}
 use Rattle.std.specs.Prelude.{option_map}
 use Rattle.ksv_desc.specs.Description as contents
@@ -8,22 +7,21 @@ use Rattle.ksv_expr_value.specs.declared.step.Step.TheVariants as steps
 use Rattle.ksv_nodes.specs.Rule.{value_node, rest_node}
 use Rattle.ksv_nodes.specs.declared.given.Given.TheVariants as givens
 use Rattle.ksv_nodes.specs.declared.given.Head.TheVariants as heads
-use Rattle.ksv_nodes.specs.declared.node.NodeKind.{NodeKind}
 use Rattle.ksv_nodes.specs.declared.node.NodeKind.TheVariants as nodes
 use Rattle.ksv_rule_meaning.specs.Choosing.{choose}
 use Rattle.ksv_rule_meaning.specs.Ends.{start_of, place_of, rest_from, element_end, object_end, fields_end}
 use Rattle.ksv_rule_meaning.specs.Heads.{is_past, is_of_bits, content_at, chosen_at, object_at, element_setting}
-use Rattle.ksv_list_laws.proofs.Chains.{AsksFirst, Chain, IsPart, IsChain, chain_tells}
+use Rattle.ksv_list_laws.proofs.Chains.{AsksFirst, Chain, IsChain, chain_tells}
 use Rattle.ksv_list_laws.proofs.Common.{◌≡◌, ◌∙◌, ℕ, zero, suc, ◌+◌, ◌-◌, ◌<◌, ◌≤◌, nat_le, Bool, true, false, if◌then◌else◌, ◌||◌, List, [], ◌∷◌, length}
 use Rattle.ksv_list_laws.proofs.Common.{Option, Some, None, Result, Ok, ◌⊎◌, inl, inr, refl, sym, ap, subst, arith, nat_tests, cases_lt, is_some}
-use Rattle.ksv_list_laws.proofs.Common.{option_and_then, unwrap_or, Answer, bind, byte_of_byte, at_byte, Trail, child, parent, trail_of-steps, Step}
-use Rattle.ksv_list_laws.proofs.Common.{Description, Content, Always, with_first, Node, NodeFault, Given, Head, end_in, head_node, end_node}
-use Rattle.ksv_list_laws.proofs.Common.{in_path, ask_end, part_end, shape_at, leaf, rule_of, size_at, is_named_to, content_size, Listing, start}
-use Rattle.ksv_list_laws.proofs.Common.{Which, ElementHead, ElementEnd, Rest, FieldHead, FieldEnd, SizeValue, node_at, nodes_of, size_asked, last_asked}
-use Rattle.ksv_list_laws.proofs.Common.{later_asked, asked_by, element_uses, uses_at, IsPlain, IsThere, Tells}
+use Rattle.ksv_list_laws.proofs.Common.{option_and_then, unwrap_or, Answer, bind, byte_of_byte, at_byte, Trail, child, parent, trail_of-steps}
+use Rattle.ksv_list_laws.proofs.Common.{Description, Content, Always, with_first, Node, NodeFault, Given, Head, end_in, head_node, end_node, in_path, ask_end}
+use Rattle.ksv_list_laws.proofs.Common.{part_end, shape_at, leaf, rule_of, size_at, is_named_to, content_size, Listing, start, Which, ElementHead, ElementEnd}
+use Rattle.ksv_list_laws.proofs.Common.{Rest, FieldHead, FieldEnd, SizeValue, node_at, nodes_of, size_asked, last_asked, later_asked, asked_by, element_uses}
+use Rattle.ksv_list_laws.proofs.Common.{uses_at, IsPlain, IsThere, Tells}
 use Rattle.ksv_list_laws.proofs.Fields as fields
 use Rattle.ksv_list_laws.proofs.Paths.{element_is, field_is, mapped, then_is}
-use Rattle.ksv_list_laws.proofs.Places.{field_low, first_some, turns, turns_low, place_is, width, kind_rank, rank, rank_element, rank_field}
+use Rattle.ksv_list_laws.proofs.Places.{field_low, first_some, turns, turns_low, place_is, width, rank, step_rank, node_rank}
 use Rattle.ksv_list_laws.proofs.Plain.{IsNumber, IsLaidOut, IsSized, IsElementOf, IsRead, is_read}
 use Rattle.ksv_list_laws.proofs.Rules as rules
 use Rattle.ksv_list_laws.proofs.Says.{Says, says_answer, says_given, says_by, says_asking}
@@ -31,13 +29,10 @@ use Rattle.ksv_list_laws.proofs.Truth.{none_is, or_true}
 use Rattle.ksv_list_laws.specs.Laws.{NodesHavePaths, NodesTell}
 use Rattle.ksv_list_laws.specs.Lists.{choice_size}
 use Rattle.ksv_list_laws.specs.Lists as layouts
-use Rattle.ksv_list_laws.specs.Nodes.{place, field_start, element_path, field_path, object_from, element_from, is_last_at, is_last, answer_at, IsField}
+use Rattle.ksv_list_laws.specs.Nodes.{path_at, kind_at, place, field_start, element_path, field_path, object_from, element_from, is_last_at, is_last}
+use Rattle.ksv_list_laws.specs.Nodes.{answer_at, IsField}
 
-longer : (s : Step) (up : List Step) → s ∷ up ≡ up → ⊥
-longer s up e = let n : length (s ∷ up) ≡ length up = ap length e in omega (arith, n)
-
-longer_two : (s u : Step) (up : List Step) → s ∷ u ∷ up ≡ up → ⊥
-longer_two s u up e = let n : length (s ∷ u ∷ up) ≡ length up = ap length e in omega (arith, n)
+-- ---- kinds and lengths
 
 is_there : (o : Option ℕ) → is_some o ≡ true → o ≡ Some (unwrap_or o 0)
 is_there None h = absurd (cc)
@@ -109,127 +104,8 @@ module _ (d : Description) (bytes : List ℕ) (x : Listing) (plain : IsPlain d b
   field_path_is : (i j : ℕ) (p q : Trail) → At i p → Below p j q → field_path x i j ≡ Some q
   field_path_is i j p q is was = ap (λ o. option_and_then (λ r. child r (steps.Name (x.layout.name j))) o) is ∙ was
 
-  -- ---- the chain
-
-  abbrev pub chain : Chain
-  chain = record {
-    Part = Which;
-    Is = λ k m. IsThere bytes x k × (node_at x k ≡ Some m);
-    answer = answer_at bytes x;
-    asked = λ k. nodes_of x (asked_by x k);
-    used = uses_at bytes x;
-    rank = rank x;
-  }
-
-  abbrev Is : Which → Node → Type 0
-  Is k m = IsThere bytes x k × (node_at x k ≡ Some m)
-
-  node_next : (k : Which) (m : Node) (ks : List (Option Which)) → node_at x k ≡ Some m → nodes_of x (Some k ∷ ks) ≡ m ∷ nodes_of x ks
-  node_next k m ks is = ap (λ o. with_first o (nodes_of x ks)) is
-
-  has_fields : (o : ℕ) → x.layout.type_number ≡ Some o → is_some x.layout.type_number ≡ true
-  has_fields o e = ap is_some e
-
-  place_at : (j : ℕ) → j ≤ x.layout.last → is_some x.layout.type_number ≡ true → layouts.place_of x.layout.name (x.layout.name j) x.layout.last ≡ j
-  place_at j low some = place_is x.layout.name x.layout.last j low (λ i few same. (laid some).distinct i j few low same)
-
-  -- the ranks of an element's own nodes, and of its fields'
-  head_rank : (i : ℕ) (p : Trail) → At i p → rank x (head_node p) ≡ turns (width x) i
-  head_rank i p is = rank_element x nodes.Head x.path p i is
-
-  end_rank : (i : ℕ) (p : Trail) → At i p → rank x (end_node p) ≡ turns (width x) i + 3 * x.layout.last + 4
-  end_rank i p is = rank_element x nodes.End x.path p i is
-
-  rest_rank : (i : ℕ) (p : Trail) → At i p → rank x (rest_node p) ≡ turns (width x) x.count + (x.count - i)
-  rest_rank i p is = rank_element x nodes.Rest x.path p i is
-
-  field_rank : (k : NodeKind) (i j : ℕ) → IsField x i j → (p q : Trail) → At i p → Below p j q
-      → rank x (record { kind = k; path = q }) ≡ turns (width x) i + 3 * j + kind_rank k
-  field_rank k i j there p q is was = rank_field x k x.path p q i j is was (place_at j there.1 there.2)
-
-  -- ---- the list's head is none of them
-
-  no_field : (i j : ℕ) (m : Node) (k : NodeKind) → option_map (λ q. record { kind = k; path = q }) (field_path x i j) ≡ Some m → m ≡ head_node x.path → ⊥
-  no_field i j m k h e =
-      let a = mapped (λ q. record { kind = k; path = q }) (field_path x i j) m h in
-      let b = then_is (λ p. child p (steps.Name (x.layout.name j))) (element_path x i) a.0 a.1 in
-      longer_two (steps.Name (x.layout.name j)) (steps.Index i) x.path.upward
-      (ap (λ z. steps.Name (x.layout.name j) ∷ z) (trail_of-steps (steps.Index i ∷ x.path.upward) b.0 b.1)
-      ∙ trail_of-steps (steps.Name (x.layout.name j) ∷ b.0.upward) a.0 b.2
-      ∙ ap (λ (n : Node). n.path.upward) (a.2 ∙ e))
-
-  no_element : (i : ℕ) (m : Node) (k : NodeKind) → option_map (λ q. record { kind = k; path = q }) (element_path x i) ≡ Some m → m ≡ head_node x.path → ⊥
-  no_element i m k h e =
-      let a = mapped (λ q. record { kind = k; path = q }) (element_path x i) m h in
-      longer (steps.Index i) x.path.upward (trail_of-steps (steps.Index i ∷ x.path.upward) a.0 a.1 ∙ ap (λ (n : Node). n.path.upward) (a.2 ∙ e))
-
-  apart : (k : Which) → Is k (head_node x.path) → ⊥
-  apart (ElementHead i) a = no_element i (head_node x.path) nodes.Head a.1 refl
-  apart (ElementEnd i) a = no_element i (head_node x.path) nodes.End a.1 refl
-  apart (Rest i) a = no_element i (head_node x.path) nodes.Rest a.1 refl
-  apart (FieldHead i j) a = no_field i j (head_node x.path) nodes.Head a.1 refl
-  apart (FieldEnd i j) a = no_field i j (head_node x.path) nodes.End a.1 refl
-  apart (SizeValue i) a = no_field i x.layout.sizer (head_node x.path) nodes.Value a.1 refl
-
-  -- ---- what is asked first
-
-  abbrev First : Node → Type 0
-  First m = AsksFirst d m (head_node x.path) ⊎ ((n : Node) × IsPart chain n × (rank x n < rank x m) × AsksFirst d m n)
-
-  -- the paths of a field that is there
-  abbrev FieldPaths : ℕ → ℕ → (Trail → Node) → Node → Type 0
-  FieldPaths i j f m = (p : Trail) × (q : Trail) × At i p × Below p j q × (f q ≡ m)
-
-  field_paths : (i j : ℕ) (f : Trail → Node) (m : Node) → option_map f (field_path x i j) ≡ Some m → FieldPaths i j f m
-  field_paths i j f m h =
-      let a = mapped f (field_path x i j) m h in
-      let b = then_is (λ p. child p (steps.Name (x.layout.name j))) (element_path x i) a.0 a.1 in (b.0, a.0, b.1, b.2, a.2)
-
-  first_is : (k : Which) (m : Node) → Is k m → First m
-  first_is (ElementHead i) m a = let p = mapped head_node (element_path x i) m a.1 in subst First p.2 (inl (rules.head_first d x.path p.0 i p.1))
-  first_is (ElementEnd i) m a =
-      let p = mapped end_node (element_path x i) m a.1 in
-      subst First p.2 (inr (
-        head_node p.0,
-        (ElementHead i, (a.0, ap (option_map head_node) p.1)),
-        (let u = head_rank i p.0 p.1 in let v = end_rank i p.0 p.1 in omega (arith, u, v)),
-        rules.end_first d p.0,
-      ))
-  first_is (Rest zero) m a = let p = mapped rest_node (element_path x 0) m a.1 in subst First p.2 (inl (rules.rest_first d x.path p.0 p.1))
-  first_is (Rest (suc i)) m a =
-      let p = mapped rest_node (element_path x (suc i)) m a.1 in
-      let low = a.0.0 in
-      subst First p.2 (inr (
-        end_node p.0,
-        (ElementEnd (suc i), (low, ap (option_map end_node) p.1)),
-        (let u = end_rank (suc i) p.0 p.1 in let v = rest_rank (suc i) p.0 p.1 in let w = turns_low (width x) (suc i) x.count low in omega (arith, u, v, w)),
-        rules.rest_next d x.path p.0 i p.1,
-      ))
-  first_is (FieldHead i j) m a =
-      let f = field_paths i j head_node m a.1 in
-      subst First f.4 (inr (
-        head_node f.0,
-        (ElementHead i, (a.0.0, ap (option_map head_node) f.2)),
-        (let u = head_rank i f.0 f.2 in let v = field_rank nodes.Head i j a.0 f.0 f.1 f.2 f.3 in omega (arith, u, v)),
-        fields.member_first d f.0 f.1 (x.layout.name j) f.3,
-      ))
-  first_is (FieldEnd i j) m a =
-      let f = field_paths i j end_node m a.1 in
-      subst First f.4 (inr (
-        head_node f.1,
-        (FieldHead i j, (a.0, ap (option_map head_node) (field_path_is i j f.0 f.1 f.2 f.3))),
-        (let u = field_rank nodes.Head i j a.0 f.0 f.1 f.2 f.3 in let v = field_rank nodes.End i j a.0 f.0 f.1 f.2 f.3 in omega (arith, u, v)),
-        rules.end_first d f.1,
-      ))
-  first_is (SizeValue i) m a =
-      let f = field_paths i x.layout.sizer value_node m a.1 in
-      subst First f.4 (inr (
-        head_node f.1,
-        (FieldHead i x.layout.sizer, (a.0.0, ap (option_map head_node) (field_path_is i x.layout.sizer f.0 f.1 f.2 f.3))),
-        (let u = field_rank nodes.Head i x.layout.sizer a.0.0 f.0 f.1 f.2 f.3 in let v = field_rank nodes.Value i x.layout.sizer a.0.0 f.0 f.1 f.2 f.3 in
-            omega (arith, u, v)),
-        fields.value_first d f.1,
-      ))
+  field_there : (i j : ℕ) → IsField x i j → (q : Trail) × (field_path x i j ≡ Some q)
+  field_there i j there = let p = below i j there in (p.1, field_path_is i j p.0 p.1 p.2 p.3)
 
   -- ---- sizes by name
 
@@ -279,24 +155,122 @@ module _ (d : Description) (bytes : List ℕ) (x : Listing) (plain : IsPlain d b
   no_bits j (Some n) z = ap is_of_bits z.2 ∙ fixed_no_bits z.1 n z.3
   no_bits j None z = ap is_of_bits z.1.always
 
+  -- ---- the chain
+
+  abbrev Is : Which → Node → Type 0
+  Is k m = IsThere bytes x k × (node_at x k ≡ Some m)
+
+  abbrev pub chain : Chain
+  chain = record {
+    Part = Which;
+    Is = Is;
+    answer = answer_at bytes x;
+    asked = λ k. nodes_of x (asked_by x k);
+    used = uses_at bytes x;
+    rank = rank x;
+    node_rank = node_rank x;
+  }
+
+  node_next : (k : Which) (m : Node) (ks : List (Option Which)) → node_at x k ≡ Some m → nodes_of x (Some k ∷ ks) ≡ m ∷ nodes_of x ks
+  node_next k m ks is = ap (λ o. with_first o (nodes_of x ks)) is
+
+  -- the node of a path
+  abbrev node_of : Which → Trail → Node
+  node_of k p = record { kind = kind_at k; path = p }
+
+  -- what is so of the node of each path is so of each node
+  by_path : (C : Which → Node → Type 0) → ((k : Which) (p : Trail) → IsThere bytes x k → path_at x k ≡ Some p → C k (node_of k p)) → (k : Which) (m : Node)
+      → Is k m → C k m
+  by_path C f k m a = let p = mapped (node_of k) (path_at x k) m a.1 in subst (C k) p.2 (f k p.0 a.0 p.1)
+
+  -- the path of the element that holds a field
+  holder_of : (i j : ℕ) (q : Trail) → field_path x i j ≡ Some q → (p : Trail) × At i p × Below p j q
+  holder_of i j q is = then_is (λ p. child p (steps.Name (x.layout.name j))) (element_path x i) q is
+
+  element_steps : (i : ℕ) (p : Trail) → At i p → steps.Index i ∷ x.path.upward ≡ p.upward
+  element_steps i p is = trail_of-steps (steps.Index i ∷ x.path.upward) p is
+
+  field_steps : (i j : ℕ) (q : Trail) → field_path x i j ≡ Some q → steps.Name (x.layout.name j) ∷ steps.Index i ∷ x.path.upward ≡ q.upward
+  field_steps i j q is =
+      let p = holder_of i j q is in
+      ap (λ z. steps.Name (x.layout.name j) ∷ z) (element_steps i p.0 p.1) ∙ trail_of-steps (steps.Name (x.layout.name j) ∷ p.0.upward) q p.2
+
+  -- ---- ranks
+
+  place_at : (i j : ℕ) → IsField x i j → layouts.place_of x.layout.name (x.layout.name j) x.layout.last ≡ j
+  place_at i j there = place_is x.layout.name x.layout.last j there.1 (λ k few same. (laid there.2).distinct k j few there.1 same)
+
+  ranked : (k : Which) (p : Trail) → IsThere bytes x k → path_at x k ≡ Some p → node_rank x (node_of k p) ≡ rank x k
+  ranked (ElementHead i) p there is = ap (step_rank x nodes.Head) (sym (element_steps i p is))
+  ranked (ElementEnd i) p there is = ap (step_rank x nodes.End) (sym (element_steps i p is))
+  ranked (Rest i) p there is = ap (step_rank x nodes.Rest) (sym (element_steps i p is))
+  ranked (FieldHead i j) p there is = ap (step_rank x nodes.Head) (sym (field_steps i j p is)) ∙ ap (λ n. rank x (FieldHead i n)) (place_at i j there)
+  ranked (FieldEnd i j) p there is = ap (step_rank x nodes.End) (sym (field_steps i j p is)) ∙ ap (λ n. rank x (FieldEnd i n)) (place_at i j there)
+  ranked (SizeValue i) p there is = ap (step_rank x nodes.Value) (sym (field_steps i x.layout.sizer p is))
+
+  -- ---- the list's head is none of them
+
+  apart : (k : Which) (p : Trail) → IsThere bytes x k → path_at x k ≡ Some p → node_of k p ≡ head_node x.path → ⊥
+  apart k p there is e = by k is
+    where
+      same : p.upward ≡ x.path.upward
+      same = ap (λ (n : Node). n.path.upward) e
+
+      element : (i : ℕ) → At i p → ⊥
+      element i at = let n = ap length (element_steps i p at ∙ same) in omega (arith, n)
+
+      field : (i j : ℕ) → field_path x i j ≡ Some p → ⊥
+      field i j at = let n = ap length (field_steps i j p at ∙ same) in omega (arith, n)
+
+      by : (h : Which) → path_at x h ≡ Some p → ⊥
+      by (ElementHead i) at = element i at
+      by (ElementEnd i) at = element i at
+      by (Rest i) at = element i at
+      by (FieldHead i j) at = field i j at
+      by (FieldEnd i j) at = field i j at
+      by (SizeValue i) at = field i x.layout.sizer at
+
+  -- ---- what is asked first
+
+  abbrev First : Which → Node → Type 0
+  First k m = AsksFirst d m (head_node x.path) ⊎ ((j : Which) × (n : Node) × Is j n × (rank x j < rank x k) × AsksFirst d m n)
+
+  first_is : (k : Which) (p : Trail) → IsThere bytes x k → path_at x k ≡ Some p → First k (node_of k p)
+  first_is (ElementHead i) p there is = inl (rules.head_first d x.path p i is)
+  first_is (ElementEnd i) p there is = inr (ElementHead i, head_node p, (there, ap (option_map head_node) is), omega arith, rules.end_first d p)
+  first_is (Rest zero) p there is = inl (rules.rest_first d x.path p is)
+  first_is (Rest (suc i)) p there is =
+      let before = turns_low (width x) (suc i) x.count there.0 in
+      inr (ElementEnd (suc i), end_node p, (there.0, ap (option_map end_node) is), omega (arith, before), rules.rest_next d x.path p i is)
+  first_is (FieldHead i j) p there is =
+      let q = holder_of i j p is in
+      inr (ElementHead i, head_node q.0, (there.0, ap (option_map head_node) q.1), omega arith, fields.member_first d q.0 p (x.layout.name j) q.2)
+  first_is (FieldEnd i j) p there is = inr (FieldHead i j, head_node p, (there, ap (option_map head_node) is), omega arith, rules.end_first d p)
+  first_is (SizeValue i) p there is = inr (
+    FieldHead i x.layout.sizer,
+    head_node p,
+    (there.0, ap (option_map head_node) is),
+    omega arith,
+    fields.value_first d p,
+  )
+
   -- ---- what each says
 
   module _ (r : ℕ) (met : Node → Result Given NodeFault) (listed : met (head_node x.path) ≡ Ok (givens.Head (heads.List x.list)))
-      (lower : (k : Which) (m : Node) → rank x m < r → Is k m → met m ≡ Ok (answer_at bytes x k)) where
+      (lower : (k : Which) (m : Node) → rank x k < r → Is k m → met m ≡ Ok (answer_at bytes x k)) where
     abbrev Said : Which → Node → Type 0
     Said k m = Says met m.path bytes (rule_of d m) (answer_at bytes x k) (nodes_of x (asked_by x k)) (uses_at bytes x k)
 
     head_heard : (i : ℕ) (p : Trail) → i < x.count → At i p → turns (width x) i < r → met (head_node p) ≡ Ok (answer_at bytes x (ElementHead i))
-    head_heard i p low is lt = lower (ElementHead i) (head_node p) (let e = head_rank i p is in omega (arith, e, lt)) (low, ap (option_map head_node) is)
+    head_heard i p low is lt = lower (ElementHead i) (head_node p) lt (low, ap (option_map head_node) is)
 
     end_heard : (i : ℕ) (p : Trail) → i < x.count → At i p → turns (width x) i + 3 * x.layout.last + 4 < r
         → met (end_node p) ≡ Ok (answer_at bytes x (ElementEnd i))
-    end_heard i p low is lt = lower (ElementEnd i) (end_node p) (let e = end_rank i p is in omega (arith, e, lt)) (low, ap (option_map end_node) is)
+    end_heard i p low is lt = lower (ElementEnd i) (end_node p) lt (low, ap (option_map end_node) is)
 
-    field_end_heard : (i j : ℕ) (p q : Trail) → IsField x i j → At i p → Below p j q → turns (width x) i + 3 * j + 2 < r
+    field_end_heard : (i j : ℕ) (q : Trail) → IsField x i j → field_path x i j ≡ Some q → turns (width x) i + 3 * j + 2 < r
         → met (end_node q) ≡ Ok (answer_at bytes x (FieldEnd i j))
-    field_end_heard i j p q there is was lt = lower (FieldEnd i j) (end_node q) (let e = field_rank nodes.End i j there p q is was in omega (arith, e, lt))
-        (there, ap (option_map end_node) (field_path_is i j p q is was))
+    field_end_heard i j q there is lt = lower (FieldEnd i j) (end_node q) lt (there, ap (option_map end_node) is)
 
     -- ---- elements
 
@@ -372,7 +346,7 @@ module _ (d : Description) (bytes : List ℕ) (x : Listing) (plain : IsPlain d b
             }) in
             says_given met p bytes (head_node p) _ (givens.Head h) _ (head_node x.path ∷ []) _ headed (closes h refl)
         by (Some k) same e headed =
-            let there : IsField x i x.layout.last = (low, omega arith, has_fields k same) in
+            let there : IsField x i x.layout.last = (low, omega arith, ap is_some same) in
             let q = below i x.layout.last there in
             let one : Below p x.layout.last q.1 = ap (λ o. option_and_then (λ z. child z (steps.Name (x.layout.name x.layout.last))) o) (sym is)
             ∙ field_path_is i x.layout.last q.0 q.1 q.2 q.3 in
@@ -385,7 +359,7 @@ module _ (d : Description) (bytes : List ℕ) (x : Listing) (plain : IsPlain d b
             ∙ ap (λ v. rules.as_end (bind (bind (bind (in_path v) (λ z. ask_end z)) (λ z. Answer (aligned z.place)))
             (λ z. element_end d p x.path (parent x.path) i h z))) one)
             (says_given met p bytes (end_node q.1) _ (givens.End (at_byte (start x (suc i))) false) _ (head_node x.path ∷ []) _
-            (field_end_heard i x.layout.last p q.1 there is one (omega (arith, at)))
+            (field_end_heard i x.layout.last q.1 there (field_path_is i x.layout.last p q.1 is one) (omega (arith, at)))
             (says_by met p bytes _ _ _ (head_node x.path ∷ []) _ (ap (λ n. rules.as_end (element_end d p x.path (parent x.path) i h (at_byte n)))
             (byte_of_byte (start x (suc i)))) (closes h refl)))))
 
@@ -413,11 +387,11 @@ module _ (d : Description) (bytes : List ℕ) (x : Listing) (plain : IsPlain d b
             let more : suc i < x.count = grind (arith, nat_tests) in
             let q = path_of (suc i) more in
             let most = plain.few in
-            let beneath : rank x (rest_node q.0) < r = (let z = rest_rank (suc i) q.0 q.1 in omega (arith, z, at, more)) in
             says_asking met p bytes _ _ _ _ _ (ap (λ ns. end_node p ∷ ns) (node_next (Rest (suc i)) (rest_node q.0) [] (ap (option_map rest_node) q.1)))
             (rules.more_rest met bytes d x.list x.path p listed i (at_byte (start x (suc i))) q.0 q.1 (omega (arith, more, most))
             (ended ∙ ap (λ b. Ok (givens.End (at_byte (start x (suc i))) b)) (not_last i more))
-            x.count (at_byte (start x x.count)) (lower (Rest (suc i)) (rest_node q.0) beneath ((more, there.1), ap (option_map rest_node) q.1)))
+            x.count (at_byte (start x x.count)) (lower (Rest (suc i)) (rest_node q.0) (omega (arith, at, more))
+            ((more, there.1), ap (option_map rest_node) q.1)))
 
     says_rest : (i : ℕ) (p : Trail) → IsThere bytes x (Rest i) → At i p → r ≡ turns (width x) x.count + (x.count - i)
         → Said (Rest i) (rest_node p)
@@ -452,8 +426,8 @@ module _ (d : Description) (bytes : List ℕ) (x : Listing) (plain : IsPlain d b
               let sizer : IsField x i x.layout.sizer = (there.0, omega (arith, before, few), there.2) in
               let s = field_is x.path p i (x.layout.name x.layout.sizer) plain.short is ((laid there.2).named x.layout.sizer sizer.1) in
               let path = field_path_is i x.layout.sizer p s.0 is s.1 in
-              let valued = lower (SizeValue i) (value_node s.0) (let u = field_rank nodes.Value i x.layout.sizer sizer p s.0 is s.1 in
-              omega (arith, u, before, at)) ((sizer, named_more j x.layout.last there.1 (named_here j e)), ap (option_map value_node) path) in
+              let valued = lower (SizeValue i) (value_node s.0) (omega (arith, before, at))
+              ((sizer, named_more j x.layout.last there.1 (named_here j e)), ap (option_map value_node) path) in
               subst (λ ns. fields.Reads met bytes d x.list t x.layout (laid there.2) p (start x i) plain.within j there.1 q was (headed lt) (place x i j)
               (x.says i) ns) (sym (node_next (SizeValue i) (value_node s.0) [] (ap (option_map value_node) path)))
               (fields.read_named met bytes d x.list t x.layout (laid there.2) p (start x i) plain.within j there.1 q was (headed lt) (place x i j) (x.says i)
@@ -477,7 +451,8 @@ module _ (d : Description) (bytes : List ℕ) (x : Listing) (plain : IsPlain d b
         (ap (option_map end_node) (field_path_is i j p s.0 is s.1))))
         (fields.next_part met bytes d x.list t x.layout (laid there.2) p (start x i) plain.within (suc j) there.1 q was
         (headed i (suc j) there p q is was lt) j (place x i (suc j)) _ s.0 _ refl s.1
-        (field_end_heard i j p s.0 few is s.1 (omega (arith, at))) (no_bits (suc j) (size_at x.layout (suc j)) ((laid there.2).sized (suc j) there.1))
+        (field_end_heard i j s.0 few (field_path_is i j p s.0 is s.1) (omega (arith, at)))
+        (no_bits (suc j) (size_at x.layout (suc j)) ((laid there.2).sized (suc j) there.1))
         (reads i (suc j) there p q is was at lt))
 
     says_field_end : (i j : ℕ) (there : IsField x i j) (p q : Trail) → At i p → Below p j q → turns (width x) i + 3 * j + 2 ≡ r
@@ -486,7 +461,7 @@ module _ (d : Description) (bytes : List ℕ) (x : Listing) (plain : IsPlain d b
         let path = ap (option_map head_node) (field_path_is i j p q is was) in
         says_asking met q bytes _ _ _ _ _ (node_next (FieldHead i j) (head_node q) [] path)
         (fields.part_ends met bytes d x.list t x.layout (laid there.2) p (x.layout.name j) q _ was
-        (lower (FieldHead i j) (head_node q) (let e = field_rank nodes.Head i j there p q is was in omega (arith, e, at)) (there, path)))
+        (lower (FieldHead i j) (head_node q) (omega (arith, at)) (there, path)))
 
     says_value : (i : ℕ) (there : IsThere bytes x (SizeValue i)) (p q : Trail) → At i p → Below p x.layout.sizer q
         → turns (width x) i + 3 * x.layout.sizer + 3 ≡ r
@@ -502,7 +477,7 @@ module _ (d : Description) (bytes : List ℕ) (x : Listing) (plain : IsPlain d b
         says_asking met q bytes _ _ _ _ _ (node_next (FieldHead i x.layout.sizer) (head_node q) [] path)
         (fields.value_says met bytes d x.list t x.layout (laid there.0.2) p (start x i) x.layout.sizer (place x i x.layout.sizer)
         (place x i (suc x.layout.sizer)) (x.says i) there.0.1 q by.0
-        (lower (FieldHead i x.layout.sizer) (head_node q) (let e = field_rank nodes.Head i x.layout.sizer there.0 p q is was in omega (arith, e, at))
+        (lower (FieldHead i x.layout.sizer) (head_node q) (omega (arith, at))
         (there.0, path))
         (omega (arith, far, some)) (omega (arith, room, within)) ((plain.whole i there.0.0).says there.1))
 
@@ -510,44 +485,42 @@ module _ (d : Description) (bytes : List ℕ) (x : Listing) (plain : IsPlain d b
 
   abbrev Saying : Which → Node → Type 0
   Saying k m = (met : Node → Result Given NodeFault) → met (head_node x.path) ≡ Ok (givens.Head (heads.List x.list))
-      → ((j : Which) (n : Node) → rank x n < rank x m → Is j n → met n ≡ Ok (answer_at bytes x j))
+      → ((j : Which) (n : Node) → rank x j < rank x k → Is j n → met n ≡ Ok (answer_at bytes x j))
       → Says met m.path bytes (rule_of d m) (answer_at bytes x k) (nodes_of x (asked_by x k)) (uses_at bytes x k)
 
-  step_is : (k : Which) (m : Node) → Is k m → Saying k m
-  step_is (ElementHead i) m a = let p = mapped head_node (element_path x i) m a.1 in
-      subst (Saying (ElementHead i)) p.2 (λ met listed lower. says_head (rank x (head_node p.0)) met listed lower i p.0 a.0 p.1 (head_rank i p.0 p.1))
-  step_is (ElementEnd i) m a = let p = mapped end_node (element_path x i) m a.1 in
-      subst (Saying (ElementEnd i)) p.2 (λ met listed lower. says_end (rank x (end_node p.0)) met listed lower i p.0 a.0 p.1 (end_rank i p.0 p.1))
-  step_is (Rest i) m a = let p = mapped rest_node (element_path x i) m a.1 in
-      subst (Saying (Rest i)) p.2 (λ met listed lower. says_rest (rank x (rest_node p.0)) met listed lower i p.0 a.0 p.1 (rest_rank i p.0 p.1))
-  step_is (FieldHead i j) m a =
-      let f = field_paths i j head_node m a.1 in
-      subst (Saying (FieldHead i j)) f.4 (λ met listed lower. says_field (rank x (head_node f.1)) met listed lower i j a.0 f.0 f.1 f.2 f.3
-      (sym (field_rank nodes.Head i j a.0 f.0 f.1 f.2 f.3)))
-  step_is (FieldEnd i j) m a =
-      let f = field_paths i j end_node m a.1 in
-      subst (Saying (FieldEnd i j)) f.4 (λ met listed lower. says_field_end (rank x (end_node f.1)) met listed lower i j a.0 f.0 f.1 f.2 f.3
-      (sym (field_rank nodes.End i j a.0 f.0 f.1 f.2 f.3)))
-  step_is (SizeValue i) m a =
-      let f = field_paths i x.layout.sizer value_node m a.1 in
-      subst (Saying (SizeValue i)) f.4 (λ met listed lower. says_value (rank x (value_node f.1)) met listed lower i a.0 f.0 f.1 f.2 f.3
-      (sym (field_rank nodes.Value i x.layout.sizer a.0.0 f.0 f.1 f.2 f.3)))
+  saying : (k : Which) (p : Trail) → IsThere bytes x k → path_at x k ≡ Some p → Saying k (node_of k p)
+  saying (ElementHead i) p there is met listed lower = says_head (rank x (ElementHead i)) met listed lower i p there is refl
+  saying (ElementEnd i) p there is met listed lower = says_end (rank x (ElementEnd i)) met listed lower i p there is refl
+  saying (Rest i) p there is met listed lower = says_rest (rank x (Rest i)) met listed lower i p there is refl
+  saying (FieldHead i j) p there is met listed lower = let q = holder_of i j p is in
+      says_field (rank x (FieldHead i j)) met listed lower i j there q.0 p q.1 q.2 refl
+  saying (FieldEnd i j) p there is met listed lower = let q = holder_of i j p is in
+      says_field_end (rank x (FieldEnd i j)) met listed lower i j there q.0 p q.1 q.2 refl
+  saying (SizeValue i) p there is met listed lower = let q = holder_of i x.layout.sizer p is in
+      says_value (rank x (SizeValue i)) met listed lower i there q.0 p q.1 q.2 refl
 
   is_chain : IsChain d bytes (head_node x.path) (givens.Head (heads.List x.list)) chain
-  is_chain = record { apart = λ a. apart a.0 a.1; first = λ m a. first_is a.0 m a.1; steps = step_is }
+  is_chain = record {
+    ranked = by_path (λ k m. node_rank x m ≡ rank x k) ranked;
+    apart = λ a. by_path (λ k m. m ≡ head_node x.path → ⊥) apart a.0 (head_node x.path) a.1 refl;
+    first = by_path First first_is;
+    steps = by_path Saying saying;
+  }
 
   pub tells : (k : Which) → IsThere bytes x k → (n : Node) → node_at x k ≡ Some n
       → Tells d bytes [] n (answer_at bytes x k) (nodes_of x (asked_by x k)) (uses_at bytes x k)
   tells k there n is = chain_tells d bytes (head_node x.path) (givens.Head (heads.List x.list)) chain is_chain plain.listed k n (there, is)
 
+  path_there : (k : Which) → IsThere bytes x k → (p : Trail) × (path_at x k ≡ Some p)
+  path_there (ElementHead i) there = path_of i there
+  path_there (ElementEnd i) there = path_of i there
+  path_there (Rest i) there = path_of i there.0
+  path_there (FieldHead i j) there = field_there i j there
+  path_there (FieldEnd i j) there = field_there i j there
+  path_there (SizeValue i) there = field_there i x.layout.sizer there.0
+
   pub node_is : (k : Which) → IsThere bytes x k → (n : Node) × (node_at x k ≡ Some n)
-  node_is (ElementHead i) there = let p = path_of i there in (head_node p.0, ap (option_map head_node) p.1)
-  node_is (ElementEnd i) there = let p = path_of i there in (end_node p.0, ap (option_map end_node) p.1)
-  node_is (Rest i) there = let p = path_of i there.0 in (rest_node p.0, ap (option_map rest_node) p.1)
-  node_is (FieldHead i j) there = let p = below i j there in (head_node p.1, ap (option_map head_node) (field_path_is i j p.0 p.1 p.2 p.3))
-  node_is (FieldEnd i j) there = let p = below i j there in (end_node p.1, ap (option_map end_node) (field_path_is i j p.0 p.1 p.2 p.3))
-  node_is (SizeValue i) there = let p = below i x.layout.sizer there.0 in
-      (value_node p.1, ap (option_map value_node) (field_path_is i x.layout.sizer p.0 p.1 p.2 p.3))
+  node_is k there = let p = path_there k there in (node_of k p.0, ap (option_map (node_of k)) p.1)
 
 pub nodes_have_paths : NodesHavePaths
 nodes_have_paths d bytes x plain k there = node_is d bytes x plain k there

@@ -31,7 +31,14 @@ by_name = Sized (named (record { text = []; number = Some 1 }))
 abbrev pub of_list : Field → Description
 of_list f = record {
   types = record { id = []; members = record { name = 0; kind = Attribute f } ∷ [] }
-      ∷ record { id = []; members = record { name = 1; kind = Attribute (field f Once byte ByItself) } ∷ record { name = 2; kind = Attribute (field f Once contents.Bytes by_name) } ∷ [] } ∷ [];
+      ∷ record {
+        id = [];
+        members = record { name = 1; kind = Attribute (field f Once byte ByItself) } ∷ record {
+          name = 2;
+          kind =
+              Attribute (field f Once contents.Bytes by_name);
+        } ∷ [];
+      } ∷ [];
   enums = [];
   names = [] ∷ [] ∷ [] ∷ [];
   known = 3;

@@ -14,6 +14,8 @@ use Rattle.ksv_desc.specs.Description.{Description, Attribute, Choice, Always}
 use Rattle.ksv_desc.specs.Description as contents
 use Rattle.ksv_memo_rules.specs.Slots.{with_first}
 use Rattle.ksv_nodes.specs.declared.node.Node.{Node}
+use Rattle.ksv_nodes.specs.declared.node.NodeKind.{NodeKind}
+use Rattle.ksv_nodes.specs.declared.node.NodeKind.TheVariants as nodes
 use Rattle.ksv_nodes.specs.declared.given.Given.{Given}
 use Rattle.ksv_nodes.specs.declared.given.Given.TheVariants as givens
 use Rattle.ksv_nodes.specs.declared.given.Head.TheVariants as heads
@@ -22,7 +24,7 @@ use Rattle.ksv_nodes.specs.declared.given.Object.{Object}
 use Rattle.ksv_nodes.specs.declared.given.ObjectEnd.TheVariants as endings
 use Rattle.ksv_nodes.specs.declared.given.Origin.{Origin}
 use Rattle.ksv_nodes.specs.Reading.{end_in}
-use Rattle.ksv_nodes.specs.Rule.{Rule, raise, head_node, value_node, end_node, rest_node}
+use Rattle.ksv_nodes.specs.Rule.{Rule, raise, head_node}
 use Rattle.ksv_rule_meaning.specs.Fields.{Sought}
 use Rattle.ksv_rule_meaning.specs.Heads.{origin_of, is_past}
 use Rattle.ksv_rule_meaning.specs.Values.{number_in}
@@ -71,13 +73,24 @@ element_path x i = child x.path (steps.Index i)
 abbrev pub field_path : Listing → ℕ → ℕ → Option Trail
 field_path x i j = option_and_then (λ p. child p (steps.Name (x.layout.name j))) (element_path x i)
 
+abbrev pub path_at : Listing → Which → Option Trail
+path_at x (ElementHead i) = element_path x i
+path_at x (ElementEnd i) = element_path x i
+path_at x (Rest i) = element_path x i
+path_at x (FieldHead i j) = field_path x i j
+path_at x (FieldEnd i j) = field_path x i j
+path_at x (SizeValue i) = field_path x i x.layout.sizer
+
+abbrev pub kind_at : Which → NodeKind
+kind_at (ElementHead i) = nodes.Head
+kind_at (ElementEnd i) = nodes.End
+kind_at (Rest i) = nodes.Rest
+kind_at (FieldHead i j) = nodes.Head
+kind_at (FieldEnd i j) = nodes.End
+kind_at (SizeValue i) = nodes.Value
+
 abbrev pub node_at : Listing → Which → Option Node
-node_at x (ElementHead i) = option_map head_node (element_path x i)
-node_at x (ElementEnd i) = option_map end_node (element_path x i)
-node_at x (Rest i) = option_map rest_node (element_path x i)
-node_at x (FieldHead i j) = option_map head_node (field_path x i j)
-node_at x (FieldEnd i j) = option_map end_node (field_path x i j)
-node_at x (SizeValue i) = option_map value_node (field_path x i x.layout.sizer)
+node_at x k = option_map (λ p. record { kind = kind_at k; path = p }) (path_at x k)
 
 -- such nodes; where none is said it is the list's own head
 abbrev pub nodes_of : Listing → List (Option Which) → List Node
