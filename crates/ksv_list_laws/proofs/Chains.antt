@@ -97,7 +97,7 @@ pub record Chain : Type 1 where
   pub node_rank : Node → ℕ
 
 -- a node of the chain
-abbrev pub IsPart : Chain → Node → Type 0
+abbrev IsPart : Chain → Node → Type 0
 IsPart c m = (k : c.Part) × c.Is k m
 
 pub record IsChain (d : Description) (bytes : List ℕ) (root : Node) (given : Given) (c : Chain) : Type 0 where

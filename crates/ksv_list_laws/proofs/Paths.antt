@@ -13,7 +13,7 @@ part_of q r step e =
     (same_trail (parent r) q (ap all_but_last (sym up)), ap first_step (sym up))
 
 -- there is a step more where a path is short
-pub child_is : (q : Trail) (step : Step) → step_fits step ≡ true → length q.upward < 64 → (r : Trail) × (child q step ≡ Some r)
+child_is : (q : Trail) (step : Step) → step_fits step ≡ true → length q.upward < 64 → (r : Trail) × (child q step ≡ Some r)
 child_is q step ok few =
     let valid : fits (step ∷ q.upward) ≡ true = fits-more step q.upward ok q.valid few in
     (record { upward = step ∷ q.upward; valid = valid }, trail_of-true (record { upward = step ∷ q.upward; valid = valid }))

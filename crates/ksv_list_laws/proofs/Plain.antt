@@ -126,9 +126,6 @@ sized_is y j None e h =
 -- ---- members
 
 -- what was looked for is there
-get_later : {A : Type 0} (x : A) (xs : List A) (k : ℕ) → slice_get (x ∷ xs) (suc k) ≡ slice_get xs k
-get_later x xs k = refl
-
 kind_found : (x i : ℕ) (b : Option ℕ) (ms : List MemberOfType) (s : Sought) → sought x i b ms ≡ Some s → (k : ℕ) × (m : MemberOfType) × (s.member ≡ i + k)
     × (slice_get ms k ≡ Some m) × (m.kind ≡ s.kind)
 unfolding sought
@@ -203,7 +200,7 @@ module _ (d : Description) (f : Field) (t : ℕ) (ok : is_plain_type d t (layout
   distinct_are (suc j) (suc k) low few same = ap suc (distinct_are j k (omega (arith, low)) (omega (arith, few))
       (some_is (y.name j) (y.name k) (before_is (suc j) (suc k) low few same)))
 
-  pub laid_out : IsLaidOut d t y
+  laid_out : IsLaidOut d t y
   laid_out = record {
     part = part_is;
     read = read_is;

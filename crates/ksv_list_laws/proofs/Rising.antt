@@ -26,7 +26,7 @@ module _ (d : Description) (bytes : List ℕ) (x : Listing) (plain : IsPlain d b
   abbrev pub IsNamed : Type 0
   IsNamed = is_named_to x.layout x.layout.last ≡ true
 
-  pub first_fixed : is_named_to x.layout 0 ≡ false
+  first_fixed : is_named_to x.layout 0 ≡ false
   first_fixed = ap (λ o. not (is_some o)) (first_size d bytes x plain).1
 
   -- elements without fields have none
@@ -36,14 +36,14 @@ module _ (d : Description) (bytes : List ℕ) (x : Listing) (plain : IsPlain d b
       by : IsElementOf d (IsRead.field (read d bytes x plain)) x.layout None → is_named_to x.layout x.layout.last ≡ false
       by e = ap (is_named_to x.layout) e.0 ∙ first_fixed
 
-  pub named_some : IsNamed → is_some x.layout.type_number ≡ true
+  named_some : IsNamed → is_some x.layout.type_number ≡ true
   named_some named = by x.layout.type_number refl
     where
       by : (o : Option ℕ) → x.layout.type_number ≡ o → is_some o ≡ true
       by (Some t) e = refl
       by None e = absurd (let never = sym (none_named e) ∙ named in cc)
 
-  pub value_there : (i : ℕ) → i < x.count → IsNamed → IsThere bytes x (SizeValue i)
+  value_there : (i : ℕ) → i < x.count → IsNamed → IsThere bytes x (SizeValue i)
   value_there i low named = let some = named_some named in ((low, sizer_low d bytes x plain some named, some), named)
 
   module _ (Q : Option Which → Type 0) (rises : Rises bytes x Q) where
@@ -69,7 +69,7 @@ module _ (d : Description) (bytes : List ℕ) (x : Listing) (plain : IsPlain d b
         by false f e' before = sized i (suc j) there (none_is (size_at x.layout (suc j)) e') q
 
     -- an object ends with its last field
-    pub last_end : (i : ℕ) → i < x.count → is_some x.layout.type_number ≡ true → Q (Some (FieldHead i x.layout.last)) → Q (Some (ElementEnd i))
+    last_end : (i : ℕ) → i < x.count → is_some x.layout.type_number ≡ true → Q (Some (FieldHead i x.layout.last)) → Q (Some (ElementEnd i))
     last_end i low some q = by x.layout.type_number refl some
       where
         by : (o : Option ℕ) → x.layout.type_number ≡ o → is_some o ≡ true → Q (Some (ElementEnd i))
@@ -79,7 +79,7 @@ module _ (d : Description) (bytes : List ℕ) (x : Listing) (plain : IsPlain d b
 
     -- ---- from guards
 
-    pub end_guard : (i : ℕ) → i < x.count → Q (prior_guard x (suc i)) → Q (Some (ElementEnd i))
+    end_guard : (i : ℕ) → i < x.count → Q (prior_guard x (suc i)) → Q (Some (ElementEnd i))
     end_guard i low q = by (is_named_to x.layout x.layout.last) refl q
       where
         by : (b : Bool) → is_named_to x.layout x.layout.last ≡ b → Q (if b then Some (SizeValue i) else None) → Q (Some (ElementEnd i))
@@ -108,7 +108,7 @@ module _ (d : Description) (bytes : List ℕ) (x : Listing) (plain : IsPlain d b
     rest_later zero there q = rises (Rest 0) there (inr q)
     rest_later (suc i) there q = rises (Rest (suc i)) there q
 
-    pub rest_end : (k i m : ℕ) → i + k ≡ m → x.count ≡ suc m → is_last bytes x (x.count - 1) ≡ true → Q (Some (ElementEnd m)) → Q (Some (Rest i))
+    rest_end : (k i m : ℕ) → i + k ≡ m → x.count ≡ suc m → is_last bytes x (x.count - 1) ≡ true → Q (Some (ElementEnd m)) → Q (Some (Rest i))
     rest_end zero i m sum counted full q = let same : m ≡ i = omega (arith, sum) in
         rest_later i (omega (arith, sum, counted), full) (inl (subst (λ j. Q (Some (ElementEnd j))) same q))
     rest_end (suc k) i m sum counted full q =

@@ -29,7 +29,7 @@ use Rattle.ksv_list_laws.specs.Nodes.{is_last_at}
 
 -- ---- the rules of an element's head, end and rest
 
-pub head_rule : (d : Description) (l p : Trail) (i : ℕ) → child l (steps.Index i) ≡ Some p
+head_rule : (d : Description) (l p : Trail) (i : ℕ) → child l (steps.Index i) ≡ Some p
     → rule_of d (head_node p) ≡ bind (element_head d p l (parent l) i) (λ h. Answer (givens.Head h))
 unfolding rule_of meaning_of head_of
 head_rule d l p i is =

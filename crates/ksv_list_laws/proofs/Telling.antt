@@ -77,7 +77,7 @@ module _ (d : Description) (bytes : List ℕ) (x : Listing) (plain : IsPlain d b
       let room = (plain.whole i low).room in omega (arith, up, room)
 
   -- an element before another isn't the last
-  pub not_last : (i : ℕ) → suc i < x.count → is_last bytes x i ≡ false
+  not_last : (i : ℕ) → suc i < x.count → is_last bytes x i ≡ false
   not_last i low = by x.list.count (plain.whole (suc i) low).counted
     where
       by : (o : Option ℕ) → is_past o (suc i) ≡ false → is_last_at o bytes x.list.stream.to i (start x (suc i)) ≡ false
@@ -93,7 +93,7 @@ module _ (d : Description) (bytes : List ℕ) (x : Listing) (plain : IsPlain d b
   abbrev Below : Trail → ℕ → Trail → Type 0
   Below p j q = child p (steps.Name (x.layout.name j)) ≡ Some q
 
-  pub path_of : (i : ℕ) → i < x.count → (p : Trail) × At i p
+  path_of : (i : ℕ) → i < x.count → (p : Trail) × At i p
   path_of i low = element_is x.path i plain.short (let few = plain.few in omega (arith, low, few))
 
   pub below : (i j : ℕ) → IsField x i j → (p : Trail) × (q : Trail) × At i p × Below p j q
@@ -110,7 +110,7 @@ module _ (d : Description) (bytes : List ℕ) (x : Listing) (plain : IsPlain d b
   -- ---- sizes by name
 
   -- a field of such a size, up to one
-  pub named_field : (k : ℕ) → is_named_to x.layout k ≡ true → (j : ℕ) × (j ≤ k) × (size_at x.layout j ≡ None)
+  named_field : (k : ℕ) → is_named_to x.layout k ≡ true → (j : ℕ) × (j ≤ k) × (size_at x.layout j ≡ None)
   named_field zero h = (0, omega arith, none_is (size_at x.layout 0) h)
   named_field (suc k) h = by (is_named_to x.layout k) refl h (named_field k)
     where
@@ -131,7 +131,7 @@ module _ (d : Description) (bytes : List ℕ) (x : Listing) (plain : IsPlain d b
   named_here (suc j) e = ap (λ o. is_named_to x.layout j || not (is_some o)) e ∙ or_true (is_named_to x.layout j) true (inr refl)
 
   -- the field that says them is an integer
-  pub sizer_is : is_some x.layout.type_number ≡ true → is_named_to x.layout x.layout.last ≡ true → IsNumber (x.layout.field x.layout.sizer) × (n : ℕ)
+  sizer_is : is_some x.layout.type_number ≡ true → is_named_to x.layout x.layout.last ≡ true → IsNumber (x.layout.field x.layout.sizer) × (n : ℕ)
       × (size_at x.layout x.layout.sizer ≡ Some n) × (0 < n)
   sizer_is some named =
       let z = named_field x.layout.last named in

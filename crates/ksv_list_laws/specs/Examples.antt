@@ -5,7 +5,7 @@ use Rattle.ksv_expr_tree.specs.Tree.{integer, literal, named, no_arguments}
 use Rattle.ksv_expr_value.specs.Places.{at_byte}
 use Rattle.ksv_expr_value.specs.Trail.{Trail, root, child}
 use Rattle.ksv_expr_value.specs.declared.step.Step.TheVariants as steps
-use Rattle.ksv_desc.specs.Description.{Description, Field, Attribute, Content, Always, Repeat, Once, Eos, Expr, Extent, Sized, ByItself}
+use Rattle.ksv_desc.specs.Description.{Description, TypeOfObjects, MemberOfType, Field, Attribute, Content, Always, Repeat, Once, Eos, Expr, Extent, Sized, ByItself}
 use Rattle.ksv_desc.specs.Description as contents
 use Rattle.ksv_desc.specs.declared.order.ByteOrder.TheVariants.{Big}
 use Rattle.ksv_rule_meaning.specs.Wanted.{whole}
@@ -27,18 +27,16 @@ byte = contents.Number false 1 Big None
 abbrev pub by_name : Extent
 by_name = Sized (named (record { text = []; number = Some 1 }))
 
+abbrev pub attribute : ℕ → Field → MemberOfType
+attribute name f = record { name = name; kind = Attribute f }
+
+abbrev pub type_of : List MemberOfType → TypeOfObjects
+type_of ms = record { id = []; members = ms }
+
 -- the file is a list; its elements are of the second type where they are objects
 abbrev pub of_list : Field → Description
 of_list f = record {
-  types = record { id = []; members = record { name = 0; kind = Attribute f } ∷ [] }
-      ∷ record {
-        id = [];
-        members = record { name = 1; kind = Attribute (field f Once byte ByItself) } ∷ record {
-          name = 2;
-          kind =
-              Attribute (field f Once contents.Bytes by_name);
-        } ∷ [];
-      } ∷ [];
+  types = type_of (attribute 0 f ∷ []) ∷ type_of (attribute 1 (field f Once byte ByItself) ∷ attribute 2 (field f Once contents.Bytes by_name) ∷ []) ∷ [];
   enums = [];
   names = [] ∷ [] ∷ [] ∷ [];
   known = 3;

@@ -68,12 +68,12 @@ whole f = record { type_number = None; name = λ j. 0; member = λ j. 0; field =
 
 -- ---- the layout of a type
 
--- a number of some to this one whose name this is, or 0
+-- the number of the field of a name, of those up to one; 0 where none has it
 abbrev pub place_of : (ℕ → ℕ) → ℕ → ℕ → ℕ
 place_of name x zero = 0
 place_of name x (suc j) = if name (suc j) == x then suc j else place_of name x j
 
--- the field that says a size, of those up to this one
+-- a field that says the size of one up to this one
 abbrev pub sizer_of : (ℕ → ℕ) → (ℕ → Field) → ℕ → ℕ
 sizer_of name field zero = 0
 sizer_of name field (suc j) = elim (size_name (field (suc j)).choice (field (suc j)).extent) [ None ↦ sizer_of name field j | Some x ↦ place_of name x j ]
