@@ -14,7 +14,6 @@ pub use Rattle.ksv_expr_value.proofs.Places.{byte_of_byte}
 unfoldable pub use Rattle.ksv_expr_value.specs.Places.{at_byte}
 pub use Rattle.ksv_expr_value.specs.Trail.{Trail, child, parent, trail_of-steps}
 pub use Rattle.ksv_expr_value.specs.declared.fault.Fault.{Fault}
-pub use Rattle.ksv_expr_value.specs.declared.step.Step.{Step}
 pub use Rattle.ksv_expr_value.specs.declared.value.Stream.{Stream}
 pub use Rattle.ksv_memo_rules.proofs.Keeping.{AreDistinct-none}
 pub use Rattle.ksv_memo_rules.specs.Evaluation.{is_among}

@@ -17,11 +17,11 @@ use Rattle.ksv_rule_meaning.specs.Heads.{count_of}
 use Rattle.ksv_rule_meaning.specs.Integers.{integer_value}
 use Rattle.ksv_rule_meaning.specs.Wanted.{whole, holds, size_of, integer_of, expression}
 use Rattle.ksv_list_laws.proofs.Chains.{none_among}
-use Rattle.ksv_list_laws.proofs.Common.{◌≡◌, ◌∙◌, ℕ, zero, suc, ◌<◌, false, List, [], ◌∷◌, length, Some, None, Ok, refl, sym, ap, arith, Answer, bind, Use}
+use Rattle.ksv_list_laws.proofs.Common.{◌≡◌, ◌∙◌, ℕ, zero, suc, ◌<◌, false, List, [], ◌∷◌, length, Some, None, Ok, refl, sym, ap, arith, bind, Use}
 use Rattle.ksv_list_laws.proofs.Common.{at_byte, Trail, child, trail_of-steps, Field, on, AreDistinct-none, Node, Given, Done, Rule, head_node, described}
 use Rattle.ksv_list_laws.proofs.Common.{head_of, meaning_of, rule_of}
 use Rattle.ksv_list_laws.proofs.Fields.{member_rule}
-use Rattle.ksv_list_laws.proofs.Says.{Says, says_answer, says_given, says_by, says_seen, ends_there}
+use Rattle.ksv_list_laws.proofs.Says.{as_head, Says, says_answer, says_given, says_by, says_seen, ends_there}
 use Rattle.ksv_list_laws.specs.Examples.{of_list, numbers, three, items, item_layout, of_three, of_two, listing, NumbersArePlain, CountedArePlain}
 use Rattle.ksv_list_laws.specs.Examples.{ItemsArePlain, ItemsAreNamed}
 use Rattle.ksv_list_laws.specs.Lists as layouts
@@ -45,7 +45,7 @@ module _ (f : Field) (bytes : List ℕ) (l : Trail) (is : child root (steps.Name
 
   -- what is read where the list begins
   abbrev reading : Rule Given
-  reading = bind (attribute_head l root root_object (record { member = 0; before = None; kind = Attribute f }) f) (λ h. Answer (givens.Head h))
+  reading = as_head (attribute_head l root root_object (record { member = 0; before = None; kind = Attribute f }) f)
 
   -- so the list's head answers what that says
   listed : (g : lists.List) (us : List Use) → Says (from_nothing (of_list f) bytes (head_node l ∷ [])) l bytes reading (givens.Head (heads.List g)) [] us

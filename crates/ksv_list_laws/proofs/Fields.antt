@@ -39,7 +39,7 @@ use Rattle.ksv_list_laws.proofs.Common.{in_path, ask_end, field_of, leaf, shape_
 use Rattle.ksv_list_laws.proofs.Paths.{part_of}
 use Rattle.ksv_list_laws.proofs.Plain.{IsNumber, IsNamed, IsLaidOut}
 use Rattle.ksv_list_laws.proofs.Rules.{leaf_says}
-use Rattle.ksv_list_laws.proofs.Says.{Says, says_answer, says_given, says_seen, says_by}
+use Rattle.ksv_list_laws.proofs.Says.{as_head, Says, says_answer, says_given, says_seen, says_by}
 use Rattle.ksv_list_laws.proofs.Truth.{some_is}
 use Rattle.ksv_list_laws.specs.Lists.{before}
 use Rattle.ksv_list_laws.specs.Nodes.{object_from, sought_at, leaf_from, integer_in}
@@ -63,11 +63,11 @@ shape_is at origin w s f c n e z = ap (λ x. bind (choose at x) (λ y. chosen_at
 -- ---- what is asked first
 
 pub member_rule : (d : Description) (p x : Trail) (n : ℕ) → child p (steps.Name n) ≡ Some x
-    → rule_of d (head_node x) ≡ bind (member_head d x p n) (λ h. Answer (givens.Head h))
+    → rule_of d (head_node x) ≡ as_head (member_head d x p n)
 unfolding rule_of meaning_of head_of
 member_rule d p x n is =
     let up = part_of p x (steps.Name n) is in
-    ap (λ z. bind (head_at d x z) (λ h. Answer (givens.Head h))) up.1 ∙ ap (λ q. bind (member_head d x q n) (λ h. Answer (givens.Head h))) up.0
+    ap (λ z. as_head (head_at d x z)) up.1 ∙ ap (λ q. as_head (member_head d x q n)) up.0
 
 pub member_first : (d : Description) (p x : Trail) (n : ℕ) → child p (steps.Name n) ≡ Some x → AsksFirst d (head_node x) (head_node p)
 unfolding member_head bind
@@ -105,7 +105,7 @@ module _ (met : Node → Result Given NodeFault) (bytes : List ℕ) (d : Descrip
         ∙ ap (λ r. repeated (at b) (origin_of o (sought_at y j)) o.stream (at_byte b) f r) (laid.once j low)
 
     abbrev begun : Rule Place → Rule Given
-    begun s = bind (bind s there_at) (λ h. Answer (givens.Head h))
+    begun s = as_head (bind s there_at)
 
     part_head : (r : Given) (ns : List Node) (us : List Use) → says x (begun (attribute_start p o (before y j) (y.field j).choice)) r ns us
         → says x (rule_of d (head_node x)) r (head_node p ∷ ns) us
@@ -114,7 +114,7 @@ module _ (met : Node → Result Given NodeFault) (bytes : List ℕ) (d : Descrip
         says_by met x bytes _ _ r (head_node p ∷ ns) us (member_rule d p x (y.name j) is)
         (says_given met x bytes (head_node p) _ (givens.Head (heads.Object o)) r ns us headed
         (says_by met x bytes _ (begun (attribute_start p o (before y j) (y.field j).choice)) r ns us
-        (ap (λ m. bind (bind (in_sought m) (λ k. member_at x p o k k.kind)) (λ h. Answer (givens.Head h))) (laid.part j low)) s))
+        (ap (λ m. as_head (bind (in_sought m) (λ k. member_at x p o k k.kind))) (laid.part j low)) s))
 
     -- what reading it at a place says
     abbrev pub Reads : ℕ → ℕ → List Node → Type 0
@@ -125,7 +125,7 @@ module _ (met : Node → Result Given NodeFault) (bytes : List ℕ) (d : Descrip
     unfolding bind
     read_fixed b n c always size room =
         says_by met x bytes (begun (Answer (at_byte b))) _ _ [] (uses_are.Reach (b + n) ∷ [])
-        (ap (λ z. bind z (λ h. Answer (givens.Head h))) (there_is b ∙ shape_is (at b) (origin_of o (sought_at y j)) o.stream (at_byte b)
+        (ap as_head (there_is b ∙ shape_is (at b) (origin_of o (sought_at y j)) o.stream (at_byte b)
         (y.field j) c n always size))
         (leaf_says met x bytes (origin_of o (sought_at y j)) o.stream b n within room)
 
@@ -152,7 +152,7 @@ module _ (met : Node → Result Given NodeFault) (bytes : List ℕ) (d : Descrip
     unfolding bind
     read_named b n k q by was valued room =
         says_by met x bytes (begun (Answer (at_byte b))) _ _ (value_node q ∷ []) (uses_are.Reach (b + n) ∷ [])
-        (ap (λ z. bind z (λ h. Answer (givens.Head h))) (named_rule b (named by.word) by.always by.extent
+        (ap as_head (named_rule b (named by.word) by.always by.extent
         ∙ ap (λ z. bind z (λ m. leaf (origin_of o (sought_at y j)) o.stream (at_byte b) m)) (size_rule b k by.word q by.number was)))
         (says_given met x bytes (value_node q) _ (givens.Value (values.Int (pos n))) _ [] (uses_are.Reach (b + n) ∷ []) valued
         (leaf_says met x bytes (origin_of o (sought_at y j)) o.stream b n within room))

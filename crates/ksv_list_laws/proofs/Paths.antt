@@ -2,9 +2,10 @@
 use Rattle.std.proofs.Common.{◌^◌}
 use Rattle.std.specs.Prelude.{option_map}
 use Rattle.ksv_expr_value.specs.Trail.{last, element_limit, all_but_last, first_step, same_trail, step_fits, fits, fits-more, trail_of-true}
+use Rattle.ksv_expr_value.specs.declared.step.Step.{Step}
 use Rattle.ksv_expr_value.specs.declared.step.Step.TheVariants as steps
 use Rattle.ksv_list_laws.proofs.Common.{◌≡◌, ℕ, ◌<◌, true, ◌∷◌, length, Option, Some, None, refl, sym, ap, arith, nat_tests, option_and_then, Trail, child}
-use Rattle.ksv_list_laws.proofs.Common.{parent, trail_of-steps, Step}
+use Rattle.ksv_list_laws.proofs.Common.{parent, trail_of-steps}
 
 -- a step more leads back by one
 pub part_of : (q r : Trail) (step : Step) → child q step ≡ Some r → (parent r ≡ q) × (last r ≡ Some step)

@@ -1,11 +1,12 @@
 -- Where elements and fields begin, in order; and the ranks of nodes.
 use Rattle.std.proofs.Common.{◌*◌, ◌==◌}
+use Rattle.ksv_expr_value.specs.declared.step.Step.{Step}
 use Rattle.ksv_expr_value.specs.declared.step.Step.TheVariants as steps
 use Rattle.ksv_nodes.specs.declared.node.NodeKind.{NodeKind}
 use Rattle.ksv_nodes.specs.declared.node.NodeKind.TheVariants as nodes
-use Rattle.ksv_list_laws.proofs.Common.{◌≡◌, ℕ, zero, suc, ◌+◌, ◌-◌, ◌<◌, ◌≤◌, Bool, true, false, if◌then◌else◌, List, ◌∷◌, Some, inl, inr, refl}
-use Rattle.ksv_list_laws.proofs.Common.{ap, arith, nat_tests, cases_lt, unwrap_or, Step, Node, Layout, size_at, Listing}
-use Rattle.ksv_list_laws.proofs.Common.{ElementHead, ElementEnd, Rest, FieldHead, FieldEnd, SizeValue, Which}
+use Rattle.ksv_list_laws.proofs.Common.{◌≡◌, ℕ, zero, suc, ◌+◌, ◌-◌, ◌<◌, ◌≤◌, Bool, true, false, if◌then◌else◌, List, ◌∷◌, Some, inl, inr, refl, ap, arith}
+use Rattle.ksv_list_laws.proofs.Common.{nat_tests, cases_lt, unwrap_or, Node, Layout, size_at, Listing, ElementHead, ElementEnd, Rest, FieldHead, FieldEnd}
+use Rattle.ksv_list_laws.proofs.Common.{SizeValue, Which}
 use Rattle.ksv_list_laws.specs.Lists.{place_of}
 use Rattle.ksv_list_laws.specs.Nodes.{field_start}
 

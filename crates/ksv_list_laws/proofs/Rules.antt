@@ -23,18 +23,18 @@ use Rattle.ksv_list_laws.proofs.Common.{None, Result, Ok, refl, ap, arith, nat_t
 use Rattle.ksv_list_laws.proofs.Common.{Stream, Description, Field, Node, NodeFault, Given, Head, Done, end_in, Rule, See, head_node, end_node, in_path}
 use Rattle.ksv_list_laws.proofs.Common.{ask_end, field_of, leaf, shape_at, part_end, head_of, meaning_of, rule_of, end_uses}
 use Rattle.ksv_list_laws.proofs.Paths.{part_of}
-use Rattle.ksv_list_laws.proofs.Says.{Says, says_answer, says_given, says_seen, says_by, reaches, ends_there}
+use Rattle.ksv_list_laws.proofs.Says.{as_head, Says, says_answer, says_given, says_seen, says_by, reaches, ends_there}
 use Rattle.ksv_list_laws.specs.Lists.{repeats}
-use Rattle.ksv_list_laws.specs.Nodes.{is_last_at}
+use Rattle.ksv_list_laws.specs.Nodes.{leaf_from, is_last_at}
 
 -- ---- the rules of an element's head, end and rest
 
 head_rule : (d : Description) (l p : Trail) (i : ℕ) → child l (steps.Index i) ≡ Some p
-    → rule_of d (head_node p) ≡ bind (element_head d p l (parent l) i) (λ h. Answer (givens.Head h))
+    → rule_of d (head_node p) ≡ as_head (element_head d p l (parent l) i)
 unfolding rule_of meaning_of head_of
 head_rule d l p i is =
     let up = part_of l p (steps.Index i) is in
-    ap (λ o. bind (head_at d p o) (λ h. Answer (givens.Head h))) up.1 ∙ ap (λ q. bind (element_head d p q (parent q) i) (λ h. Answer (givens.Head h))) up.0
+    ap (λ o. as_head (head_at d p o)) up.1 ∙ ap (λ q. as_head (element_head d p q (parent q) i)) up.0
 
 abbrev pub as_end : Rule Ended → Rule Given
 as_end r = bind r (λ x. Answer (givens.End x.place x.last))
@@ -53,22 +53,22 @@ abbrev pub as_rest : Rule Rested → Rule Given
 as_rest r = bind r (λ z. Answer (givens.Rest z.count z.place))
 
 first_rule : (d : Description) (l p : Trail) → child l (steps.Index 0) ≡ Some p
-    → rule_of d (rest_node p) ≡ bind (whole_rest p l) (λ r. Answer (givens.Rest r.count r.place))
+    → rule_of d (rest_node p) ≡ as_rest (whole_rest p l)
 unfolding rule_of meaning_of rest_of
 first_rule d l p is =
     let up = part_of l p (steps.Index 0) is in
-    ap (λ o. bind (rest_at p o) (λ r. Answer (givens.Rest r.count r.place))) up.1
-    ∙ ap (λ q. bind (whole_rest p q) (λ r. Answer (givens.Rest r.count r.place))) up.0
+    ap (λ o. as_rest (rest_at p o)) up.1
+    ∙ ap (λ q. as_rest (whole_rest p q)) up.0
 
 next_rule : (d : Description) (l p : Trail) (i : ℕ) → child l (steps.Index (suc i)) ≡ Some p
-    → rule_of d (rest_node p) ≡ bind (rest_from p l (suc i)) (λ r. Answer (givens.Rest r.count r.place))
+    → rule_of d (rest_node p) ≡ as_rest (rest_from p l (suc i))
 unfolding rule_of meaning_of rest_of
 next_rule d l p i is =
     let up = part_of l p (steps.Index (suc i)) is in
     let later : (suc i == 0) ≡ false = grind (arith, nat_tests) in
-    ap (λ o. bind (rest_at p o) (λ r. Answer (givens.Rest r.count r.place))) up.1
-    ∙ ap (λ b. bind (if b then whole_rest p (parent p) else rest_from p (parent p) (suc i)) (λ r. Answer (givens.Rest r.count r.place))) later
-    ∙ ap (λ q. bind (rest_from p q (suc i)) (λ r. Answer (givens.Rest r.count r.place))) up.0
+    ap (λ o. as_rest (rest_at p o)) up.1
+    ∙ ap (λ b. as_rest (if b then whole_rest p (parent p) else rest_from p (parent p) (suc i))) later
+    ∙ ap (λ q. as_rest (rest_from p q (suc i))) up.0
 
 -- ---- what they ask first
 
@@ -92,15 +92,14 @@ rest_next d l p i is = record { rest = _; is = next_rule d l p i is }
 
 pub leaf_says : (met : Node → Result Given NodeFault) (here : Trail) (bytes : List ℕ) (origin : Origin) (w : Stream) (a n : ℕ)
     → end_in bytes w.to ≤ length bytes → a + n ≤ end_in bytes w.to
-    → Says met here bytes (bind (leaf origin w (at_byte a) n) (λ h. Answer (givens.Head h)))
-    (givens.Head (heads.Leaf (record { origin = origin; from = at_byte a; to = at_byte (a + n); end = at_byte (a + n) })))
+    → Says met here bytes (as_head (leaf origin w (at_byte a) n))
+    (leaf_from origin a (a + n))
     [] (uses_are.Reach (a + n) ∷ [])
 unfolding leaf bind
 leaf_says met here bytes origin w a n within room =
     says_by met here bytes _ (Ask (See (Reach w (a + n))) (λ x. Answer
-    (givens.Head (heads.Leaf (record { origin = origin; from = at_byte a; to = at_byte (a + n); end = at_byte (a + n) }))))) _ [] _
-    (ap (λ b. Ask (See (Reach w (b + n))) (λ x. Answer (givens.Head (heads.Leaf
-    (record { origin = origin; from = at_byte a; to = at_byte (b + n); end = at_byte (b + n) }))))) (byte_of_byte a))
+    (leaf_from origin a (a + n)))) _ [] _
+    (ap (λ b. Ask (See (Reach w (b + n))) (λ x. Answer (leaf_from origin a (b + n)))) (byte_of_byte a))
     (says_seen met here bytes (Reach w (a + n)) _ tt (uses_are.Reach (a + n) ∷ []) _ (reaches bytes w (a + n) within room) refl)
 
 module _ (met : Node → Result Given NodeFault) (bytes : List ℕ) (d : Description) (g : lists.List) (l p : Trail)
@@ -112,14 +111,13 @@ module _ (met : Node → Result Given NodeFault) (bytes : List ℕ) (d : Descrip
 
   -- what is left of an element's head, where its place is known
   abbrev pub read_at : ℕ → Rule Place → Rule Given
-  read_at i s = bind (bind s (λ z. bind (field_of d g.origin.member) (λ f. shape_at (element_setting p (parent l) g.origin z i) g.origin g.stream z f)))
-      (λ h. Answer (givens.Head h))
+  read_at i s = as_head (bind s (λ z. bind (field_of d g.origin.member) (λ f. shape_at (element_setting p (parent l) g.origin z i) g.origin g.stream z f)))
 
   head_from : (i : ℕ) (a : Given) (ns : List Node) (us : List Use) → child l (steps.Index i) ≡ Some p → says (read_at i (element_start l g i)) a ns us
       → says (rule_of d (head_node p)) a (head_node l ∷ ns) us
   unfolding element_head bind
   head_from i a ns us is s =
-      says_by met p bytes _ (bind (element_head d p l (parent l) i) (λ h. Answer (givens.Head h))) a (head_node l ∷ ns) us (head_rule d l p i is)
+      says_by met p bytes _ (as_head (element_head d p l (parent l) i)) a (head_node l ∷ ns) us (head_rule d l p i is)
       (says_given met p bytes (head_node l) _ (givens.Head (heads.List g)) a ns us listed s)
 
   -- the first begins with its list

@@ -5,10 +5,15 @@ use Rattle.ksv_expr_value.specs.Places.{byte_in}
 use Rattle.ksv_nodes.specs.Reading.{Reading, Reach, Seen, Look, gives, ends_before, reach_file, reach_within, done_at}
 use Rattle.ksv_nodes.specs.Rule.{Of}
 use Rattle.ksv_nodes.specs.Truth.{answer_of, asks_of, uses_of, with_given, with_seen, behind_given, behind_seen}
-use Rattle.ksv_list_laws.proofs.Common.{◌≡◌, ◌∙◌, ℕ, ◌+◌, ◌≤◌, nat_lt, nat_le, Bool, true, false, if◌then◌else◌, List, [], ◌∷◌, ◌++◌, length, Option, Some}
-use Rattle.ksv_list_laws.proofs.Common.{None, Result, Ok, refl, sym, ap, subst, arith, nat_tests, Answer, Ask, Use, at_byte, Trail, Stream, Node, Given}
-use Rattle.ksv_list_laws.proofs.Common.{NodeFault, Done, look, end_in, Rule, See}
+use Rattle.ksv_nodes.specs.declared.given.Given.TheVariants as givens
+use Rattle.ksv_list_laws.proofs.Common.{bind, Head, ◌≡◌, ◌∙◌, ℕ, ◌+◌, ◌≤◌, nat_lt, nat_le, Bool, true, false, if◌then◌else◌, List, [], ◌∷◌, ◌++◌, length}
+use Rattle.ksv_list_laws.proofs.Common.{Option, Some, None, Result, Ok, refl, sym, ap, subst, arith, nat_tests, Answer, Ask, Use, at_byte, Trail, Stream}
+use Rattle.ksv_list_laws.proofs.Common.{Node, Given, NodeFault, Done, look, end_in, Rule, See}
 use Rattle.ksv_list_laws.specs.Nodes.{stream_uses}
+
+-- the rule of a node's head
+abbrev pub as_head : Rule Head → Rule Given
+as_head r = bind r (λ h. Answer (givens.Head h))
 
 module _ (met : Node → Result Given NodeFault) (here : Trail) (bytes : List ℕ) where
   -- a rule answers, asks and uses this

@@ -14,17 +14,17 @@ use Rattle.ksv_rule_meaning.specs.Heads.{is_past, is_of_bits, content_at, chosen
 use Rattle.ksv_list_laws.proofs.Chains.{AsksFirst, Chain, IsChain, chain_tells}
 use Rattle.ksv_list_laws.proofs.Common.{◌≡◌, ◌∙◌, ℕ, zero, suc, ◌+◌, ◌-◌, ◌<◌, ◌≤◌, nat_le, Bool, true, false, if◌then◌else◌, ◌||◌, List, [], ◌∷◌, length}
 use Rattle.ksv_list_laws.proofs.Common.{Option, Some, None, Result, Ok, ◌⊎◌, inl, inr, refl, sym, ap, subst, arith, nat_tests, cases_lt, is_some}
-use Rattle.ksv_list_laws.proofs.Common.{option_and_then, unwrap_or, Answer, bind, byte_of_byte, at_byte, Trail, child, parent, trail_of-steps}
-use Rattle.ksv_list_laws.proofs.Common.{Description, Content, Always, with_first, Node, NodeFault, Given, Head, end_in, head_node, end_node, in_path, ask_end}
-use Rattle.ksv_list_laws.proofs.Common.{part_end, shape_at, leaf, rule_of, size_at, is_named_to, content_size, Listing, start, Which, ElementHead, ElementEnd}
-use Rattle.ksv_list_laws.proofs.Common.{Rest, FieldHead, FieldEnd, SizeValue, node_at, nodes_of, size_asked, last_asked, later_asked, asked_by, element_uses}
+use Rattle.ksv_list_laws.proofs.Common.{option_and_then, unwrap_or, Answer, bind, byte_of_byte, at_byte, Trail, child, parent, trail_of-steps, Description}
+use Rattle.ksv_list_laws.proofs.Common.{Content, Always, with_first, Node, NodeFault, Given, Head, end_in, head_node, end_node, in_path, ask_end, part_end}
+use Rattle.ksv_list_laws.proofs.Common.{shape_at, leaf, rule_of, size_at, is_named_to, content_size, Listing, start, Which, ElementHead, ElementEnd, Rest}
+use Rattle.ksv_list_laws.proofs.Common.{FieldHead, FieldEnd, SizeValue, node_at, nodes_of, size_asked, last_asked, later_asked, asked_by, element_uses}
 use Rattle.ksv_list_laws.proofs.Common.{uses_at, IsPlain, IsThere, Tells}
 use Rattle.ksv_list_laws.proofs.Fields as fields
 use Rattle.ksv_list_laws.proofs.Paths.{element_is, field_is, mapped, then_is}
 use Rattle.ksv_list_laws.proofs.Places.{field_low, first_some, turns, turns_low, place_is, width, rank, step_rank, node_rank}
 use Rattle.ksv_list_laws.proofs.Plain.{IsNumber, IsLaidOut, IsSized, IsElementOf, IsRead, is_read}
 use Rattle.ksv_list_laws.proofs.Rules as rules
-use Rattle.ksv_list_laws.proofs.Says.{Says, says_answer, says_given, says_by, says_asking}
+use Rattle.ksv_list_laws.proofs.Says.{as_head, Says, says_answer, says_given, says_by, says_asking}
 use Rattle.ksv_list_laws.proofs.Truth.{none_is, or_true}
 use Rattle.ksv_list_laws.specs.Laws.{NodesHavePaths, NodesTell}
 use Rattle.ksv_list_laws.specs.Lists.{choice_size}
@@ -275,35 +275,32 @@ module _ (d : Description) (bytes : List ℕ) (x : Listing) (plain : IsPlain d b
     -- ---- elements
 
     -- what is read where an element begins
-    read_says : (i : ℕ) (p : Trail) → i < x.count
-        → Says met p bytes (rules.read_at met bytes d x.list x.path p listed i (Answer (at_byte (start x i)))) (answer_at bytes x (ElementHead i)) []
-        (uses_at bytes x (ElementHead i))
+    abbrev Reads : ℕ → Trail → Option ℕ → ℕ → Type 0
+    Reads i p o z = Says met p bytes (rules.read_at met bytes d x.list x.path p listed i (Answer (at_byte (start x i))))
+        (element_from x.list o (start x i) z) []
+        (element_uses o z)
+
+    read_says : (i : ℕ) (p : Trail) → i < x.count → Reads i p x.layout.type_number (start x (suc i))
     unfolding shape_at choose content_at object_at bind
     read_says i p low = by x.layout.type_number (IsRead.element read)
       where
-        by : (o : Option ℕ) → IsElementOf d (IsRead.field read) x.layout o
-            → Says met p bytes (rules.read_at met bytes d x.list x.path p listed i (Answer (at_byte (start x i))))
-            (element_from x.list o (start x i) (start x (suc i))) [] (element_uses o (start x (suc i)))
+        by : (o : Option ℕ) → IsElementOf d (IsRead.field read) x.layout o → Reads i p o (start x (suc i))
         by (Some k) e =
             let at = element_setting p (parent x.path) x.list.origin (at_byte (start x i)) i in
             says_by met p bytes _ (Answer (element_from x.list (Some k) (start x i) (start x (suc i)))) _ [] []
-            (ap (λ z. bind (bind z (λ f. shape_at at x.list.origin x.list.stream (at_byte (start x i)) f)) (λ h. Answer (givens.Head h))) (IsRead.is read)
-            ∙ ap (λ c. bind (bind (choose at c) (λ z. chosen_at at x.list.origin x.list.stream (at_byte (start x i)) (IsRead.field read) z))
-            (λ h. Answer (givens.Head h))) e.1
-            ∙ ap (λ z. bind (object_at at (record x.list.origin { case = None }) k x.list.stream (at_byte (start x i)) z) (λ h. Answer (givens.Head h))) e.2)
+            (ap (λ z. as_head (bind z (λ f. shape_at at x.list.origin x.list.stream (at_byte (start x i)) f))) (IsRead.is read)
+            ∙ ap (λ c. as_head (bind (choose at c) (λ z. chosen_at at x.list.origin x.list.stream (at_byte (start x i)) (IsRead.field read) z))) e.1
+            ∙ ap (λ z. as_head (object_at at (record x.list.origin { case = None }) k x.list.stream (at_byte (start x i)) z)) e.2)
             (says_answer met p bytes _)
         by None e =
             let at = element_setting p (parent x.path) x.list.origin (at_byte (start x i)) i in
             let far : start x (suc i) ≡ start x i + e.2 = ap (λ k. field_start x.layout (x.says i) (start x i) (suc k)) e.0
             ∙ ap (λ o. start x i + unwrap_or o (x.says i)) e.5 in
             let room = (plain.whole i low).room in
-            subst (λ z. Says met p bytes (rules.read_at met bytes d x.list x.path p listed i (Answer (at_byte (start x i))))
-            (element_from x.list None (start x i) z) [] (element_uses None z)) (sym far)
-            (says_by met p bytes _ (bind (leaf (record x.list.origin { case = None }) x.list.stream (at_byte (start x i)) e.2)
-            (λ h. Answer (givens.Head h))) _ [] _
-            (ap (λ z. bind (bind z (λ f. shape_at at x.list.origin x.list.stream (at_byte (start x i)) f)) (λ h. Answer (givens.Head h))) (IsRead.is read)
-            ∙ ap (λ z. bind z (λ h. Answer (givens.Head h))) (fields.shape_is at x.list.origin x.list.stream (at_byte (start x i))
-            (IsRead.field read) e.1 e.2 e.3 e.4))
+            subst (Reads i p None) (sym far)
+            (says_by met p bytes _ (as_head (leaf (record x.list.origin { case = None }) x.list.stream (at_byte (start x i)) e.2)) _ [] _
+            (ap (λ z. as_head (bind z (λ f. shape_at at x.list.origin x.list.stream (at_byte (start x i)) f))) (IsRead.is read)
+            ∙ ap as_head (fields.shape_is at x.list.origin x.list.stream (at_byte (start x i)) (IsRead.field read) e.1 e.2 e.3 e.4))
             (rules.leaf_says met p bytes (record x.list.origin { case = None }) x.list.stream (start x i) e.2 plain.within (omega (arith, far, room))))
 
     says_head : (i : ℕ) (p : Trail) → i < x.count → At i p → r ≡ turns (width x) i
@@ -336,15 +333,7 @@ module _ (d : Description) (bytes : List ℕ) (x : Listing) (plain : IsPlain d b
             → met (head_node p) ≡ Ok (element_from x.list o (start x i) (start x (suc i)))
             → Says met p bytes (rules.ending d x.path p i) (answer_at bytes x (ElementEnd i))
             (head_node p ∷ nodes_of x (last_asked o i x.layout.last)) (uses_at bytes x (ElementEnd i))
-        by None same e headed =
-            let h : Head = heads.Leaf (record {
-              origin = record x.list.origin { case = None };
-              from = at_byte (start x i);
-              to =
-                  at_byte (start x (suc i));
-              end = at_byte (start x (suc i));
-            }) in
-            says_given met p bytes (head_node p) _ (givens.Head h) _ (head_node x.path ∷ []) _ headed (closes h refl)
+        by None same e headed = says_given met p bytes (head_node p) _ _ _ (head_node x.path ∷ []) _ headed (closes _ refl)
         by (Some k) same e headed =
             let there : IsField x i x.layout.last = (low, omega arith, ap is_some same) in
             let q = below i x.layout.last there in
@@ -404,15 +393,16 @@ module _ (d : Description) (bytes : List ℕ) (x : Listing) (plain : IsPlain d b
       headed : turns (width x) i < r → met (head_node p) ≡ Ok (givens.Head (heads.Object (object_from x.list t (start x i))))
       headed lt = head_heard i p there.0 is lt ∙ ap (λ o. Ok (element_from x.list o (start x i) (start x (suc i)))) (is_there x.layout.type_number there.2)
 
+      abbrev FieldReads : turns (width x) i < r → ℕ → List Node → Type 0
+      FieldReads lt n ns = fields.Reads met bytes d x.list t x.layout (laid there.2) p (start x i) plain.within j there.1 q was (headed lt) (place x i j) n ns
+
       -- reading it where it begins says this
       reads : turns (width x) i + 3 * j + 1 ≡ r → (lt : turns (width x) i < r)
-          → fields.Reads met bytes d x.list t x.layout (laid there.2) p (start x i) plain.within j there.1 q was (headed lt) (place x i j)
-          (unwrap_or (size_at x.layout j) (x.says i)) (nodes_of x (size_asked i (size_at x.layout j)))
+          → FieldReads lt (unwrap_or (size_at x.layout j) (x.says i)) (nodes_of x (size_asked i (size_at x.layout j)))
       reads at lt = by (size_at x.layout j) refl ((laid there.2).sized j there.1)
         where
           by : (o : Option ℕ) → size_at x.layout j ≡ o → IsSized x.layout j o
-              → fields.Reads met bytes d x.list t x.layout (laid there.2) p (start x i) plain.within j there.1 q was (headed lt) (place x i j)
-              (unwrap_or o (x.says i)) (nodes_of x (size_asked i o))
+              → FieldReads lt (unwrap_or o (x.says i)) (nodes_of x (size_asked i o))
           by (Some n) e z =
               let far : place x i (suc j) ≡ place x i j + n = ap (λ o. place x i j + unwrap_or o (x.says i)) e in
               let room = field_room i j there.0 there.1 in
@@ -428,8 +418,7 @@ module _ (d : Description) (bytes : List ℕ) (x : Listing) (plain : IsPlain d b
               let path = field_path_is i x.layout.sizer p s.0 is s.1 in
               let valued = lower (SizeValue i) (value_node s.0) (omega (arith, before, at))
               ((sizer, named_more j x.layout.last there.1 (named_here j e)), ap (option_map value_node) path) in
-              subst (λ ns. fields.Reads met bytes d x.list t x.layout (laid there.2) p (start x i) plain.within j there.1 q was (headed lt) (place x i j)
-              (x.says i) ns) (sym (node_next (SizeValue i) (value_node s.0) [] (ap (option_map value_node) path)))
+              subst (FieldReads lt (x.says i)) (sym (node_next (SizeValue i) (value_node s.0) [] (ap (option_map value_node) path)))
               (fields.read_named met bytes d x.list t x.layout (laid there.2) p (start x i) plain.within j there.1 q was (headed lt) (place x i j) (x.says i)
               (x.layout.name x.layout.sizer) s.0 z.1 s.1 valued (omega (arith, far, room)))
 

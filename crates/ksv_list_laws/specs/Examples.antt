@@ -5,7 +5,8 @@ use Rattle.ksv_expr_tree.specs.Tree.{integer, literal, named, no_arguments}
 use Rattle.ksv_expr_value.specs.Places.{at_byte}
 use Rattle.ksv_expr_value.specs.Trail.{Trail, root, child}
 use Rattle.ksv_expr_value.specs.declared.step.Step.TheVariants as steps
-use Rattle.ksv_desc.specs.Description.{Description, TypeOfObjects, MemberOfType, Field, Attribute, Content, Always, Repeat, Once, Eos, Expr, Extent, Sized, ByItself}
+use Rattle.ksv_desc.specs.Description.{Description, TypeOfObjects, MemberOfType, Field, Attribute, Content, Always, Repeat, Once, Eos, Expr, Extent, Sized}
+use Rattle.ksv_desc.specs.Description.{ByItself}
 use Rattle.ksv_desc.specs.Description as contents
 use Rattle.ksv_desc.specs.declared.order.ByteOrder.TheVariants.{Big}
 use Rattle.ksv_rule_meaning.specs.Wanted.{whole}
