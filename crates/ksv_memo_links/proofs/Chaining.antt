@@ -17,7 +17,7 @@ apart a l p n h (suc i) zero li lj e =
 apart a l p n h (suc i) (suc j) li lj e =
     let x = h.back (suc i) li in let y = h.back (suc j) lj in
     let z = ap (λ q. (entry_at a q).before) e in
-    ap (λ k. suc k) (apart a l p n h i j (omega arith) (omega arith) (sym x ∙ z ∙ y))
+    ap suc (apart a l p n h i j (omega arith) (omega arith) (sym x ∙ z ∙ y))
 
 -- entries that are as they were, but for those of other lists
 pub record IsSameFor (a b : List Entry) (l : ℕ) : Type 0 where
@@ -29,15 +29,14 @@ pub record IsSameFor (a b : List Entry) (l : ℕ) : Type 0 where
 pub same-hop : (a b : List Entry) (l p n : ℕ) → IsChain a l p n → IsSameFor a b l → (i : ℕ) → i ≤ n → hop b p i ≡ hop a p i
 same-hop a b l p n h s zero le = refl
 same-hop a b l p n h s (suc i) le =
-    ap (λ q. (entry_at b q).next) (same-hop a b l p n h s i (omega arith)) ∙ s.next (hop a p i) (h.some i (omega arith)) (h.of i (omega arith))
+    cc (same-hop a b l p n h s i (omega arith), s.next (hop a p i) (h.some i (omega arith)) (h.of i (omega arith)))
 
 pub same-chain : (a b : List Entry) (l p n : ℕ) → IsChain a l p n → IsSameFor a b l → IsChain b l p n
 same-chain a b l p n h s = record {
   some = λ i lt. (let e = hops i (omega arith) in let k = h.some i lt in omega arith);
-  inside = λ i lt. (let e = hops i (omega arith) in let k = h.inside i lt in let m = s.places in omega arith);
-  of = λ i lt. ap (λ q. (entry_at b q).list) (hops i (omega arith)) ∙ s.named (hop a p i) (h.some i lt) (h.of i lt);
-  back = λ i lt. ap (λ q. (entry_at b q).before) (hops i (omega arith)) ∙ s.before (hop a p i) (h.some i lt) (h.of i lt) ∙ h.back i lt
-      ∙ sym (prev i (omega arith));
+  inside = λ i lt. (let e = hops i (omega arith) in let k = h.inside i lt in omega arith);
+  of = λ i lt. cc (hops i (omega arith), s.named (hop a p i) (h.some i lt) (h.of i lt));
+  back = λ i lt. cc (hops i (omega arith), s.before (hop a p i) (h.some i lt) (h.of i lt), h.back i lt, prev i (omega arith));
   ends = hops n (omega arith) ∙ h.ends;
 }
   where
@@ -65,41 +64,43 @@ module _ (a b : List Entry) (f g : List ℕ) (l n k : ℕ) (h : IsChain a l (fir
     -- at the front
     front : k ≡ 0 → (j : ℕ) → j ≤ n → hop b (first_at g l) j ≡ hop a (first_at f l) (suc j)
     front z zero le =
-        let k0 : before_of a (first_at f l) k ≡ 0 = ap (λ i. before_of a (first_at f l) i) z in
-        ap (λ m. first_at g m) (sym of_k) ∙ u.begins (back_k ∙ k0) ∙ ap (λ i. hop a (first_at f l) (suc i)) z
+        let k0 : before_of a (first_at f l) k ≡ 0 = ap (before_of a (first_at f l)) z in
+        cc (of_k, u.begins (back_k ∙ k0))
     front z (suc j) le =
-        let k0 : before_of a (first_at f l) k ≡ 0 = ap (λ i. before_of a (first_at f l) i) z in
-        ap (λ q. (entry_at b q).next) (front z j (omega arith))
-        ∙ next_else (suc j) (omega arith) (λ e. (let s = h.some (suc j) (omega arith) in absurd (omega arith)))
+        let k0 : before_of a (first_at f l) k ≡ 0 = ap (before_of a (first_at f l)) z in
+        cc (front z j (omega arith), next_else (suc j) (omega arith) (λ e. (let s = h.some (suc j) (omega arith) in absurd (omega arith))))
 
     not_before : (d : ℕ) → k ≡ suc d → (entry_at a (hop a (first_at f l) k)).before ≢ 0
     not_before d z e =
-        let k0 : before_of a (first_at f l) k ≡ hop a (first_at f l) d = ap (λ i. before_of a (first_at f l) i) z in
+        let k0 : before_of a (first_at f l) k ≡ hop a (first_at f l) d = ap (before_of a (first_at f l)) z in
         let s = h.some d (omega arith) in let y = back_k in absurd (omega arith)
 
     starts : (d : ℕ) → k ≡ suc d → first_at g l ≡ first_at f l
-    starts d z = ap (λ m. first_at g m) (sym of_k) ∙ u.stays (not_before d z) ∙ ap (λ m. first_at f m) of_k
+    starts d z = cc (of_k, u.stays (not_before d z))
 
     low : (d : ℕ) → k ≡ suc d → (j : ℕ) → j ≤ d → hop b (first_at g l) j ≡ hop a (first_at f l) j
     low d z zero le = starts d z
     low d z (suc j) le =
-        let k0 : before_of a (first_at f l) k ≡ hop a (first_at f l) d = ap (λ i. before_of a (first_at f l) i) z in
-        ap (λ q. (entry_at b q).next) (low d z j (omega arith))
-        ∙ next_else j (omega arith) (λ e. (let m = apart a l (first_at f l) (suc n) h d j (omega arith) (omega arith) (sym k0 ∙ e) in absurd (omega arith)))
+        let k0 : before_of a (first_at f l) k ≡ hop a (first_at f l) d = ap (before_of a (first_at f l)) z in
+        cc (
+          low d z j (omega arith),
+          next_else j (omega arith) (λ e. (let m =
+              apart a l (first_at f l) (suc n) h d j (omega arith) (omega arith) (sym k0 ∙ e) in absurd (omega arith))),
+        )
 
     abbrev IsLater : ℕ → Type 0
     IsLater j = hop b (first_at g l) j ≡ hop a (first_at f l) (suc j)
 
     high_first : (d : ℕ) → k ≡ suc d → IsLater (suc d)
     high_first d z =
-        let k0 : before_of a (first_at f l) k ≡ hop a (first_at f l) d = ap (λ i. before_of a (first_at f l) i) z in
-        ap (λ q. (entry_at b q).next) (low d z d (omega arith) ∙ sym k0 ∙ sym back_k) ∙ u.next (not_before d z) ∙ ap (λ i. hop a (first_at f l) (suc i)) z
+        let k0 : before_of a (first_at f l) k ≡ hop a (first_at f l) d = ap (before_of a (first_at f l)) z in
+        cc (low d z d (omega arith), back_k, u.next (not_before d z))
 
     high_next : (d : ℕ) → k ≡ suc d → (j : ℕ) → k ≤ j → suc j ≤ n → IsLater j → IsLater (suc j)
     high_next d z j kj le e =
-        let k0 : before_of a (first_at f l) k ≡ hop a (first_at f l) d = ap (λ i. before_of a (first_at f l) i) z in
-        ap (λ q. (entry_at b q).next) e ∙ next_else (suc j) (omega arith)
-        (λ y. (let x = apart a l (first_at f l) (suc n) h d (suc j) (omega arith) (omega arith) (sym k0 ∙ y) in absurd (omega arith)))
+        let k0 : before_of a (first_at f l) k ≡ hop a (first_at f l) d = ap (before_of a (first_at f l)) z in
+        cc (next_else (suc j) (omega arith) (λ y. (let x = apart a l (first_at f l) (suc n) h d (suc j) (omega arith) (omega arith) (sym k0 ∙ y) in
+        absurd (omega arith))))
 
     high : (d : ℕ) → k ≡ suc d → (m : ℕ) → k + m ≤ n → IsLater (k + m)
     high d z zero le = let e : suc d ≡ k + 0 = omega arith in subst IsLater e (high_first d z)
@@ -111,21 +112,18 @@ module _ (a b : List Entry) (f g : List ℕ) (l n k : ℕ) (h : IsChain a l (fir
     hop-low j lt = low (k - 1) (omega arith) j (omega arith)
 
     pub hop-high : (j : ℕ) → k ≤ j → j ≤ n → hop b (first_at g l) j ≡ hop a (first_at f l) (suc j)
-    hop-high j le ln = by (cases_lt 0 k)
-      where
-        by : (0 < k) ⊎ (k ≤ 0) → hop b (first_at g l) j ≡ hop a (first_at f l) (suc j)
-        by (inl lt) =
-            let e : k + (j - k) ≡ j = omega arith in
-            subst IsLater e (high (k - 1) (omega arith) (j - k) (omega arith))
-        by (inr z) = front (omega arith) j ln
+    hop-high j le ln = elim (cases_lt 0 k) [
+      | inl lt ↦ let e : k + (j - k) ≡ j = omega arith in
+          subst IsLater e (high (k - 1) (omega arith) (j - k) (omega arith))
+      | inr z ↦ front (omega arith) j ln
+    ]
 
     -- which step of the old chain it is
     pub skip : (j : ℕ) → j < n → (i : ℕ) × (i < suc n) × (i ≢ k) × (hop b (first_at g l) j ≡ hop a (first_at f l) i)
-    skip j lt = by (cases_lt j k)
-      where
-        by : (j < k) ⊎ (k ≤ j) → (i : ℕ) × (i < suc n) × (i ≢ k) × (hop b (first_at g l) j ≡ hop a (first_at f l) i)
-        by (inl jk) = (j, omega arith, (λ e. absurd (omega arith)), hop-low j jk)
-        by (inr kj) = (suc j, omega arith, (λ e. absurd (omega arith)), hop-high j kj (omega arith))
+    skip j lt = elim (cases_lt j k) [
+      | inl jk ↦ (j, omega arith, (λ e. absurd (omega arith)), hop-low j jk)
+      | inr kj ↦ (suc j, omega arith, (λ e. absurd (omega arith)), hop-high j kj (omega arith))
+    ]
 
     prev_low : (j : ℕ) → j ≤ k → before_of b (first_at g l) j ≡ before_of a (first_at f l) j
     prev_low zero le = refl
@@ -139,30 +137,29 @@ module _ (a b : List Entry) (f g : List ℕ) (l n k : ℕ) (h : IsChain a l (fir
     before_else i lt ne = u.befores (hop a (first_at f l) i) not ∙ h.back i lt
       where
         not : hop a (first_at f l) i ≢ hop a (first_at f l) (suc k)
-        not e = by (cases_lt (suc k) (suc n))
-          where
-            by : (suc k < suc n) ⊎ (suc n ≤ suc k) → ⊥
-            by (inl l2) = ne (apart a l (first_at f l) (suc n) h i (suc k) lt l2 e)
-            by (inr l2) =
-                let m : suc k ≡ suc n = omega arith in
-                let z = ap (λ j. hop a (first_at f l) j) m in
-                let s = h.some i lt in let y = h.ends in absurd (omega arith)
+        not e = elim (cases_lt (suc k) (suc n)) [
+          | inl l2 ↦ ne (apart a l (first_at f l) (suc n) h i (suc k) lt l2 e)
+          | inr l2 ↦ let m : suc k ≡ suc n = omega arith in
+              let z = ap (hop a (first_at f l)) m in
+              let s = h.some i lt in absurd (omega arith)
+        ]
 
     back_now : (j : ℕ) → j < n → (j < k) ⊎ (k ≤ j) → (j < suc k) ⊎ (suc k ≤ j) → (entry_at b (hop b (first_at g l) j)).before ≡ before_of b (first_at g l) j
-    back_now j lt (inl jk) _ = ap (λ q. (entry_at b q).before) (hop-low j jk) ∙ before_else j (omega arith) (λ e. absurd (omega arith))
-        ∙ sym (prev_low j (omega arith))
+    back_now j lt (inl jk) _ = cc (hop-low j jk, before_else j (omega arith) (λ e. absurd (omega arith)), prev_low j (omega arith))
     back_now j lt (inr kj) (inl jk) =
         let e : j ≡ k = omega arith in
-        ap (λ q. (entry_at b q).before) (hop-high j kj (omega arith) ∙ ap (λ i. hop a (first_at f l) (suc i)) e) ∙ u.before ∙ back_k
-        ∙ ap (λ i. before_of a (first_at f l) i) (sym e) ∙ sym (prev_low j (omega arith))
-    back_now j lt (inr kj) (inr jk) = ap (λ q. (entry_at b q).before) (hop-high j kj (omega arith))
-        ∙ before_else (suc j) (omega arith) (λ e. absurd (omega arith)) ∙ sym (prev_high j (omega arith) (omega arith))
+        cc (hop-high j kj (omega arith), back_k, prev_low j (omega arith))
+    back_now j lt (inr kj) (inr jk) = cc (
+      hop-high j kj (omega arith),
+      before_else (suc j) (omega arith) (λ e. absurd (omega arith)),
+      prev_high j (omega arith) (omega arith),
+    )
 
     pub cut-chain : IsChain b l (first_at g l) n
     cut-chain = record {
-      some = λ j lt. (let s = skip j lt in let x = h.some s.0 s.1 in let e = s.3 in omega arith);
-      inside = λ j lt. (let s = skip j lt in let x = h.inside s.0 s.1 in let e = s.3 in let m = u.places in omega arith);
-      of = λ j lt. (let s = skip j lt in u.named (hop b (first_at g l) j) ∙ ap (λ q. (entry_at a q).list) s.3 ∙ h.of s.0 s.1);
+      some = λ j lt. (let s = skip j lt in let x = h.some s.0 s.1 in omega arith);
+      inside = λ j lt. (let s = skip j lt in let x = h.inside s.0 s.1 in omega arith);
+      of = λ j lt. (let s = skip j lt in cc (u.named (hop b (first_at g l) j), h.of s.0 s.1));
       back = λ j lt. back_now j lt (cases_lt j k) (cases_lt j (suc k));
       ends = hop-high n kn (omega arith) ∙ h.ends;
     }
@@ -171,19 +168,23 @@ module _ (a b : List Entry) (f g : List ℕ) (l n k : ℕ) (h : IsChain a l (fir
 module _ (a b : List Entry) (f g : List ℕ) (l n p o : ℕ) (h : IsChain a l (first_at f l) n) (free : (i : ℕ) → i < n → hop a (first_at f l) i ≢ p) (some : 0 < p)
     (inside : p < length a) (u : Links a b f g p o l) where
   pub more-hop : (j : ℕ) → j ≤ n → hop b (first_at g l) (suc j) ≡ hop a (first_at f l) j
-  more-hop zero le = ap (λ q. (entry_at b q).next) u.begins ∙ u.here.2
-  more-hop (suc j) le = ap (λ q. (entry_at b q).next) (more-hop j (omega arith)) ∙ u.nexts (hop a (first_at f l) j) (free j (omega arith))
+  more-hop zero le = cc
+  more-hop (suc j) le = cc (more-hop j (omega arith), u.nexts (hop a (first_at f l) j) (free j (omega arith)))
 
   is_first : (j : ℕ) → j < n → hop a (first_at f l) j ≡ first_at f l → j ≡ 0
   is_first j lt e = apart a l (first_at f l) n h j 0 lt (omega arith) e
 
   back_more : (j : ℕ) → j < suc n → (entry_at b (hop b (first_at g l) j)).before ≡ before_of b (first_at g l) j
-  back_more zero lt = ap (λ q. (entry_at b q).before) u.begins ∙ u.here.3
-  back_more (suc zero) lt = ap (λ q. (entry_at b q).before) (more-hop zero (omega arith)) ∙ u.before ∙ sym u.begins
+  back_more zero lt = cc
+  back_more (suc zero) lt = cc (more-hop zero (omega arith))
   back_more (suc (suc j)) lt =
-      ap (λ q. (entry_at b q).before) (more-hop (suc j) (omega arith))
-      ∙ u.befores (hop a (first_at f l) (suc j)) (free (suc j) (omega arith)) (λ e. (let z = is_first (suc j) (omega arith) e in absurd (omega arith)))
-      ∙ h.back (suc j) (omega arith) ∙ sym (more-hop j (omega arith))
+      cc (
+        more-hop (suc j) (omega arith),
+        u.befores (hop a (first_at f l) (suc j)) (free (suc j) (omega arith))
+            (λ e. (let z = is_first (suc j) (omega arith) e in absurd (omega arith))),
+        h.back (suc j) (omega arith),
+        more-hop j (omega arith),
+      )
 
   pub more-chain : IsChain b l (first_at g l) (suc n)
   more-chain = record {
@@ -195,14 +196,13 @@ module _ (a b : List Entry) (f g : List ℕ) (l n p o : ℕ) (h : IsChain a l (f
   }
     where
       some_more : (j : ℕ) → j < suc n → 0 < hop b (first_at g l) j
-      some_more zero lt = let e = u.begins in omega arith
+      some_more zero lt = omega arith
       some_more (suc j) lt = let e = more-hop j (omega arith) in let s = h.some j (omega arith) in omega arith
 
       inside_more : (j : ℕ) → j < suc n → hop b (first_at g l) j < length b
-      inside_more zero lt = let e = u.begins in let m = u.places in omega arith
-      inside_more (suc j) lt = let e = more-hop j (omega arith) in let s = h.inside j (omega arith) in let m = u.places in omega arith
+      inside_more zero lt = omega arith
+      inside_more (suc j) lt = let e = more-hop j (omega arith) in let s = h.inside j (omega arith) in omega arith
 
       of_more : (j : ℕ) → j < suc n → (entry_at b (hop b (first_at g l) j)).list ≡ l
-      of_more zero lt = ap (λ q. (entry_at b q).list) u.begins ∙ u.here.1
-      of_more (suc j) lt = ap (λ q. (entry_at b q).list) (more-hop j (omega arith)) ∙ u.lists (hop a (first_at f l) j) (free j (omega arith))
-          ∙ h.of j (omega arith)
+      of_more zero lt = cc
+      of_more (suc j) lt = cc (more-hop j (omega arith), u.lists (hop a (first_at f l) j) (free j (omega arith)), h.of j (omega arith))

@@ -1,5 +1,5 @@
 -- A row that is cut from its end.
-use Rattle.ksv_memo_links.proofs.Common.{◌≡◌, ℕ, ◌-◌, ◌<◌, ◌≤◌, List, length, take, set, sym, ◌∙◌, ap, arith, set-set, row, pop_row}
+use Rattle.ksv_memo_links.proofs.Common.{◌≡◌, ℕ, ◌-◌, ◌<◌, ◌≤◌, List, length, take, set, ◌∙◌, ap, arith, set-set, row, pop_row}
 use Rattle.std.proofs.lemmas.List.{take-take, length-take-le}
 use Rattle.ksv_memo_links.proofs.Edits.{row_set}
 
@@ -14,27 +14,23 @@ pub cut-next : {X : Type 0} (before now then : List (List X)) (o : ℕ) → IsCu
     → (row then o ≡ take (length (row now o) - 1) (row before o)) × (then ≡ set before o (take (length (row now o) - 1) (row before o)))
 cut-next {X} before now then o h e =
     let n = length (row now o) in
-    let k = h.short in
-    let here : row now o ≡ take n (row before o) = ap (λ (rows : List (List X)). row rows o) h.is ∙ row_set before o (take n (row before o)) h.inside in
+    let here : row now o ≡ take n (row before o) = cc (row_set before o (take n (row before o)) h.inside) in
     let less : take (n - 1) (row now o) ≡ take (n - 1) (row before o) =
-    ap (λ (xs : List X). take (n - 1) xs) here ∙ take-take (n - 1) n (row before o) (omega arith) in
+    cc (take-take (n - 1) n (row before o) (omega arith)) in
     let whole : then ≡ set before o (take (n - 1) (row before o)) =
-    e ∙ ap (λ (xs : List X). set now o xs) less ∙ ap (λ (rows : List (List X)). set rows o (take (n - 1) (row before o))) h.is
-    ∙ set-set before o (take n (row before o)) (take (n - 1) (row before o)) in
-    (ap (λ (rows : List (List X)). row rows o) whole ∙ row_set before o (take (n - 1) (row before o)) h.inside, whole)
+    cc (set-set before o (take n (row before o)) (take (n - 1) (row before o))) in
+    (cc (row_set before o (take (n - 1) (row before o)) h.inside), whole)
 
 pub cut-length : {X : Type 0} (before now then : List (List X)) (o : ℕ) → IsCutTo before now o → then ≡ pop_row now o
     → length (row then o) ≡ length (row now o) - 1
 cut-length {X} before now then o h e =
-    let k = h.short in
-    ap (λ (xs : List X). length xs) (cut-next before now then o h e).0 ∙ length-take-le (length (row now o) - 1) (row before o) (omega arith)
+    ap length (cut-next before now then o h e).0 ∙ length-take-le (length (row now o) - 1) (row before o) (omega arith)
 
 pub cut-more : {X : Type 0} (before now then : List (List X)) (o : ℕ) → IsCutTo before now o → then ≡ pop_row now o → IsCutTo before then o
 cut-more {X} before now then o h e =
     let n = cut-length before now then o h e in
-    let k = h.short in
     record {
       inside = h.inside;
       short = omega arith;
-      is = (cut-next before now then o h e).1 ∙ ap (λ i. set before o (take i (row before o))) (sym n);
+      is = cc (cut-next before now then o h e).1;
     }

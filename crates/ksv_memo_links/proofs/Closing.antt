@@ -1,7 +1,7 @@
 -- What was marked is what has to go.
-use Rattle.ksv_memo_links.proofs.Common.{◌≡◌, ◌≢◌, ◌⊎◌, inl, inr, Bool, true, false, cond, eqb, ℕ, suc, ◌+◌, ◌-◌, ◌*◌, ◌<◌, ◌≤◌, max, min, List, [], ◌∷◌}
+use Rattle.ksv_memo_links.proofs.Common.{◌≡◌, ◌⊎◌, inl, inr, Bool, true, false, cond, ℕ, suc, ◌+◌, ◌-◌, ◌*◌, ◌<◌, ◌≤◌, max, min, List, [], ◌∷◌}
 use Rattle.ksv_memo_links.proofs.Common.{length, map, take, get_or, Contains, refl, sym, ◌∙◌, ap, subst, arith, true≢false, sum_by, count_by, nat_lt}
-use Rattle.ksv_memo_links.proofs.Common.{sum_by-cons, cases_lt, eqb_tells, take_all, get_or_default, Use, Change, Item, Parts, row, pages_in, ends_in}
+use Rattle.ksv_memo_links.proofs.Common.{sum_by-cons, cases_lt, eqb_tells, take_all, get_or_default, Change, Item, Parts, row, pages_in, ends_in}
 use Rattle.ksv_memo_links.proofs.Common.{lists_of_uses, end_lists, page_lists, one_if, first_page, end_page, is_kept, IsMarking, IsListed, item_at, SameLinks}
 use Rattle.ksv_memo_links.proofs.Common.{MarksMore, Why, HitsRows, Spreads, looks, sizes}
 use Rattle.std.proofs.Common.{nat_eq, nat_le, ◌||◌}
@@ -19,7 +19,7 @@ use Rattle.ksv_memo_links.proofs.Counting.{users_few, tally as tally_of}
 
 pub marking-none : (first : List Bool) (why : ℕ → Type 0) (work : List ℕ) → work ≡ [] → IsMarking first why first work
 marking-none first why work e =
-    let n = ap (λ (ws : List ℕ). length ws) e in
+    let n = ap length e in
     record {
       same_length = refl;
       less = λ s h. h;
@@ -36,7 +36,6 @@ pages-hit p q place n s l h hit =
     let m = uses-meet place n (row p.uses.rows s) hit.touched in
     let i = page-item p.uses.rows p.uses.lists l s m.page m.there in
     let there = row_there (page_lists p.uses.lists) m.page i.0 i.1 in
-    let from = m.from in let before = m.before in
     let P : ℕ → Type 0 = λ t. is_hit (Overwrite place n) p.uses.rows t ≡ true → is_kept q.marks.kept t ≡ false in
     subst P i.2 (h.out m.page i.0 (omega arith) (omega arith) i.1) hit.touched
 
@@ -55,13 +54,12 @@ pages-near p q place n b h =
     let g = sizes-grow L last (end - last) in
     let e1 : end - first + first ≡ end = omega arith in
     let e2 : end - last + last ≡ end = omega arith in
-    let f1 = ap (λ k. sizes L k) e1 in
-    let f2 = ap (λ k. sizes L k) e2 in
+    let f1 = ap (sizes L) e1 in
+    let f2 = ap (sizes L) e2 in
     let f3 = ap (λ k. tally first k N) e1 in
     let t : tally first end N ≤ sum_by (met_by (Overwrite place n)) p.uses.rows =
     rows-le (λ ns. count_by (within first end) ns) (met_by (Overwrite place n)) N p.uses.rows refl refl
-    (λ r. ap (λ ns. count_by (within first end) ns) (row_of pages_in p.uses.rows r refl)) in
-    let k = h.looks in
+    (λ r. ap (count_by (within first end)) (row_of pages_in p.uses.rows r refl)) in
     omega arith
 
 pub pages-touched : (p q : Parts) (place n pages : ℕ) → IsListed p.uses.lists (map lists_of_uses p.uses.rows)
@@ -102,23 +100,22 @@ module _ (p q : Parts) (change : Change) (place pages : ℕ) (all : AreAllWithin
       let m = max f pages in
       let a = sizes-few L N f (m - f) (few-pages p.uses.rows p.uses.lists b) in
       let a1 : m - f + f ≡ m = omega arith in
-      let a2 = ap (λ k. sizes L k) a1 in
+      let a2 = ap (sizes L) a1 in
       let a3 = ap (λ k. tally f k N) a1 in
       let a4 = tally-behind f m N in
       let a5 : sum_by (λ ns. count_by (nat_le f) ns) N ≤ sum_by (λ us. count_by (nat_le f) (pages_in us)) p.uses.rows =
       rows-le (λ ns. count_by (nat_le f) ns) (λ us. count_by (nat_le f) (pages_in us)) N p.uses.rows refl refl
-      (λ r. ap (λ ns. count_by (nat_le f) ns) (row_of pages_in p.uses.rows r refl)) in
+      (λ r. ap (count_by (nat_le f)) (row_of pages_in p.uses.rows r refl)) in
       let n = max (f + 1) (pages + 1) in
       let d = sizes-few E M (f + 1) (n - (f + 1)) (few-ends p.uses.rows p.uses.lists b) in
       let d1 : n - (f + 1) + (f + 1) ≡ n = omega arith in
-      let d2 = ap (λ k. sizes E k) d1 in
+      let d2 = ap (sizes E) d1 in
       let d3 = ap (λ k. tally (f + 1) k M) d1 in
       let z = sizes-few E M 0 1 (few-ends p.uses.rows p.uses.lists b) in
       let d4 = tally-ends f n M in
       let d5 : sum_by (λ ns. count_by (λ l. nat_eq l 0 || nat_lt f l) ns) M ≤ sum_by (λ us. count_by (λ l. nat_eq l 0 || nat_lt f l) (ends_in us)) p.uses.rows =
       rows-le (λ ns. count_by (λ l. nat_eq l 0 || nat_lt f l) ns) (λ us. count_by (λ l. nat_eq l 0 || nat_lt f l) (ends_in us)) M p.uses.rows refl refl
-      (λ r. ap (λ ns. count_by (λ l. nat_eq l 0 || nat_lt f l) ns) (row_of ends_in p.uses.rows r refl)) in
-      let k = h.looks in
+      (λ r. ap (count_by (λ l. nat_eq l 0 || nat_lt f l)) (row_of ends_in p.uses.rows r refl)) in
       omega arith
 
 pub insert-touched : (p q : Parts) (place n pages : ℕ) → AreAllWithin pages p → IsListed p.uses.lists (map lists_of_uses p.uses.rows)
@@ -161,8 +158,7 @@ sized-near p q e h =
     let d4 = tally-size M in
     let d5 : sum_by (λ ns. count_by (λ l. nat_eq l 0) ns) M ≤ sum_by (λ us. count_by (λ l. nat_eq l 0) (ends_in us)) p.uses.rows =
     rows-le (λ ns. count_by (λ l. nat_eq l 0) ns) (λ us. count_by (λ l. nat_eq l 0) (ends_in us)) M p.uses.rows refl refl
-    (λ r. ap (λ ns. count_by (λ l. nat_eq l 0) ns) (row_of ends_in p.uses.rows r refl)) in
-    let k = h.looks in
+    (λ r. ap (count_by (λ l. nat_eq l 0)) (row_of ends_in p.uses.rows r refl)) in
     omega arith
 
 pub append-touched : (p q : Parts) (pages : ℕ) → IsListed p.uses.lists (map lists_of_uses p.uses.rows)
@@ -205,15 +201,13 @@ cases_sum f (x ∷ xs) lt = by (cases_lt 0 (f x)) (cases_sum f xs)
     by (inr h) later =
         let c = sum_by-cons f x xs in
         let rest = later (omega arith) in
-        let l = rest.1 in
         (suc rest.0, omega arith, rest.2)
 
 one-is : (a b : ℕ) → 0 < one_if a b → b ≡ a
-one-is a b lt = by (eqb_tells a b)
-  where
-    by : ((eqb a b ≡ true) × (a ≡ b)) ⊎ ((eqb a b ≡ false) × (a ≢ b)) → b ≡ a
-    by (inl e) = sym e.1
-    by (inr e) = let z : one_if a b ≡ 0 = ap (λ x. cond x 1 0) e.0 in absurd (omega arith)
+one-is a b lt = elim (eqb_tells a b) [
+  | inl e ↦ sym e.1
+  | inr e ↦ let z : one_if a b ≡ 0 = ap (λ x. cond x 1 0) e.0 in absurd (omega arith)
+]
 
 positive : (f : ℕ → ℕ) (xs : List ℕ) → 0 < sum_by f xs → (x : ℕ) × Contains xs x × (0 < f x)
 positive f xs lt = by (cases_sum f xs lt)
@@ -238,8 +232,7 @@ module _ (p q r : Parts) (change : Change) (pages : ℕ) (w : IsWhole p) (idle :
   out : (s : ℕ) → Contains r.marks.work s → (is_kept p.marks.kept s ≡ true) × (is_kept r.marks.kept s ≡ false) × Why p p.marks.kept change s
   out s c =
       let g = marking.gone c.0 c.1 in
-      let P : ℕ → Type 0 = λ n. (is_kept p.marks.kept n ≡ true) × (is_kept r.marks.kept n ≡ false) × Why p p.marks.kept change n in
-      subst P (get_or_default r.marks.work c.0 0 s c.1 ∙ c.2) g
+      rw (get_or_default r.marks.work c.0 0 s c.1 ∙ c.2) at g
 
   left : (s : ℕ) → is_kept p.marks.kept s ≡ true → (Contains r.marks.work s → ⊥) → (is_kept r.marks.kept s ≡ true) ⊎ (is_kept r.marks.kept s ≡ false)
       → is_kept r.marks.kept s ≡ true
@@ -266,16 +259,15 @@ module _ (p q r : Parts) (change : Change) (pages : ℕ) (w : IsWhole p) (idle :
   vacant_still : (s : ℕ) → is_kept r.marks.kept s ≡ false → (Contains r.marks.work s → ⊥) → (is_kept p.marks.kept s ≡ true) ⊎ (is_kept p.marks.kept s ≡ false)
       → (row p.asks.named s ≡ []) × (row p.uses.rows s ≡ [])
   vacant_still s e non (inl k) = absurd (non (marking.out s k e))
-  vacant_still s e non (inr k) = w.vacant s k (λ c. (let lt = c.1 in let z = ap (λ (ws : List ℕ). length ws) idle in absurd (omega arith)))
+  vacant_still s e non (inr k) = w.vacant s k (λ c. (let z = ap length idle in absurd (omega arith)))
 
   pub whole-after : IsWhole r
   whole-after = record {
     shaped = shaped-more p r w.shaped same to_r.same_length;
     asked_kept = λ s k e.
-        (let P : List (List ℕ) → Type 0 = λ rows. k < length (row rows s)
-        → is_kept r.marks.kept (get_or (row rows s) k 0) ≡ true in subst P (sym same.asks) (asked_still s k e));
+        (rw same.asks (asked_still s k e));
     vacant = λ s e non. (let v = vacant_still s e non (cases_Bool (is_kept p.marks.kept s)) in
-        (ap (λ (rows : List (List ℕ)). row rows s) same.asks ∙ v.0, ap (λ (rows : List (List Use)). row rows s) same.uses ∙ v.1));
+        (cc same.asks, cc same.uses));
     waits = λ s c. (out s c).1;
     apart = marking.apart;
   }
@@ -288,32 +280,28 @@ module _ (p q r : Parts) (change : Change) (pages : ℕ) (w : IsWhole p) (idle :
       let same_slot : b.0 ≡ a.0 = one-is a.0 b.0 b.2 in
       let k = b.1.0 in
       let name : get_or (row p.asks.named o) k 0 ≡ a.0 = get_or_default (row p.asks.named o) k 0 b.0 b.1.1 ∙ b.1.2 ∙ same_slot in
-      marking.out o (was_kept (cases_Bool (is_kept p.marks.kept o)) b.1.1) (user-reached p q r o k a.0 asks b.1.1 name h.more.same spread a.1)
-    where
-      was_kept : {k : ℕ} → (is_kept p.marks.kept o ≡ true) ⊎ (is_kept p.marks.kept o ≡ false) → k < length (row p.asks.named o) → is_kept p.marks.kept o ≡ true
-      was_kept (inl e) l = e
-      was_kept (inr e) l =
-          let v = w.vacant o e (λ c. (let lt = c.1 in let z = ap (λ (ws : List ℕ). length ws) idle in absurd (omega arith))) in
-          let n = ap (λ (ns : List ℕ). length ns) v.0 in absurd (omega arith)
+      marking.out o (elim (cases_Bool (is_kept p.marks.kept o)) [
+        | inl e ↦ e
+        | inr e ↦ let v = w.vacant o e (λ c. (let z = ap length idle in absurd (omega arith))) in
+            let n = ap length v.0 in absurd (omega arith)
+      ]) (user-reached p q r o k a.0 asks b.1.1 name h.more.same spread a.1)
 
   pub near : IsNear change p r
   near o =
       let a = h.near o in
-      let b = spread.looks in
       let u = users_few p.asks.lists p.asks.named r.marks.work marking.apart asks.few closed in
-      let e = ap (λ (rows : List (List Item)). lengths rows (take (length r.marks.work) r.marks.work)) h.more.same.ask_lists in
-      let f = ap (λ (ws : List ℕ). lengths p.asks.lists ws) (take_all (length r.marks.work) r.marks.work (omega arith)) in
-      let z = ap (λ (ws : List ℕ). length ws) idle in
+      let e = ap (λ rows. lengths rows (take (length r.marks.work) r.marks.work)) h.more.same.ask_lists in
+      let f = ap (lengths p.asks.lists) (take_all (length r.marks.work) r.marks.work (omega arith)) in
+      let z = ap length idle in
       omega arith
 
   pub behind : IsBehind change pages p r
   behind o =
       let a = h.behind o in
-      let b = spread.looks in
       let u = users_few p.asks.lists p.asks.named r.marks.work marking.apart asks.few closed in
-      let e = ap (λ (rows : List (List Item)). lengths rows (take (length r.marks.work) r.marks.work)) h.more.same.ask_lists in
-      let f = ap (λ (ws : List ℕ). lengths p.asks.lists ws) (take_all (length r.marks.work) r.marks.work (omega arith)) in
-      let z = ap (λ (ws : List ℕ). length ws) idle in
+      let e = ap (λ rows. lengths rows (take (length r.marks.work) r.marks.work)) h.more.same.ask_lists in
+      let f = ap (lengths p.asks.lists) (take_all (length r.marks.work) r.marks.work (omega arith)) in
+      let z = ap length idle in
       omega arith
 
   pub rises : looks p ≤ looks r

@@ -14,7 +14,7 @@ swapped {X} {Y} f [] ys = sym (zeros ys)
     zeros : (ys : List Y) → sum_by (λ (y : Y). 0) ys ≡ 0
     zeros [] = refl
     zeros (y ∷ ys) = sum_by-cons (λ (y : Y). 0) y ys ∙ (let h = zeros ys in omega arith)
-swapped {X} {Y} f (x ∷ xs) ys = sum_by-cons (λ x. sum_by (f x) ys) x xs ∙ ap (λ n. sum_by (f x) ys + n) (swapped f xs ys) ∙ both ys
+swapped {X} {Y} f (x ∷ xs) ys = cc (sum_by-cons (λ x. sum_by (f x) ys) x xs, swapped f xs ys, both ys)
   where
     both : (ys : List Y) → sum_by (f x) ys + sum_by (λ y. sum_by (λ x. f x y) xs) ys ≡ sum_by (λ y. sum_by (λ x. f x y) (x ∷ xs)) ys
     both [] = omega arith
@@ -27,46 +27,41 @@ swapped {X} {Y} f (x ∷ xs) ys = sum_by-cons (λ x. sum_by (f x) ys) x xs ∙ a
         omega arith
 
 row_emptied : (rows : List (List ℕ)) (w : ℕ) → row (set rows w []) w ≡ []
-row_emptied rows w = by (cases_lt w (length rows))
-  where
-    by : (w < length rows) ⊎ (length rows ≤ w) → row (set rows w []) w ≡ []
-    by (inl lt) = row_set rows w [] lt
-    by (inr le) = ap (λ (rs : List (List ℕ)). row rs w) (set_past rows w [] le) ∙ get_or_past rows w [] le
+row_emptied rows w = elim (cases_lt w (length rows)) [
+  | inl lt ↦ row_set rows w [] lt
+  | inr le ↦ cc (set_past rows w [] le, get_or_past rows w [] le)
+]
 
 -- one row less
 sum_emptied : (g : List ℕ → ℕ) → g [] ≡ 0 → (rows : List (List ℕ)) (w : ℕ) → sum_by g (set rows w []) + g (row rows w) ≡ sum_by g rows
-sum_emptied g z rows w = by (cases_lt w (length rows))
-  where
-    by : (w < length rows) ⊎ (length rows ≤ w) → sum_by g (set rows w []) + g (row rows w) ≡ sum_by g rows
-    by (inl lt) = let e = sum_by-set g rows w [] [] lt in omega arith
-    by (inr le) = let e = ap (λ (rs : List (List ℕ)). sum_by g rs) (set_past rows w [] le) in let f = ap g (get_or_past rows w [] le) in omega arith
+sum_emptied g z rows w = elim (cases_lt w (length rows)) [
+  | inl lt ↦ let e = sum_by-set g rows w [] [] lt in omega arith
+  | inr le ↦ let e = ap (sum_by g) (set_past rows w [] le) in let f = ap g (get_or_past rows w [] le) in omega arith
+]
 
 less_after : (g : List ℕ → ℕ) → g [] ≡ 0 → (rows : List (List ℕ)) (w o : ℕ) → g (row (set rows w []) o) ≤ g (row rows o)
-less_after g z rows w o = by (eqb_tells o w)
-  where
-    by : ((eqb o w ≡ true) × (o ≡ w)) ⊎ ((eqb o w ≡ false) × (o ≢ w)) → g (row (set rows w []) o) ≤ g (row rows o)
-    by (inl e) = let f = ap (λ n. g (row (set rows w []) n)) e.1 in let k = ap g (row_emptied rows w) in omega arith
-    by (inr e) = let f = ap g (row_other rows w o [] e.1) in omega arith
+less_after g z rows w o = elim (eqb_tells o w) [
+  | inl e ↦ let f = ap (λ n. g (row (set rows w []) n)) e.1 in let k = ap g (row_emptied rows w) in omega arith
+  | inr e ↦ let f = ap g (row_other rows w o [] e.1) in omega arith
+]
 
 left_after : (g : List ℕ → ℕ) → g [] ≡ 0 → (rows : List (List ℕ)) (w : ℕ) (ws : List ℕ) → ((o : ℕ) → 0 < g (row rows o) → Contains (w ∷ ws) o) → (o : ℕ)
     → 0 < g (row (set rows w []) o) → Contains ws o
-left_after g z rows w ws h o lt = by (eqb_tells o w)
+left_after g z rows w ws h o lt = elim (eqb_tells o w) [
+  | inl e ↦ let f = ap (λ n. g (row (set rows w []) n)) e.1 in let k = ap g (row_emptied rows w) in absurd (omega arith)
+  | inr e ↦ let f = ap g (row_other rows w o [] e.1) in later (first_or_later w ws o (h o (omega arith))) e.1
+]
   where
     later : (w ≡ o) ⊎ Contains ws o → o ≢ w → Contains ws o
     later (inl e) ne = absurd (ne (sym e))
     later (inr c) ne = c
 
-    by : ((eqb o w ≡ true) × (o ≡ w)) ⊎ ((eqb o w ≡ false) × (o ≢ w)) → Contains ws o
-    by (inl e) = let f = ap (λ n. g (row (set rows w []) n)) e.1 in let k = ap g (row_emptied rows w) in absurd (omega arith)
-    by (inr e) = let f = ap g (row_other rows w o [] e.1) in later (first_or_later w ws o (h o (omega arith))) e.1
-
 none_counts : (g : List ℕ → ℕ) (rows : List (List ℕ)) → ((o : ℕ) → 0 < g (row rows o) → Contains {X = ℕ} [] o) → (k : ℕ) (d : List ℕ) → k < length rows
     → g (get_or rows k d) ≤ 0
-none_counts g rows h k d lt = by (cases_lt 0 (g (row rows k)))
-  where
-    by : (0 < g (row rows k)) ⊎ (g (row rows k) ≤ 0) → g (get_or rows k d) ≤ 0
-    by (inl p) = absurd (none_in k (h k p))
-    by (inr le) = let e = ap g (get_or_default rows k d [] lt) in omega arith
+none_counts g rows h k d lt = elim (cases_lt 0 (g (row rows k))) [
+  | inl p ↦ absurd (none_in k (h k p))
+  | inr le ↦ let e = ap g (get_or_default rows k d [] lt) in omega arith
+]
 
 -- a sum over rows is one over the slots of the rows that count
 pub supported : (g : List ℕ → ℕ) → g [] ≡ 0 → (ws : List ℕ) (rows : List (List ℕ)) → ((o : ℕ) → 0 < g (row rows o) → Contains ws o)
@@ -92,7 +87,7 @@ not_counted n (v ∷ vs) k = not_counted_next n v vs k (eqb_tells v n) (not_coun
 one_more : (w : ℕ) (ws : List ℕ) (n : ℕ) → AllPairs (λ (a b : ℕ). a ≢ b) (w ∷ ws) → ((eqb w n ≡ true) × (w ≡ n)) ⊎ ((eqb w n ≡ false) × (w ≢ n))
     → sum_by (λ s. one_if s n) ws ≤ 1 → sum_by (λ s. one_if s n) (w ∷ ws) ≤ 1
 one_more w ws n h (inl e) ih = let c = sum_by-cons (λ s. one_if s n) w ws in let r =
-    not_counted n ws (let P : ℕ → Type 0 = λ m. Contains ws m → ⊥ in subst P e.1 (not_later [] ws w h)) in let t : one_if w n ≡ 1 =
+    not_counted n ws (rw e.1 at (not_later [] ws w h)) in let t : one_if w n ≡ 1 =
     ap (λ b. cond b 1 0) e.0 in omega arith
 one_more w ws n h (inr e) ih = let c = sum_by-cons (λ s. one_if s n) w ws in let t : one_if w n ≡ 0 = ap (λ b. cond b 1 0) e.0 in omega arith
 

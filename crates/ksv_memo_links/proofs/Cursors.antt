@@ -1,6 +1,6 @@
 -- Where a walk along the items of a list is, told from the place that it has, and how it goes on.
 use Rattle.ksv_memo_links.proofs.Common.{◌≡◌, ◌≢◌, ◌⊎◌, inl, inr, true, false, eqb, cond, ℕ, zero, suc, ◌+◌, ◌-◌, ◌<◌, ◌≤◌, List, [], ◌∷◌, length, get_or, refl}
-use Rattle.ksv_memo_links.proofs.Common.{sym, ◌∙◌, ap, subst, arith, eqb_tells, Item, row, at, item_at, IsListed}
+use Rattle.ksv_memo_links.proofs.Common.{ap, subst, arith, eqb_tells, Item, row, at, item_at, IsListed}
 
 -- how many of these items come from the one at a place on
 abbrev pub left_from : List Item → ℕ → ℕ
@@ -44,13 +44,13 @@ pub record Steps (lists : List (List Item)) (s p : ℕ) (x : Item) : Type 0 wher
 
 module _ (lists : List (List Item)) (named : List (List ℕ)) (s : ℕ) (h : IsListed lists named) where
   left-is : (i p : ℕ) → i ≤ length (row lists s) → p ≡ (item_at lists s i).at → left_from (row lists s) p ≡ length (row lists s) - i
-  left-is i p le e = ap (λ q. left_from (row lists s) q) e ∙ left-at (row lists s) (h.apart s) i le
+  left-is i p le e = cc (left-at (row lists s) (h.apart s) i le)
 
   seen-is : (i p : ℕ) → i ≤ length (row lists s) → p ≡ (item_at lists s i).at → seen_to (row lists s) p ≡ i
   seen-is i p le e = let l = left-is i p le e in omega arith
 
   stands-at : (i p : ℕ) → i ≤ length (row lists s) → p ≡ (item_at lists s i).at → StandsAt lists s p
-  stands-at i p le e = e ∙ sym (ap (λ n. (item_at lists s n).at) (seen-is i p le e))
+  stands-at i p le e = cc (seen-is i p le e)
 
   -- at the first item
   pub starts : (p : ℕ) → p ≡ (item_at lists s 0).at → StandsAt lists s p × (seen_to (row lists s) p ≡ 0)
@@ -65,7 +65,6 @@ module _ (lists : List (List Item)) (named : List (List ℕ)) (s : ℕ) (h : IsL
       → (i < length (row ls list)) × (x.owner ≡ (item_at ls list i).owner) × (x.at ≡ (item_at ls list (i + 1)).at) in
       let i = seen_to (row lists s) p in
       let found = subst P same tells s i stands in
-      let lt = found.0 in
       let before = left-is i p (omega arith) stands in
       let after = left-is (i + 1) x.at (omega arith) found.2 in
       record {

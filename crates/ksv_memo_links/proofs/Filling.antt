@@ -1,14 +1,14 @@
 -- A row that is filled number by number.
-use Rattle.ksv_memo_links.proofs.Common.{◌≡◌, ℕ, ◌+◌, ◌<◌, List, length, ◌∷◌, ◌++◌, [], take, set, get_or, sym, ◌∙◌, ap, set-set, row, push_row}
+use Rattle.ksv_memo_links.proofs.Common.{◌≡◌, ℕ, ◌+◌, ◌<◌, List, length, ◌∷◌, ◌++◌, [], take, set, get_or, ◌∙◌, set-set, row, push_row}
 use Rattle.std.proofs.lemmas.List.{take_more}
 use Rattle.ksv_memo_links.proofs.Edits.{row_set}
 
 filled : (before now : List (List ℕ)) (o i n : ℕ) (ns : List ℕ) → o < length before → i < length ns → n ≡ get_or ns i 0 → now ≡ set before o (take i ns)
     → push_row now o n ≡ set before o (take (i + 1) ns)
 filled before now o i n ns lt li is e =
-    let here : row now o ≡ take i ns = ap (λ (rows : List (List ℕ)). row rows o) e ∙ row_set before o (take i ns) lt in
-    let next : row now o ++ n ∷ [] ≡ take (i + 1) ns = ap (λ (xs : List ℕ). xs ++ n ∷ []) here ∙ ap (λ m. take i ns ++ m ∷ []) is ∙ sym (take_more ns i 0 li) in
-    ap (λ (xs : List ℕ). set now o xs) next ∙ ap (λ (rows : List (List ℕ)). set rows o (take (i + 1) ns)) e ∙ set-set before o (take i ns) (take (i + 1) ns)
+    let here : row now o ≡ take i ns = cc (row_set before o (take i ns) lt) in
+    let next : row now o ++ n ∷ [] ≡ take (i + 1) ns = cc (take_more ns i 0 li) in
+    cc (set-set before o (take i ns) (take (i + 1) ns))
 
 pub one-more : (before now then : List (List ℕ)) (o i n : ℕ) (ns : List ℕ) → o < length before → i < length ns → n ≡ get_or ns i 0
     → now ≡ set before o (take i ns) → then ≡ push_row now o n → then ≡ set before o (take (i + 1) ns)

@@ -1,7 +1,7 @@
 -- The chains stay whole when owners and lists are added.
 use Rattle.ksv_memo_links.proofs.Common.{◌≡◌, ℕ, zero, suc, ◌≤◌, List, [], ◌++◌, length, replicate, refl, sym, ◌∙◌, ap, subst, arith, sum_by, append-nil}
 use Rattle.ksv_memo_links.proofs.Common.{map-append, length-append, sum_by-cons, Entry, Block, HasSameRows, naming, one_if, entry_at, block_at, first_at}
-use Rattle.ksv_memo_links.proofs.Common.{lists_in, named_of, hop, IsChain, IsLive, IsChained}
+use Rattle.ksv_memo_links.proofs.Common.{lists_in, named_of, hop, IsChain, IsChained}
 use Rattle.std.proofs.Common.{Result, Ok, Err, OnOk, OnErr}
 use Rattle.std.proofs.lemmas.List.Sums.{sum_by-append}
 use Rattle.ksv_memo_links.proofs.Padding.{padded}
@@ -33,15 +33,15 @@ module _ (a : List Entry) (B : List Block) (f : List ℕ) (n : ℕ) (h : IsChain
 
   pub same-named : HasSameRows (named_of a B) (named_of a more)
   same-named = record {
-    more = (let e = ap (λ (rows : List (List ℕ)). length rows)
+    more = (let e = ap length
         (map-append (λ (b : Block). lists_in a b.begin b.count) B (replicate n (record { begin = 0; count = 0 }))) in let m =
         length-append (named_of a B) (named_of a (replicate n (record { begin = 0; count = 0 }))) in omega arith);
-    each = λ s. named-row a more s ∙ ap (λ (b : Block). lists_in a b.begin b.count) (same-blocks s) ∙ sym (named-row a B s);
+    each = λ s. cc (named-row a more s, same-blocks s, named-row a B s);
   }
 
   pub same-naming : (l : ℕ) → naming (named_of a more) l ≡ naming (named_of a B) l
   same-naming l =
-      let e = ap (λ (rows : List (List ℕ)). naming rows l)
+      let e = ap (λ rows. naming rows l)
       (map-append (λ (b : Block). lists_in a b.begin b.count) B (replicate n (record { begin = 0; count = 0 }))) in
       let m = sum_by-append (λ (ns : List ℕ). sum_by (one_if l) ns) (named_of a B) (named_of a (replicate n (record { begin = 0; count = 0 }))) in
       let z = none-named a n l in
@@ -49,10 +49,10 @@ module _ (a : List Entry) (B : List Block) (f : List ℕ) (n : ℕ) (h : IsChain
 
   pub chained-owners : IsChained a more f
   chained-owners = record {
-    chains = λ l. subst (λ m. IsChain a l (first_at f l) m) (sym (same-naming l)) (h.chains l);
+    chains = λ l. subst (IsChain a l (first_at f l)) (sym (same-naming l)) (h.chains l);
     inside = λ s p v. h.inside s p (live-as more B s p (sym (same-blocks s)) v);
     owner = λ s p v. h.owner s p (live-as more B s p (sym (same-blocks s)) v);
-    found = λ s p v. (let k = h.found s p (live-as more B s p (sym (same-blocks s)) v) in let lt = k.1 in
+    found = λ s p v. (let k = h.found s p (live-as more B s p (sym (same-blocks s)) v) in
         (k.0, (let m = same-naming (entry_at a p).list in omega arith), k.2));
     live = λ l i lt. (let m = same-naming l in live-as B more (entry_at a (hop a (first_at f l) i)).owner (hop a (first_at f l) i)
         (same-blocks (entry_at a (hop a (first_at f l) i)).owner) (h.live l i (omega arith)));
@@ -61,10 +61,10 @@ module _ (a : List Entry) (B : List Block) (f : List ℕ) (n : ℕ) (h : IsChain
 
   pub chained-lists : IsChained a B (f ++ replicate n 0)
   chained-lists = record {
-    chains = λ l. subst (λ p. IsChain a l p (naming (named_of a B) l)) (sym (padded f n l 0)) (h.chains l);
+    chains = λ l. rw (padded f n l 0) (h.chains l);
     inside = h.inside;
     owner = h.owner;
-    found = λ s p v. (let k = h.found s p v in (k.0, k.1, ap (λ q. hop a q k.0) (padded f n (entry_at a p).list 0) ∙ k.2));
-    live = λ l i lt. subst (λ p. IsLive B (entry_at a (hop a p i)).owner (hop a p i)) (sym (padded f n l 0)) (h.live l i lt);
+    found = λ s p v. (let k = h.found s p v in (k.0, k.1, cc (padded f n (entry_at a p).list 0)));
+    live = λ l i lt. rw (padded f n l 0) (h.live l i lt);
     fits = h.fits;
   }

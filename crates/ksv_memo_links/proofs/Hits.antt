@@ -1,5 +1,5 @@
 -- Why the marks of the code are right, one upon another.
-use Rattle.ksv_memo_links.proofs.Common.{◌≡◌, ◌≢◌, ◌⊎◌, inl, inr, Bool, true, false, eqb, ℕ, suc, ◌+◌, ◌*◌, ◌<◌, ◌≤◌, max, min, List, [], ◌∷◌, length, map}
+use Rattle.ksv_memo_links.proofs.Common.{◌≡◌, inl, inr, Bool, true, false, ℕ, suc, ◌+◌, ◌*◌, ◌<◌, ◌≤◌, max, min, List, [], ◌∷◌, length, map}
 use Rattle.ksv_memo_links.proofs.Common.{get_or, refl, sym, ◌∙◌, ap, subst, arith, eqb_tells, Use, Change, Item, Parts, row, lists_of_uses, end_lists}
 use Rattle.ksv_memo_links.proofs.Common.{page_lists, at, first_page, is_kept, Chained, IsListed, item_at, SameLinks, looks, Why, MarksMore, HitsRow, HitsRows}
 use Rattle.ksv_memo_links.proofs.Common.{sizes}
@@ -18,8 +18,7 @@ pub listed-in : (rows : List (List Use)) (lists : List (List Item)) (l i : ℕ) 
     → 0 < length (row rows (item_at lists l i).owner)
 listed-in rows lists l i h lt =
     let k = h.owners l i lt in
-    let some = k.1 in
-    let e = ap (λ (ns : List ℕ). length ns) (row_of lists_of_uses rows (item_at lists l i).owner refl) in
+    let e = ap length (row_of lists_of_uses rows (item_at lists l i).owner refl) in
     by (row rows (item_at lists l i).owner) (omega arith)
   where
     by : (us : List Use) → 0 < length (lists_of_uses us) → 0 < length us
@@ -37,7 +36,7 @@ user-why p slot i l lt first x w =
 pub hit-marked : (p q : Parts) (change : Change) (slot : ℕ) → MarksOne p q slot → is_hit change p.uses.rows slot ≡ true
     → looks q + 2 * length p.marks.work ≤ looks p + 2 + 2 * length q.marks.work → HitsSlot p q change slot
 hit-marked p q change slot one t few = record {
-  more = one-mark p q (IsEdit change) slot one (λ first x e k. here slot (record { was_kept = k; touched = ap (λ c. is_hit c p.uses.rows slot) e ∙ t }));
+  more = one-mark p q (IsEdit change) slot one (λ first x e k. here slot (record { was_kept = k; touched = cc }));
   out = λ _. one-out p q slot one;
   looks = few;
 }
@@ -93,18 +92,17 @@ row-more p q q1 r change items i slot h k lt e u = record {
   out = below-more (λ j. is_hit change p.uses.rows (get_or items j (at 0 0)).owner ≡ true → is_kept r.marks.kept (get_or items j (at 0 0)).owner ≡ false) i
       (λ j lj t. stays-out q.marks.kept r.marks.kept (get_or items j (at 0 0)).owner fewer (h.out j lj t)) last;
   within = omega arith;
-  looks = let len = ap (λ (ws : List ℕ). length ws) k.work in let a = h.looks in let b = k.looks in let d = u.looks in omega arith;
+  looks = let len = ap length k.work in omega arith;
 }
   where
     to_q1 : MarksMore p q1 (IsEdit change)
     to_q1 = peek-more p q q1 (IsEdit change) h.more k
 
     fewer : (s : ℕ) → is_kept r.marks.kept s ≡ true → is_kept q.marks.kept s ≡ true
-    fewer s f = ap (λ (ks : List Bool). is_kept ks s) (sym k.kept) ∙ u.more.fewer s f
+    fewer s f = cc (u.more.fewer s f)
 
     last : is_hit change p.uses.rows (get_or items i (at 0 0)).owner ≡ true → is_kept r.marks.kept (get_or items i (at 0 0)).owner ≡ false
-    last t = ap (λ s. is_kept r.marks.kept s) (sym e)
-        ∙ u.out (ap (λ rows. is_hit change rows slot) to_q1.same.uses ∙ ap (λ s. is_hit change p.uses.rows s) e ∙ t)
+    last t = cc (u.out (ap (λ rows. is_hit change rows slot) to_q1.same.uses ∙ ap (is_hit change p.uses.rows) e ∙ t))
 
 -- there is no item more, which took no look
 pub row-end : (p q q1 : Parts) (change : Change) (items : List Item) (i : ℕ) → HitsRow p q change items i 0 → Peeks q q1 → looks q1 ≡ looks q → length items ≤ i
@@ -112,20 +110,20 @@ pub row-end : (p q q1 : Parts) (change : Change) (items : List Item) (i : ℕ) �
 row-end p q q1 change items i h k idle le =
     let w = h.within in
     let same : i ≡ length items = omega arith in
-    subst (λ m. HitsRow p q1 change items m 0) same (record {
+    rw (← same) (record {
       more = peek-more p q q1 (IsEdit change) h.more k;
-      out = λ j lj t. ap (λ (ks : List Bool). is_kept ks (get_or items j (at 0 0)).owner) k.kept ∙ h.out j lj t;
+      out = λ j lj t. cc (h.out j lj t);
       within = w;
-      looks = let len = ap (λ (ws : List ℕ). length ws) k.work in let a = h.looks in omega arith;
+      looks = let len = ap length k.work in omega arith;
     })
 
 -- the first item was looked for before the others
 pub row-from : (p p1 r : Parts) (change : Change) (items : List Item) (n : ℕ) → Peeks p p1 → HitsRow p1 r change items n 0 → HitsRow p r change items n 1
 row-from p p1 r change items n k h = record {
   more = more-trans p p1 r (IsEdit change) (IsEdit change) to_p1 h.more (λ first x e m. e);
-  out = λ i lt t. h.out i lt (ap (λ rows. is_hit change rows (get_or items i (at 0 0)).owner) k.same.uses ∙ t);
+  out = λ i lt t. h.out i lt (cc);
   within = h.within;
-  looks = let len = ap (λ (ws : List ℕ). length ws) k.work in let a = h.looks in let b = k.looks in omega arith;
+  looks = let len = ap length k.work in omega arith;
 }
   where
     to_p1 : MarksMore p p1 (IsEdit change)
@@ -133,26 +131,29 @@ row-from p p1 r change items n k h = record {
 
 -- the same items, found otherwise
 pub row-as : (p q : Parts) (change : Change) (xs ys : List Item) → xs ≡ ys → HitsRow p q change xs (length xs) 1 → HitsRow p q change ys (length ys) 1
-row-as p q change xs ys e h = subst (λ zs. HitsRow p q change zs (length zs) 1) e h
+row-as p q change xs ys e h = rw e at h
 
 pub rows-none : (p : Parts) (change : Change) (lists : List (List Item)) (a : ℕ) → HitsRows p p change lists a a
 rows-none p change lists a = record {
   more = no-mark p p (IsEdit change) (record { asks = refl; ask_lists = refl; uses = refl; use_lists = refl }) refl refl (λ from c. c) (omega arith);
   out = λ g i le lt k t. absurd (omega arith);
-  looks = let m : max a a ≡ a = omega arith in let e = ap (λ n. sizes lists n) m in omega arith;
+  looks = let m : max a a ≡ a = omega arith in let e = ap (sizes lists) m in omega arith;
 }
 
 pub rows-more : (p q r : Parts) (change : Change) (lists : List (List Item)) (a g : ℕ) → a ≤ g → HitsRows p q change lists a g
     → HitsRow q r change (row lists g) (length (row lists g)) 1 → HitsRows p r change lists a (g + 1)
 rows-more p q r change lists a g le h k = record {
   more = more-trans p q r (IsEdit change) (IsEdit change) h.more k.more (λ first x e n. e);
-  out = λ f i l lt. out f i l lt (eqb_tells f g);
+  out = λ f i l lt. elim (eqb_tells f g) [
+    | inl e ↦ rw e.1 (here_it i)
+    | inr e ↦ λ n t. stays-out q.marks.kept r.marks.kept (item_at lists f i).owner k.more.fewer (h.out f i l (omega arith) n t)
+  ];
   looks =
       let m : max a g ≡ g = omega arith in
       let m1 : max a (g + 1) ≡ suc g = omega arith in
-      let e = ap (λ n. sizes lists n) m in
-      let e1 = ap (λ n. sizes lists n) m1 in
-      let x = h.looks in let y = k.looks in omega arith;
+      let e = ap (sizes lists) m in
+      let e1 = ap (sizes lists) m1 in
+      omega arith;
 }
   where
     P : ℕ → ℕ → Type 0
@@ -160,13 +161,7 @@ rows-more p q r change lists a g le h k = record {
 
     here_it : (i : ℕ) → P g i
     here_it i =
-        let F : List (List Use) → Type 0 = λ uses. i < length (row lists g) → is_hit change uses (item_at lists g i).owner ≡ true
-        → is_kept r.marks.kept (item_at lists g i).owner ≡ false in
-        subst F h.more.same.uses (k.out i)
-
-    out : (f i : ℕ) → a ≤ f → f < g + 1 → ((eqb f g ≡ true) × (f ≡ g)) ⊎ ((eqb f g ≡ false) × (f ≢ g)) → P f i
-    out f i l lt (inl e) = subst (λ n. P n i) (sym e.1) (here_it i)
-    out f i l lt (inr e) = λ n t. stays-out q.marks.kept r.marks.kept (item_at lists f i).owner k.more.fewer (h.out f i l (let ne = e.1 in omega arith) n t)
+        rw h.more.same.uses at (k.out i)
 
 -- the size, the ends after a place and the pages there, one after the other
 pub hits-behind : (p q1 q2 r : Parts) (change : Change) (place pages : ℕ)
@@ -180,12 +175,11 @@ hits-behind p q1 q2 r change place pages a b c = record {
       (a.out 0 i (omega arith) (let there = row_there (end_lists p.uses.lists) 0 i lt in omega arith) lt t);
   ended = λ l i le lp lt t. stays-out q2.marks.kept r.marks.kept (item_at (end_lists p.uses.lists) l i).owner c.more.fewer
       (b.out l i (omega arith) (let there = row_there (end_lists p.uses.lists) l i lt in omega arith) lt
-      (ap (λ rows. is_hit change rows (item_at (end_lists p.uses.lists) l i).owner) a.more.same.uses ∙ t));
+      (cc));
   met = λ g i le lp lt t. c.out g i le (let there = row_there (page_lists p.uses.lists) g i lt in omega arith) lt
-      (ap (λ rows. is_hit change rows (item_at (page_lists p.uses.lists) g i).owner) to_q2.same.uses ∙ t);
+      (cc to_q2.same.uses);
   looks =
       let f = first_page place in
-      let x = a.looks in let y = b.looks in let z = c.looks in
       let s1 = sizes-up (end_lists p.uses.lists) (max 0 (min 1 (length (end_lists p.uses.lists)))) 1 (omega arith) in
       let s2 = sizes-up (end_lists p.uses.lists) (max (f + 1) (min (pages + 1) (length (end_lists p.uses.lists)))) (max (f + 1) (pages + 1)) (omega arith) in
       let s3 = sizes-up (page_lists p.uses.lists) (max f (min pages (length (page_lists p.uses.lists)))) (max f pages) (omega arith) in

@@ -1,6 +1,6 @@
 -- The items of a list, as the chain of its entries has them.
-use Rattle.ksv_memo_links.proofs.Common.{◌≡◌, ◌≢◌, ◌⊎◌, inl, inr, ℕ, zero, suc, ◌+◌, ◌-◌, ◌<◌, ◌≤◌, List, [], ◌∷◌, length, get_or, refl, sym, ◌∙◌, ap, subst}
-use Rattle.ksv_memo_links.proofs.Common.{arith, cases_lt, get_or_past, Item, Entry, Block, row, at, naming, entry_at, block_at, first_at, named_of, hop, IsLive}
+use Rattle.ksv_memo_links.proofs.Common.{◌≡◌, ◌≢◌, ◌⊎◌, inl, inr, ℕ, zero, suc, ◌+◌, ◌-◌, ◌<◌, ◌≤◌, List, [], ◌∷◌, length, get_or, refl, sym, ◌∙◌, ap}
+use Rattle.ksv_memo_links.proofs.Common.{arith, cases_lt, get_or_past, Entry, Block, row, at, naming, entry_at, block_at, first_at, named_of, hop, IsLive}
 use Rattle.ksv_memo_links.proofs.Common.{IsChained, IsListed}
 use Rattle.ksv_memo_links.specs.Chained.{items_from, rows_from, lists_of}
 use Rattle.ksv_memo_links.proofs.Chaining.{apart}
@@ -28,8 +28,7 @@ pub rows-row : (a : List Entry) (rows : List (List ℕ)) (l : ℕ) (f : List ℕ
     → row (rows_from a rows l f) i ≡ items_from a (first_at f i) (naming rows (l + i))
 rows-row a rows l [] i lt = absurd (omega arith)
 rows-row a rows l (p ∷ f) zero lt = let e : l ≡ l + 0 = omega arith in ap (λ k. items_from a p (naming rows k)) e
-rows-row a rows l (p ∷ f) (suc i) lt = let e : l + 1 + i ≡ l + suc i = omega arith in rows-row a rows (l + 1) f i (omega arith)
-    ∙ ap (λ k. items_from a (first_at f i) (naming rows k)) e
+rows-row a rows l (p ∷ f) (suc i) lt = let e : l + 1 + i ≡ l + suc i = omega arith in cc (rows-row a rows (l + 1) f i (omega arith))
 
 pub lists-length : (a : List Entry) (B : List Block) (f : List ℕ) → length (lists_of a B f) ≡ length f
 lists-length a B f = rows-length a (named_of a B) 0 f
@@ -37,45 +36,37 @@ lists-length a B f = rows-length a (named_of a B) 0 f
 module _ (a : List Entry) (B : List Block) (f : List ℕ) (h : IsChained a B f) where
   -- no entry is of a list that isn't there
   none-past : (l : ℕ) → length f ≤ l → naming (named_of a B) l ≡ 0
-  none-past l le = by (cases_lt 0 (naming (named_of a B) l))
-    where
-      by : (0 < naming (named_of a B) l) ⊎ (naming (named_of a B) l ≤ 0) → naming (named_of a B) l ≡ 0
-      by (inl lt) = let s = (h.chains l).some 0 lt in let z = get_or_past f l 0 le in absurd (omega arith)
-      by (inr z) = omega arith
+  none-past l le = elim (cases_lt 0 (naming (named_of a B) l)) [
+    | inl lt ↦ let s = (h.chains l).some 0 lt in let z = get_or_past f l 0 le in absurd (omega arith)
+    | inr z ↦ omega arith
+  ]
 
   pub list-row : (l : ℕ) → row (lists_of a B f) l ≡ items_from a (first_at f l) (naming (named_of a B) l)
-  list-row l = by (cases_lt l (length f))
-    where
-      by : (l < length f) ⊎ (length f ≤ l) → row (lists_of a B f) l ≡ items_from a (first_at f l) (naming (named_of a B) l)
-      by (inl lt) = let e : 0 + l ≡ l = omega arith in rows-row a (named_of a B) 0 f l lt ∙ ap (λ k. items_from a (first_at f l) (naming (named_of a B) k)) e
-      by (inr le) =
-          get_or_past (lists_of a B f) l [] (let n = rows-length a (named_of a B) 0 f in omega arith)
-          ∙ sym (ap (λ n. items_from a (first_at f l) n) (none-past l le))
+  list-row l = elim (cases_lt l (length f)) [
+    | inl lt ↦ let e : 0 + l ≡ l = omega arith in cc (rows-row a (named_of a B) 0 f l lt)
+    | inr le ↦ cc (get_or_past (lists_of a B f) l [] (let n = rows-length a (named_of a B) 0 f in omega arith), none-past l le)
+  ]
 
   pub list-length : (l : ℕ) → length (row (lists_of a B f) l) ≡ naming (named_of a B) l
-  list-length l = ap (λ (ps : List Item). length ps) (list-row l) ∙ users-length a (first_at f l) (naming (named_of a B) l)
+  list-length l = ap length (list-row l) ∙ users-length a (first_at f l) (naming (named_of a B) l)
 
   pub list-item : (l i : ℕ) → i < naming (named_of a B) l
       → get_or (row (lists_of a B f) l) i (at 0 0) ≡ at (entry_at a (hop a (first_at f l) i)).owner (hop a (first_at f l) i)
-  list-item l i lt = ap (λ (ps : List Item). get_or ps i (at 0 0)) (list-row l) ∙ users-get a (first_at f l) (naming (named_of a B) l) i lt
+  list-item l i lt = cc (list-row l, users-get a (first_at f l) (naming (named_of a B) l) i lt)
 
   -- the place of the entry of the item after i others, 0 after the last
   pub cursor : (l i : ℕ) → i ≤ naming (named_of a B) l → (get_or (row (lists_of a B f) l) i (at 0 0)).at ≡ hop a (first_at f l) i
-  cursor l i le = by (cases_lt i (naming (named_of a B) l))
-    where
-      by : (i < naming (named_of a B) l) ⊎ (naming (named_of a B) l ≤ i) → (get_or (row (lists_of a B f) l) i (at 0 0)).at ≡ hop a (first_at f l) i
-      by (inl lt) = ap (λ (x : Item). x.at) (list-item l i lt)
-      by (inr ge) =
-          let e : naming (named_of a B) l ≡ i = omega arith in
-          ap (λ (x : Item). x.at) (get_or_past (row (lists_of a B f) l) i (at 0 0) (let n = list-length l in omega arith))
-          ∙ sym (h.chains l).ends ∙ ap (λ k. hop a (first_at f l) k) e
+  cursor l i le = elim (cases_lt i (naming (named_of a B) l)) [
+    | inl lt ↦ ap (λ x. x.at) (list-item l i lt)
+    | inr ge ↦ let e : naming (named_of a B) l ≡ i = omega arith in
+        cc (get_or_past (row (lists_of a B f) l) i (at 0 0) (let n = list-length l in omega arith), (h.chains l).ends)
+  ]
 
   -- the owner of an item has an entry of the list
   users-ask : (l i : ℕ) → i < length (row (lists_of a B f) l)
       → (k : ℕ) × (k < length (row (named_of a B) (get_or (row (lists_of a B f) l) i (at 0 0)).owner))
       × (get_or (row (named_of a B) (get_or (row (lists_of a B f) l) i (at 0 0)).owner) k 0 ≡ l)
-  users-ask l i lt = subst (λ s. (k : ℕ) × (k < length (row (named_of a B) s)) × (get_or (row (named_of a B) s) k 0 ≡ l)) (sym user)
-      (p - (block_at B s).begin, count, entries)
+  users-ask l i lt = rw user (p - (block_at B s).begin, count, entries)
     where
       inside : i < naming (named_of a B) l
       inside = let n = list-length l in omega arith
@@ -87,7 +78,7 @@ module _ (a : List Entry) (B : List Block) (f : List ℕ) (h : IsChained a B f) 
       s = (entry_at a (hop a (first_at f l) i)).owner
 
       user : (get_or (row (lists_of a B f) l) i (at 0 0)).owner ≡ (entry_at a (hop a (first_at f l) i)).owner
-      user = ap (λ (x : Item). x.owner) (list-item l i inside)
+      user = ap (λ x. x.owner) (list-item l i inside)
 
       v : IsLive B (entry_at a (hop a (first_at f l) i)).owner (hop a (first_at f l) i)
       v = h.live l i inside
@@ -103,16 +94,13 @@ module _ (a : List Entry) (B : List Block) (f : List ℕ) (h : IsChained a B f) 
 
       entries : get_or (row (named_of a B) s) (p - (block_at B s).begin) 0 ≡ l
       entries =
-          ap (λ (ns : List ℕ). get_or ns (p - (block_at B s).begin) 0) (named-row a B s)
-          ∙ block-get a (block_at B s).begin (block_at B s).count (p - (block_at B s).begin) short
-          ∙ ap (λ q. (entry_at a q).list) there ∙ (h.chains l).of i inside
+          cc (named-row a B s, block-get a (block_at B s).begin (block_at B s).count (p - (block_at B s).begin) short, there, (h.chains l).of i inside)
 
   -- who names a list is one of its items
   entries-use : (s k : ℕ) → k < length (row (named_of a B) s)
       → (i : ℕ) × (i < length (row (lists_of a B f) (get_or (row (named_of a B) s) k 0)))
       × ((get_or (row (lists_of a B f) (get_or (row (named_of a B) s) k 0)) i (at 0 0)).owner ≡ s)
-  entries-use s k lt = subst (λ l. (i : ℕ) × (i < length (row (lists_of a B f) l)) × ((get_or (row (lists_of a B f) l) i (at 0 0)).owner ≡ s)) (sym entries)
-      (place.0, there, user)
+  entries-use s k lt = rw entries (place.0, there, user)
     where
       short : k < (block_at B s).count
       short = let m = row-length a B s in omega arith
@@ -124,7 +112,7 @@ module _ (a : List Entry) (B : List Block) (f : List ℕ) (h : IsChained a B f) 
       v = record { from = omega arith; until = let z = short in omega arith }
 
       entries : get_or (row (named_of a B) s) k 0 ≡ (entry_at a ((block_at B s).begin + k)).list
-      entries = ap (λ (ns : List ℕ). get_or ns k 0) (named-row a B s) ∙ block-get a (block_at B s).begin (block_at B s).count k short
+      entries = cc (named-row a B s, block-get a (block_at B s).begin (block_at B s).count k short)
 
       place : (i : ℕ) × (i < naming (named_of a B) (entry_at a ((block_at B s).begin + k)).list)
           × (hop a (first_at f (entry_at a ((block_at B s).begin + k)).list) i ≡ (block_at B s).begin + k)
@@ -135,12 +123,19 @@ module _ (a : List Entry) (B : List Block) (f : List ℕ) (h : IsChained a B f) 
 
       user : (get_or (row (lists_of a B f) (entry_at a ((block_at B s).begin + k)).list) place.0 (at 0 0)).owner ≡ s
       user =
-          ap (λ (x : Item). x.owner) (list-item (entry_at a ((block_at B s).begin + k)).list place.0 place.1)
-          ∙ ap (λ q. (entry_at a q).owner) place.2 ∙ h.owner s ((block_at B s).begin + k) v
+          cc (list-item (entry_at a ((block_at B s).begin + k)).list place.0 place.1, place.2, h.owner s ((block_at B s).begin + k) v)
 
   places-apart : (l i j : ℕ) → i < j → j ≤ length (row (lists_of a B f) l)
       → (get_or (row (lists_of a B f) l) i (at 0 0)).at ≢ (get_or (row (lists_of a B f) l) j (at 0 0)).at
-  places-apart l i j lt le e = by (cases_lt j (naming (named_of a B) l))
+  places-apart l i j lt le e = elim (cases_lt j (naming (named_of a B) l)) [
+    | inl lj ↦ let z = apart a l (first_at f l) (naming (named_of a B) l) (h.chains l) i j (omega arith) lj (sym x ∙ e ∙ y) in
+        omega arith
+    | inr ge ↦ let m = n in
+        let w : j ≡ naming (named_of a B) l = omega arith in
+        let z = ap (hop a (first_at f l)) w in
+        let s = (h.chains l).some i (omega arith) in
+        let x1 = x in let y1 = y in let d = (h.chains l).ends in omega arith
+  ]
     where
       n : length (row (lists_of a B f) l) ≡ naming (named_of a B) l
       n = list-length l
@@ -150,17 +145,6 @@ module _ (a : List Entry) (B : List Block) (f : List ℕ) (h : IsChained a B f) 
 
       y : (get_or (row (lists_of a B f) l) j (at 0 0)).at ≡ hop a (first_at f l) j
       y = cursor l j (let m = n in omega arith)
-
-      by : (j < naming (named_of a B) l) ⊎ (naming (named_of a B) l ≤ j) → ⊥
-      by (inl lj) =
-          let z = apart a l (first_at f l) (naming (named_of a B) l) (h.chains l) i j (omega arith) lj (sym x ∙ e ∙ y) in
-          omega arith
-      by (inr ge) =
-          let m = n in
-          let w : j ≡ naming (named_of a B) l = omega arith in
-          let z = ap (λ k. hop a (first_at f l) k) w in
-          let s = (h.chains l).some i (omega arith) in
-          let x1 = x in let y1 = y in let d = (h.chains l).ends in omega arith
 
   pub all-listed : IsListed (lists_of a B f) (named_of a B)
   all-listed = record {
@@ -174,38 +158,31 @@ module _ (a : List Entry) (B : List Block) (f : List ℕ) (h : IsChained a B f) 
   pub item-found : (p l i : ℕ) → p ≢ 0 → p ≡ (get_or (row (lists_of a B f) l) i (at 0 0)).at
       → (i < length (row (lists_of a B f) l)) × ((entry_at a p).owner ≡ (get_or (row (lists_of a B f) l) i (at 0 0)).owner)
       × ((entry_at a p).next ≡ (get_or (row (lists_of a B f) l) (i + 1) (at 0 0)).at)
-  item-found p l i some e = by (cases_lt i (naming (named_of a B) l))
+  item-found p l i some e = elim (cases_lt i (naming (named_of a B) l)) [
+    | inl lt ↦ let m = n in
+        let here : p ≡ hop a (first_at f l) i = e ∙ cursor l i (omega arith) in
+        let step : suc i ≡ i + 1 = omega arith in (
+          omega arith,
+          cc (list-item l i lt),
+          cc (cursor l (i + 1) (omega arith)),
+        )
+    | inr ge ↦ let m = n in
+        absurd (some (cc (get_or_past (row (lists_of a B f) l) i (at 0 0) (omega arith))))
+  ]
     where
       n : length (row (lists_of a B f) l) ≡ naming (named_of a B) l
       n = list-length l
 
-      by : (i < naming (named_of a B) l) ⊎ (naming (named_of a B) l ≤ i)
-          → (i < length (row (lists_of a B f) l)) × ((entry_at a p).owner ≡ (get_or (row (lists_of a B f) l) i (at 0 0)).owner)
-          × ((entry_at a p).next ≡ (get_or (row (lists_of a B f) l) (i + 1) (at 0 0)).at)
-      by (inl lt) =
-          let m = n in
-          let here : p ≡ hop a (first_at f l) i = e ∙ cursor l i (omega arith) in
-          let step : suc i ≡ i + 1 = omega arith in (
-            omega arith,
-            ap (λ q. (entry_at a q).owner) here ∙ sym (ap (λ (x : Item). x.owner) (list-item l i lt)),
-            ap (λ q. (entry_at a q).next) here
-                ∙ ap (λ k. hop a (first_at f l) k) step ∙ sym (cursor l (i + 1) (omega arith)),
-          )
-      by (inr ge) =
-          let m = n in
-          absurd (some (e ∙ ap (λ (x : Item). x.at) (get_or_past (row (lists_of a B f) l) i (at 0 0) (omega arith))))
-
   -- place 0, and what is no place, comes after the last
   pub no-item : (p l i : ℕ) → (p ≡ 0) ⊎ (length a ≤ p) → p ≡ (get_or (row (lists_of a B f) l) i (at 0 0)).at → length (row (lists_of a B f) l) ≤ i
-  no-item p l i out e = by (cases_lt i (length (row (lists_of a B f) l))) out
-    where
-      by : (i < length (row (lists_of a B f) l)) ⊎ (length (row (lists_of a B f) l) ≤ i) → (p ≡ 0) ⊎ (length a ≤ p) → length (row (lists_of a B f) l) ≤ i
-      by (inr ge) _ = ge
-      by (inl lt) (inl z) =
-          let n = list-length l in
+  no-item p l i out e = elim (cases_lt i (length (row (lists_of a B f) l))) [
+    | inl lt ↦ elim out [
+      | inl z ↦ let n = list-length l in
           let here : p ≡ hop a (first_at f l) i = e ∙ cursor l i (omega arith) in
           let s = (h.chains l).some i (omega arith) in absurd (omega arith)
-      by (inl lt) (inr le) =
-          let n = list-length l in
+      | inr le ↦ let n = list-length l in
           let here : p ≡ hop a (first_at f l) i = e ∙ cursor l i (omega arith) in
           let s = (h.chains l).inside i (omega arith) in absurd (omega arith)
+    ]
+    | inr ge ↦ ge
+  ]

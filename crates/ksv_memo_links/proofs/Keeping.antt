@@ -40,80 +40,74 @@ set_at : (p r : Parts) (slot : ℕ) (asks : List ℕ) (us : List Use) → IsWhol
     → IsSetAt p r slot asks us
 set_at p r slot asks us w inside named rows lists count = record {
   asked_other = asked_other;
-  asked_here = ap (λ rows. row rows slot) named ∙ row_set p.asks.named slot asks (let h = w.shaped.asks in omega arith);
+  asked_here = cc (row_set p.asks.named slot asks (omega arith));
   uses_other = uses_other;
-  uses_here = ap (λ rows. row rows slot) rows ∙ row_set p.uses.rows slot us (let h = w.shaped.uses in omega arith);
+  uses_here = cc (row_set p.uses.rows slot us (omega arith));
   shaped = (let u = ap length named in let u1 = length-set p.asks.named slot asks in
       let v = ap length rows in let v1 = length-set p.uses.rows slot us in
-      let h1 = w.shaped.asks in let h2 = w.shaped.lists in let h4 = w.shaped.uses in
       record { asks = omega arith; lists = omega arith; uses = omega arith; asked_in = asked_in; used_in = used_in });
 }
   where
     asked_other : (s : ℕ) → s ≢ slot → row r.asks.named s ≡ row p.asks.named s
-    asked_other s ne = ap (λ rows. row rows s) named ∙ row_other p.asks.named slot s asks ne
+    asked_other s ne = cc (row_other p.asks.named slot s asks ne)
 
     uses_other : (s : ℕ) → s ≢ slot → row r.uses.rows s ≡ row p.uses.rows s
-    uses_other s ne = ap (λ rows. row rows s) rows ∙ row_other p.uses.rows slot s us ne
+    uses_other s ne = cc (row_other p.uses.rows slot s us ne)
 
     asked_in : (s : ℕ) → 0 < length (row r.asks.named s) → s < length r.marks.kept
     asked_in s lt = by (eqb_tells s slot)
       where
         by : ((eqb s slot ≡ true) × (s ≡ slot)) ⊎ ((eqb s slot ≡ false) × (s ≢ slot)) → s < length r.marks.kept
-        by (inl e) = let f = e.1 in omega arith
+        by (inl e) = omega arith
         by (inr e) = let o = ap length (asked_other s e.1) in let k = w.shaped.asked_in s (omega arith) in omega arith
 
     used_in : (s : ℕ) → 0 < length (row r.uses.rows s) → s < length r.marks.kept
     used_in s lt = by (eqb_tells s slot)
       where
         by : ((eqb s slot ≡ true) × (s ≡ slot)) ⊎ ((eqb s slot ≡ false) × (s ≢ slot)) → s < length r.marks.kept
-        by (inl e) = let f = e.1 in omega arith
+        by (inl e) = omega arith
         by (inr e) = let o = ap length (uses_other s e.1) in let k = w.shaped.used_in s (omega arith) in omega arith
 
 -- ---- a slot is taken
 module _ (p q r : Parts) (slot : ℕ) (w : IsWhole p) (kept : q.marks.kept ≡ p.marks.kept) (work : p.marks.work ≡ q.marks.work ++ slot ∷ [])
     (inside : slot < length p.marks.kept) (asks : q.asks ≡ p.asks) (uses : q.uses ≡ p.uses) (c : Clears q r slot) where
   asked_now : r.asks.named ≡ set p.asks.named slot []
-  asked_now = c.asks ∙ ap (λ b. set b.named slot []) asks
+  asked_now = cc
 
   uses_now : r.uses.rows ≡ set p.uses.rows slot []
-  uses_now = c.uses ∙ ap (λ u. set u.rows slot []) uses
+  uses_now = cc
 
   kept_now : r.marks.kept ≡ p.marks.kept
-  kept_now = ap (λ m. m.kept) c.marks ∙ kept
+  kept_now = cc
 
   work_now : p.marks.work ≡ r.marks.work ++ slot ∷ []
-  work_now = work ∙ ap (λ m. m.work ++ slot ∷ []) (sym c.marks)
+  work_now = cc
 
   at : IsSetAt p r slot [] []
-  at = set_at p r slot [] [] w inside asked_now uses_now (c.ask_lists ∙ ap (λ b. length b.lists) asks) (ap length kept_now)
+  at = set_at p r slot [] [] w inside asked_now uses_now (cc) (ap length kept_now)
 
   out_now : is_kept p.marks.kept slot ≡ false
-  out_now = w.waits slot (subst (λ ws. Contains ws slot) (sym work_now) (Contains-push r.marks.work slot))
+  out_now = w.waits slot (rw work_now (Contains-push r.marks.work slot))
 
   taken_sound : IsSound r.marks.kept r.marks.work r.asks.named r.uses.rows
   taken_sound = record {
     asked_kept = λ s k e lt. (let e0 = ap (λ ks. is_kept ks s) (sym kept_now) ∙ e in
-        let ne : s ≢ slot = λ same. true≢false (sym e0 ∙ ap (λ n. is_kept p.marks.kept n) same ∙ out_now) in
+        let ne : s ≢ slot = λ same. true≢false (cc out_now) in
         let o = at.asked_other s ne in
-        ap (λ ks. is_kept ks (get_or (row r.asks.named s) k 0)) kept_now ∙ ap (λ (ns : List ℕ). is_kept p.marks.kept (get_or ns k 0)) o
-        ∙ w.asked_kept s k e0 (subst (λ (ns : List ℕ). k < length ns) o lt));
+        cc (kept_now, w.asked_kept s k e0 (subst (λ ns. k < length ns) o lt)));
     vacant = λ s e non. vacant s e non (eqb_tells s slot);
-    waits = λ s k. ap (λ ks. is_kept ks s) kept_now ∙ w.waits s
-        (subst (λ ws. Contains ws s) (sym work_now) (Contains-append_left r.marks.work (slot ∷ []) s k));
+    waits = λ s k. cc (kept_now, w.waits s (subst (λ ws. Contains ws s) (sym work_now) (Contains-append_left r.marks.work (slot ∷ []) s k)));
     apart = λ i j d lt l. (let n = ap length work_now in let m = length_push r.marks.work slot in
-        let P : List ℕ → Type 0 = λ ws. get_or ws i d ≢ get_or ws j d in
-        let h = subst P work_now (w.apart i j d lt (omega arith)) in
-        let Q : ℕ → ℕ → Type 0 = λ a b. a ≢ b in
-        subst (λ a. Q a (get_or r.marks.work j d)) (get_or_append_left r.marks.work (slot ∷ []) d i (omega arith))
-        (subst (λ b. Q (get_or (r.marks.work ++ slot ∷ []) i d) b) (get_or_append_left r.marks.work (slot ∷ []) d j l) h));
+        let h = rw work_now at (w.apart i j d lt (omega arith)) in
+        rw (get_or_append_left r.marks.work (slot ∷ []) d i (omega arith)) at (rw (get_or_append_left r.marks.work (slot ∷ []) d j l) at h));
   }
     where
       vacant : (s : ℕ) → is_kept r.marks.kept s ≡ false → (Contains r.marks.work s → ⊥)
           → ((eqb s slot ≡ true) × (s ≡ slot)) ⊎ ((eqb s slot ≡ false) × (s ≢ slot)) → (row r.asks.named s ≡ []) × (row r.uses.rows s ≡ [])
-      vacant s e non (inl q) = (ap (λ n. row r.asks.named n) q.1 ∙ at.asked_here, ap (λ n. row r.uses.rows n) q.1 ∙ at.uses_here)
+      vacant s e non (inl q) = (cc at.asked_here, cc at.uses_here)
       vacant s e non (inr q) =
-          let v = w.vacant s (ap (λ ks. is_kept ks s) (sym kept_now) ∙ e)
-          (λ k. cases s q.1 non (Contains-push_cases r.marks.work slot s (subst (λ ws. Contains ws s) work_now k))) in
+          let v = w.vacant s (cc kept_now)
+          (λ k. cases s q.1 non (Contains-push_cases r.marks.work slot s (rw work_now at k))) in
           (at.asked_other s q.1 ∙ v.0, at.uses_other s q.1 ∙ v.1)
         where
           cases : (s : ℕ) → s ≢ slot → (Contains r.marks.work s → ⊥) → Contains r.marks.work s ⊎ (slot ≡ s) → ⊥
@@ -134,91 +128,81 @@ grown_whole p r w asks uses kept work l1 l2 l3 = whole r (record {
   asks = l1;
   lists = l2;
   uses = l3;
-  asked_in = λ s lt. (let m = kept.more in let k = noted_row r.asks.named p.asks.named s (length p.marks.kept) (ap length (asks.each s)) (w.shaped.asked_in s)
+  asked_in = λ s lt. (let k = noted_row r.asks.named p.asks.named s (length p.marks.kept) (ap length (asks.each s)) (w.shaped.asked_in s)
       lt in omega arith);
-  used_in = λ s lt. (let m = kept.more in let o = ap length (uses.each s) in let k = w.shaped.used_in s (omega arith) in omega arith);
+  used_in = λ s lt. (let o = ap length (uses.each s) in let k = w.shaped.used_in s (omega arith) in omega arith);
 }) (record {
-  asked_kept = λ s k e lt. kept.each (get_or (row r.asks.named s) k 0) ∙ ap (λ (ns : List ℕ). is_kept p.marks.kept (get_or ns k 0)) (asks.each s)
-      ∙ w.asked_kept s k (sym (kept.each s) ∙ e) (subst (λ (ns : List ℕ). k < length ns) (asks.each s) lt);
-  vacant = λ s e non. (let v = w.vacant s (sym (kept.each s) ∙ e) (λ c. non (subst (λ ws. Contains ws s) (sym work) c)) in
+  asked_kept = λ s k e lt. cc (
+    kept.each (get_or (row r.asks.named s) k 0),
+    asks.each s,
+    w.asked_kept s k (sym (kept.each s) ∙ e) (subst (λ ns. k < length ns) (asks.each s) lt),
+  );
+  vacant = λ s e non. (let v = w.vacant s (sym (kept.each s) ∙ e) (λ c. non (rw work c)) in
       (asks.each s ∙ v.0, uses.each s ∙ v.1));
-  waits = λ s c. kept.each s ∙ w.waits s (subst (λ ws. Contains ws s) work c);
-  apart = subst (λ ws. AllPairs (λ (a b : ℕ). a ≢ b) ws) (sym work) w.apart;
+  waits = λ s c. kept.each s ∙ w.waits s (rw work at c);
+  apart = subst (AllPairs (λ (a b : ℕ). a ≢ b)) (sym work) w.apart;
 })
 
 -- ---- nothing has changed
 pub same_whole : (p r : Parts) → IsWhole p → IsAsBefore p r → IsWhole r
 same_whole p r w s = whole r (record {
-  asks = (let a = ap length s.asks in let d = w.shaped.asks in let e = ap (λ m. length m.kept) s.marks in omega arith);
-  lists = (let a = s.ask_lists in let d = w.shaped.lists in let e = ap (λ m. length m.kept) s.marks in omega arith);
-  uses = (let a = ap length s.uses in let d = w.shaped.uses in let e = ap (λ m. length m.kept) s.marks in omega arith);
+  asks = (let a = ap length s.asks in let e = ap (λ m. length m.kept) s.marks in omega arith);
+  lists = (let e = ap (λ m. length m.kept) s.marks in omega arith);
+  uses = (let a = ap length s.uses in let e = ap (λ m. length m.kept) s.marks in omega arith);
   asked_in = λ t lt. (let e = ap (λ m. length m.kept) s.marks in let k = noted_row r.asks.named p.asks.named t (length p.marks.kept)
       (ap (λ rows. length (row rows t)) s.asks) (w.shaped.asked_in t) lt in omega arith);
   used_in = λ t lt. (let e = ap (λ m. length m.kept) s.marks in let o = ap (λ rows. length (row rows t)) s.uses in let k = w.shaped.used_in t (omega arith) in
       omega arith);
 }) (
-    let P : List Bool → List ℕ → List (List ℕ) → List (List Use) → Type 0 = λ k ws a u. IsSound k ws a u in
-    subst (λ m. P m.kept m.work r.asks.named r.uses.rows) (sym s.marks)
-    (subst (λ a. P p.marks.kept p.marks.work a r.uses.rows) (sym s.asks)
-    (subst (P p.marks.kept p.marks.work p.asks.named) (sym s.uses) (sound p w))))
+    rw s.marks (rw s.asks (rw s.uses (sound p w))))
 
 -- ---- a slot is kept
 pub still_kept : (kept : List Bool) (slot s : ℕ) → slot < length kept → is_kept kept s ≡ true → is_kept (set kept slot true) s ≡ true
-still_kept kept slot s lt e = by (eqb_tells s slot)
-  where
-    by : ((eqb s slot ≡ true) × (s ≡ slot)) ⊎ ((eqb s slot ≡ false) × (s ≢ slot)) → is_kept (set kept slot true) s ≡ true
-    by (inl q) = ap (λ n. is_kept (set kept slot true) n) q.1 ∙ get_or-set_same kept slot true false lt
-    by (inr q) = get_or-set_other kept slot s true false q.1 ∙ e
+still_kept kept slot s lt e = elim (eqb_tells s slot) [
+  | inl q ↦ cc (get_or-set_same kept slot true false lt)
+  | inr q ↦ get_or-set_other kept slot s true false q.1 ∙ e
+]
 
 module _ (p q r : Parts) (slot : ℕ) (asks : List ℕ) (us : List Use) (w : IsWhole p) (idle : p.marks.work ≡ []) (inside : slot < length p.marks.kept)
     (asks_kept : All (λ s. is_kept p.marks.kept s ≡ true) asks) (f : Fills p q slot asks us) (linked : r.asks ≡ q.asks) (uses : r.uses ≡ q.uses)
     (kept : r.marks.kept ≡ set p.marks.kept slot true) (work : r.marks.work ≡ []) where
   asked_fill : r.asks.named ≡ set p.asks.named slot asks
-  asked_fill = ap (λ b. b.named) linked ∙ f.asks
+  asked_fill = cc
 
   uses_fill : r.uses.rows ≡ set p.uses.rows slot us
-  uses_fill = ap (λ u. u.rows) uses ∙ f.uses
+  uses_fill = cc
 
   filled : IsSetAt p r slot asks us
-  filled = set_at p r slot asks us w inside asked_fill uses_fill (ap (λ b. length b.lists) linked ∙ f.ask_lists)
+  filled = set_at p r slot asks us w inside asked_fill uses_fill (cc)
       (ap length kept ∙ length-set p.marks.kept slot true)
 
   kept_other : (s : ℕ) → s ≢ slot → is_kept r.marks.kept s ≡ is_kept p.marks.kept s
-  kept_other s ne = ap (λ ks. is_kept ks s) kept ∙ get_or-set_other p.marks.kept slot s true false ne
+  kept_other s ne = cc (get_or-set_other p.marks.kept slot s true false ne)
 
   none_waits : (s : ℕ) → Contains r.marks.work s → ⊥
-  none_waits s c = let lt = c.1 in let z = ap (λ (ws : List ℕ). length ws) work in omega arith
+  none_waits s c = let z = ap length work in omega arith
 
   none_waited : (s : ℕ) → Contains p.marks.work s → ⊥
-  none_waited s c = let lt = c.1 in let z = ap (λ (ws : List ℕ). length ws) idle in omega arith
+  none_waited s c = let z = ap length idle in omega arith
 
   filled_sound : IsSound r.marks.kept r.marks.work r.asks.named r.uses.rows
   filled_sound = record {
-    asked_kept = λ s k e lt. asked s k e lt (eqb_tells s slot);
-    vacant = λ s e non. vacant s e (eqb_tells s slot);
+    asked_kept = λ s k e lt. elim (eqb_tells s slot) [
+      | inl q ↦ let o : row r.asks.named s ≡ asks = cc filled.asked_here in
+          cc (now (get_or asks k 0) (asks_kept k 0 (subst (λ ns. k < length ns) o lt)))
+      | inr q ↦ let o = filled.asked_other s q.1 in
+          cc (now (get_or (row p.asks.named s) k 0) (w.asked_kept s k (sym (kept_other s q.1) ∙ e) (subst (λ ns. k < length ns) o lt)))
+    ];
+    vacant = λ s e non. elim (eqb_tells s slot) [
+      | inl q ↦ absurd (true≢false (cc (get_or-set_same p.marks.kept slot true false inside)))
+      | inr q ↦ let v = w.vacant s (sym (kept_other s q.1) ∙ e) (none_waited s) in (filled.asked_other s q.1 ∙ v.0, filled.uses_other s q.1 ∙ v.1)
+    ];
     waits = λ s c. absurd (none_waits s c);
-    apart = λ i j d lt l. (let z = ap (λ (ws : List ℕ). length ws) work in absurd (omega arith));
+    apart = λ i j d lt l. (let z = ap length work in absurd (omega arith));
   }
     where
       now : (s : ℕ) → is_kept p.marks.kept s ≡ true → is_kept r.marks.kept s ≡ true
-      now s e = ap (λ ks. is_kept ks s) kept ∙ still_kept p.marks.kept slot s inside e
-
-      asked : (s k : ℕ) → is_kept r.marks.kept s ≡ true → k < length (row r.asks.named s)
-          → ((eqb s slot ≡ true) × (s ≡ slot)) ⊎ ((eqb s slot ≡ false) × (s ≢ slot)) → is_kept r.marks.kept (get_or (row r.asks.named s) k 0) ≡ true
-      asked s k e lt (inl q) =
-          let o : row r.asks.named s ≡ asks = ap (λ n. row r.asks.named n) q.1 ∙ filled.asked_here in
-          ap (λ (ns : List ℕ). is_kept r.marks.kept (get_or ns k 0)) o ∙ now (get_or asks k 0) (asks_kept k 0 (subst (λ (ns : List ℕ). k < length ns) o lt))
-      asked s k e lt (inr q) =
-          let o = filled.asked_other s q.1 in
-          ap (λ (ns : List ℕ). is_kept r.marks.kept (get_or ns k 0)) o
-          ∙ now (get_or (row p.asks.named s) k 0) (w.asked_kept s k (sym (kept_other s q.1) ∙ e) (subst (λ (ns : List ℕ). k < length ns) o lt))
-
-      vacant : (s : ℕ) → is_kept r.marks.kept s ≡ false → ((eqb s slot ≡ true) × (s ≡ slot)) ⊎ ((eqb s slot ≡ false) × (s ≢ slot))
-          → (row r.asks.named s ≡ []) × (row r.uses.rows s ≡ [])
-      vacant s e (inl q) =
-          absurd (true≢false (sym
-          (ap (λ n. is_kept r.marks.kept n) q.1 ∙ ap (λ ks. is_kept ks slot) kept ∙ get_or-set_same p.marks.kept slot true false inside) ∙ e))
-      vacant s e (inr q) = let v = w.vacant s (sym (kept_other s q.1) ∙ e) (none_waited s) in (filled.asked_other s q.1 ∙ v.0, filled.uses_other s q.1 ∙ v.1)
+      now s e = cc (still_kept p.marks.kept slot s inside e)
 
   pub filled_whole : IsWhole r
   filled_whole = whole r filled.shaped filled_sound
@@ -226,5 +210,4 @@ module _ (p q r : Parts) (slot : ℕ) (asks : List ℕ) (us : List Use) (w : IsW
 -- a row that was empty is so again
 pub undone : {X : Type 0} (before now then : List (List X)) (o : ℕ) (xs : List X) → row before o ≡ [] → now ≡ set before o xs → then ≡ set now o []
     → then ≡ before
-undone {X} before now then o xs none e f = f ∙ ap (λ (rows : List (List X)). set rows o []) e ∙ set-set before o xs []
-    ∙ ap (λ (ys : List X). set before o ys) (sym none) ∙ set-get_or before o []
+undone {X} before now then o xs none e f = cc (set-set before o xs [], set-get_or before o [])

@@ -1,5 +1,5 @@
 -- Rows that are copied one upon another.
-use Rattle.ksv_memo_links.proofs.Common.{◌≡◌, ◌≢◌, ◌⊎◌, inl, inr, true, false, eqb, ℕ, ◌+◌, ◌<◌, ◌≤◌, List, [], length, set, get_or, sym, ◌∙◌, ap, arith}
+use Rattle.ksv_memo_links.proofs.Common.{◌≡◌, inl, inr, ℕ, ◌+◌, ◌<◌, ◌≤◌, List, [], length, set, get_or, sym, ◌∙◌, arith}
 use Rattle.ksv_memo_links.proofs.Common.{eqb_tells, length-set, get_or_default, Item, row, IsListed}
 use Rattle.std.proofs.lemmas.List.{same_lists}
 use Rattle.ksv_memo_links.proofs.Edits.{row_set, row_other, row_there}
@@ -13,19 +13,17 @@ pub record IsCopied (from to : List (List ℕ)) (o : ℕ) : Type 0 where
 pub copied-more : (from to then : List (List ℕ)) (o : ℕ) (xs : List ℕ) → IsCopied from to o → o < length from → xs ≡ row from o → then ≡ set to o xs
     → IsCopied from then (o + 1)
 copied-more from to then o xs h lt e f = record {
-  size = ap (λ (rows : List (List ℕ)). length rows) f ∙ length-set to o xs ∙ h.size;
-  done = λ t l. done t l (eqb_tells t o);
-  none = λ t l. ap (λ (rows : List (List ℕ)). row rows t) f ∙ row_other to o t xs (λ y. absurd (omega arith)) ∙ h.none t (omega arith);
+  size = cc (length-set to o xs);
+  done = λ t l. elim (eqb_tells t o) [
+    | inl y ↦ cc (row_set to o xs (omega arith))
+    | inr y ↦ cc (row_other to o t xs y.1, h.done t (omega arith))
+  ];
+  none = λ t l. cc (row_other to o t xs (λ y. absurd (omega arith)), h.none t (omega arith));
 }
-  where
-    done : (t : ℕ) → t < o + 1 → ((eqb t o ≡ true) × (t ≡ o)) ⊎ ((eqb t o ≡ false) × (t ≢ o)) → row then t ≡ row from t
-    done t l (inl y) = ap (λ n. row then n) y.1 ∙ ap (λ (rows : List (List ℕ)). row rows o) f ∙ row_set to o xs (let n = h.size in omega arith) ∙ e
-        ∙ sym (ap (λ n. row from n) y.1)
-    done t l (inr y) = ap (λ (rows : List (List ℕ)). row rows t) f ∙ row_other to o t xs y.1 ∙ h.done t (let ne = y.1 in omega arith)
 
 pub copied-all : (from to : List (List ℕ)) (o : ℕ) → IsCopied from to o → length from ≤ o → to ≡ from
 copied-all from to o h le = same_lists to from h.size
-    (λ t d lt. get_or_default to t d [] lt ∙ h.done t (let n = h.size in omega arith) ∙ sym (get_or_default from t d [] (let n = h.size in omega arith)))
+    (λ t d lt. get_or_default to t d [] lt ∙ h.done t (omega arith) ∙ sym (get_or_default from t d [] (omega arith)))
 
 -- what is named is a list that is there
 pub list-there : (lists : List (List Item)) (named : List (List ℕ)) (s : ℕ) → IsListed lists named → (k d : ℕ) → k < length (row named s)

@@ -1,5 +1,5 @@
 -- The users of marked slots, one slot upon another.
-use Rattle.ksv_memo_links.proofs.Common.{◌≡◌, ◌≢◌, ◌⊎◌, inl, inr, Bool, true, false, eqb, ℕ, ◌+◌, ◌*◌, ◌<◌, ◌≤◌, List, ◌++◌, length, take, get_or, refl, sym}
+use Rattle.ksv_memo_links.proofs.Common.{◌≡◌, inl, inr, Bool, true, false, ℕ, ◌+◌, ◌*◌, ◌<◌, ◌≤◌, List, ◌++◌, length, take, get_or, refl, sym}
 use Rattle.ksv_memo_links.proofs.Common.{◌∙◌, ap, subst, arith, length-append, get_or_append_left, get_or_read, eqb_tells, Item, Parts, row, IsListed, is_kept}
 use Rattle.ksv_memo_links.proofs.Common.{item_at, looks, IsShaped, SameLinks, Why, MarksMore, HitsUsers, Spreads}
 use Rattle.std.proofs.lemmas.List.{take-append-le}
@@ -20,8 +20,7 @@ users-none p slot = record {
 
 -- the users of a slot are those that asked it still
 asked-along : (p q : Parts) → IsListed p.asks.lists p.asks.named → SameLinks p q → IsListed q.asks.lists q.asks.named
-asked-along p q h s = subst (λ (lists : List (List Item)). IsListed lists q.asks.named) (sym s.ask_lists)
-    (subst (λ (asked : List (List ℕ)). IsListed p.asks.lists asked) (sym s.asks) h)
+asked-along p q h s = rw s.ask_lists (subst (IsListed p.asks.lists) (sym s.asks) h)
 
 -- a user is one of the slots
 pub user-there : (p : Parts) (slot i : ℕ) → IsShaped p → IsListed p.asks.lists p.asks.named → i < length (row p.asks.lists slot)
@@ -96,71 +95,65 @@ spread-none p = record {
 
 pub spread-end : (p q q1 : Parts) (i : ℕ) → Spreads p q i 0 → Peeks q q1 → length q.marks.work ≤ i → Spreads p q1 (length q1.marks.work) 1
 spread-end p q q1 i h k le =
-    let n = ap (λ (ws : List ℕ). length ws) k.work in
-    let w = h.within in
+    let n = ap length k.work in
     let same : i ≡ length q1.marks.work = omega arith in
     let c : Spreads p q1 i 1 = record {
       more = peek-more p q q1 (λ first x. Unit {0}) h.more k;
       within = omega arith;
-      out = λ j l lt. (let F : List Bool → List ℕ → Type 0 = λ ks ws. l < length (row p.asks.lists (get_or ws j 0))
-          → is_kept ks (item_at p.asks.lists (get_or ws j 0) l).owner ≡ false in
-          subst (λ ks. F ks q1.marks.work) (sym k.kept) (subst (F q.marks.kept) (sym k.work) (h.out j l lt)));
-      looks = let x = h.looks in let y = k.looks in let z = ap (λ (ws : List ℕ). lengths p.asks.lists (take i ws)) k.work in omega arith;
+      out = λ j l lt. (rw k.kept (rw k.work (h.out j l lt)));
+      looks = let z = ap (λ ws. lengths p.asks.lists (take i ws)) k.work in omega arith;
     } in
-    let P : ℕ → Type 0 = λ n. Spreads p q1 n 1 in
-    subst P same c
+    rw same at c
 
 pub spread-more : (p q q1 r : Parts) (i slot : ℕ) → Spreads p q i 0 → Peeks q q1 → i < length q.marks.work → slot ≡ get_or q.marks.work i slot
     → HitsUsers q1 r slot (length (row q1.asks.lists slot)) 1 → Spreads p r (i + 1) 0
 spread-more p q q1 r i slot h k lt is u = record {
   more = more-trans p q1 r (λ first x. Unit {0}) (λ first x. Why q1 first x slot) to_q1 u.more
-      (λ first x w m. why-along p q1 first x (λ why. why slot) to_q1.same (let P : ℕ → Type 0 = λ s. Why p first x s in subst P there (m.gone i lt1).2));
-  within = let n = ap (λ (ws : List ℕ). length ws) grown in let l = length-append q.marks.work u.more.grows.0 in omega arith;
-  out = λ j l lt2. out j l lt2 (eqb_tells j i);
+      (λ first x w m. why-along p q1 first x (λ why. why slot) to_q1.same (rw there at (m.gone i lt1).2));
+  within = let n = ap length grown in let l = length-append q.marks.work u.more.grows.0 in omega arith;
+  out = λ j l lt2. elim (eqb_tells j i) [
+    | inl e ↦ rw (ap (λ n. get_or r.marks.work n 0) e.1 ∙ early i lt ∙ at_i) (new l)
+    | inr e ↦
+        let lj : j < i = omega arith in
+        rw (early j (omega arith)) (λ m. stays-out q.marks.kept r.marks.kept (item_at p.asks.lists (get_or q.marks.work j 0) l).owner fewer (h.out j l lj m))
+  ];
   looks =
-      let n = ap (λ (rows : List (List Item)). length (row rows slot)) to_q1.same.ask_lists in
-      let len = ap (λ (ws : List ℕ). length ws) k.work in
-      let x = h.looks in let y = k.looks in let z = u.looks in omega (arith, sums);
+      let n = ap (λ rows. length (row rows slot)) to_q1.same.ask_lists in
+      let len = ap length k.work in
+      omega (arith, sums);
 }
   where
     to_q1 : MarksMore p q1 (λ first x. Unit {0})
     to_q1 = peek-more p q q1 (λ first x. Unit {0}) h.more k
 
     lt1 : i < length q1.marks.work
-    lt1 = let len = ap (λ (ws : List ℕ). length ws) k.work in omega arith
+    lt1 = let len = ap length k.work in omega arith
 
     at_i : get_or q.marks.work i 0 ≡ slot
     at_i = sym (get_or_read q.marks.work i slot lt is 0)
 
     there : get_or q1.marks.work i 0 ≡ slot
-    there = ap (λ (ws : List ℕ). get_or ws i 0) k.work ∙ at_i
+    there = cc at_i
 
     grown : r.marks.work ≡ q.marks.work ++ u.more.grows.0
-    grown = u.more.grows.1 ∙ ap (λ (ws : List ℕ). ws ++ u.more.grows.0) k.work
+    grown = cc
 
     early : (j : ℕ) → j < length q.marks.work → get_or r.marks.work j 0 ≡ get_or q.marks.work j 0
-    early j l = ap (λ (ws : List ℕ). get_or ws j 0) grown ∙ get_or_append_left q.marks.work u.more.grows.0 0 j l
+    early j l = cc (grown, get_or_append_left q.marks.work u.more.grows.0 0 j l)
 
     sums : lengths p.asks.lists (take (i + 1) r.marks.work) ≡ lengths p.asks.lists (take i q.marks.work) + length (row p.asks.lists slot)
-    sums = ap (λ (ws : List ℕ). lengths p.asks.lists (take (i + 1) ws)) grown
-        ∙ ap (λ (ws : List ℕ). lengths p.asks.lists ws) (take-append-le (i + 1) q.marks.work u.more.grows.0 (omega arith))
-        ∙ sum_by_more (λ s. length (row p.asks.lists s)) q.marks.work i 0 lt
-        ∙ ap (λ s. lengths p.asks.lists (take i q.marks.work) + length (row p.asks.lists s)) at_i
+    sums = cc (
+      grown,
+      take-append-le (i + 1) q.marks.work u.more.grows.0 (omega arith),
+      sum_by_more (λ s. length (row p.asks.lists s)) q.marks.work i 0 lt,
+      at_i,
+    )
 
     P : ℕ → ℕ → Type 0
     P s l = l < length (row p.asks.lists s) → is_kept r.marks.kept (item_at p.asks.lists s l).owner ≡ false
 
     new : (l : ℕ) → P slot l
-    new l = let F : List (List Item) → Type 0 = λ lists. l < length (row lists slot)
-        → is_kept r.marks.kept (item_at lists slot l).owner ≡ false in subst F to_q1.same.ask_lists (u.out l)
+    new l = rw to_q1.same.ask_lists at (u.out l)
 
     fewer : (s : ℕ) → is_kept r.marks.kept s ≡ true → is_kept q.marks.kept s ≡ true
-    fewer s e = ap (λ (ks : List Bool). is_kept ks s) (sym k.kept) ∙ u.more.fewer s e
-
-    out : (j l : ℕ) → j < i + 1 → ((eqb j i ≡ true) × (j ≡ i)) ⊎ ((eqb j i ≡ false) × (j ≢ i)) → P (get_or r.marks.work j 0) l
-    out j l l2 (inl e) = subst (λ s. P s l) (sym (ap (λ n. get_or r.marks.work n 0) e.1 ∙ early i lt ∙ at_i)) (new l)
-    out j l l2 (inr e) =
-        let ne = e.1 in
-        let lj : j < i = omega arith in
-        subst (λ s. P s l) (sym (early j (omega arith)))
-        (λ m. stays-out q.marks.kept r.marks.kept (item_at p.asks.lists (get_or q.marks.work j 0) l).owner fewer (h.out j l lj m))
+    fewer s e = cc (u.more.fewer s e)

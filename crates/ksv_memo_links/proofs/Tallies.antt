@@ -32,22 +32,22 @@ tally-more a b rows le = sums (λ ns. count_by (within a b) ns) (λ ns. sum_by (
 
 pub sizes-few : {X : Type 0} (lists : List (List X)) (rows : List (List ℕ)) (a n : ℕ) → ((l : ℕ) → length (row lists l) ≤ naming rows l)
     → sizes lists (n + a) ≤ sizes lists a + tally a (n + a) rows
-sizes-few lists rows a zero few = let e : 0 + a ≡ a = omega arith in let f = ap (λ n. sizes lists n) e in omega arith
+sizes-few lists rows a zero few = let e : 0 + a ≡ a = omega arith in let f = ap (sizes lists) e in omega arith
 sizes-few lists rows a (suc n) few =
     let ih = sizes-few lists rows a n few in
     let f = few (n + a) in
     let m = tally-more a (n + a) rows (omega arith) in
     let e : suc n + a ≡ suc (n + a) = omega arith in
-    let g = ap (λ k. sizes lists k) e in
+    let g = ap (sizes lists) e in
     let h = ap (λ k. tally a k rows) e in
     omega arith
 
 pub sizes-grow : {X : Type 0} (lists : List (List X)) (a n : ℕ) → sizes lists a ≤ sizes lists (n + a)
-sizes-grow lists a zero = let e : 0 + a ≡ a = omega arith in let f = ap (λ k. sizes lists k) e in omega arith
-sizes-grow lists a (suc n) = let ih = sizes-grow lists a n in let e : suc n + a ≡ suc (n + a) = omega arith in let f = ap (λ k. sizes lists k) e in omega arith
+sizes-grow lists a zero = let e : 0 + a ≡ a = omega arith in let f = ap (sizes lists) e in omega arith
+sizes-grow lists a (suc n) = let ih = sizes-grow lists a n in let e : suc n + a ≡ suc (n + a) = omega arith in let f = ap (sizes lists) e in omega arith
 
 pub sizes-up : {X : Type 0} (lists : List (List X)) (a b : ℕ) → a ≤ b → sizes lists a ≤ sizes lists b
-sizes-up lists a b le = let g = sizes-grow lists a (b - a) in let e : b - a + a ≡ b = omega arith in let f = ap (λ k. sizes lists k) e in omega arith
+sizes-up lists a b le = let g = sizes-grow lists a (b - a) in let e : b - a + a ≡ b = omega arith in let f = ap (sizes lists) e in omega arith
 
 -- sums over rows that are read alike
 pub rows-le : {X Y : Type 0} (f : List X → ℕ) (g : List Y → ℕ) (xs : List (List X)) (ys : List (List Y)) → f [] ≡ 0 → g [] ≡ 0

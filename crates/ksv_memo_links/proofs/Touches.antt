@@ -1,6 +1,6 @@
 -- A touched use meets a page that the overwrite meets, or meets a page or ends after the insert or the delete.
 use Rattle.ksv_memo_links.proofs.Common.{◌≡◌, ◌⊎◌, inl, inr, ℕ, zero, suc, ◌+◌, ◌-◌, ◌/◌, ◌<◌, ◌≤◌, max, Bool, true, false, cond, nat_lt, List, [], ◌∷◌, length}
-use Rattle.ksv_memo_links.proofs.Common.{get_or, Contains, refl, sym, ap, subst, arith, cases_lt, Contains-append_left, Contains-append_right, Contains-push}
+use Rattle.ksv_memo_links.proofs.Common.{get_or, Contains, refl, ap, subst, arith, cases_lt, Contains-append_left, Contains-append_right, Contains-push}
 use Rattle.ksv_memo_links.proofs.Common.{Use, Bytes, numbers_from, pages_in, farthest, ends_in, first_page, end_page}
 use Rattle.std.specs.List.{list_any}
 use Rattle.std.proofs.lemmas.Bool.Decides.{Decides-and, Decides-ltb}
@@ -53,7 +53,7 @@ use-meets at n Size e = absurd (cc)
 -- a page of one use is among those of all
 part-in : (us : List Use) (k : ℕ) (u : Use) (g : ℕ) → k < length us → get_or us k u ≡ u → Contains (pages_of u) g → Contains (pages_in us) g
 part-in [] k u g lt e h = absurd (omega arith)
-part-in (v ∷ us) zero u g lt e h = Contains-append_left (pages_of v) (pages_in us) g (subst (λ x. Contains (pages_of x) g) (sym e) h)
+part-in (v ∷ us) zero u g lt e h = Contains-append_left (pages_of v) (pages_in us) g (rw e h)
 part-in (v ∷ us) (suc k) u g lt e h = Contains-append_right (pages_of v) (pages_in us) g (part-in us k u g (omega arith) e h)
 
 pub uses-meet : (at n : ℕ) (us : List Use) → list_any (is_use_touched (Overwrite at n)) us ≡ true → Meets at n (pages_in us)
@@ -89,7 +89,7 @@ farthest-most (v ∷ us) zero u lt e = let n = ap reach_of e in omega arith
 farthest-most (v ∷ us) (suc k) u lt e = let n = farthest-most us k u (omega arith) e in omega arith
 
 pub size-ends : (us : List Use) → list_any is_size us ≡ true → Contains (ends_in us) 0
-size-ends us e = subst (λ ls. Contains ls 0) (sym (ap (λ b. cond b (0 ∷ []) (end_at (farthest us))) e)) (head-in 0 [])
+size-ends us e = rw (ap (λ b. cond b (0 ∷ []) (end_at (farthest us))) e) (head-in 0 [])
 
 end-past : (at f : ℕ) → at < f → (l : ℕ) × Contains (end_at f) l × (first_page at < l)
 end-past at zero lt = absurd (omega arith)
@@ -102,7 +102,7 @@ reach-past at us lt = by (list_any is_size us) refl
     by true e = inr (0, size-ends us e, inl refl)
     by false e =
         let x = end-past at (farthest us) lt in
-        inr (x.0, subst (λ ls. Contains ls x.0) (sym (ap (λ b. cond b (0 ∷ []) (end_at (farthest us))) e)) x.1, inr x.2)
+        inr (x.0, rw (ap (λ b. cond b (0 ∷ []) (end_at (farthest us))) e) x.1, inr x.2)
 
 use-past : (at : ℕ) (us : List Use) (k : ℕ) (u : Use) → k < length us → get_or us k u ≡ u → IsPast at u → EndsPast at us
 use-past at us k (Bytes f t) lt e p =

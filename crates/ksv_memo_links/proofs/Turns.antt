@@ -1,5 +1,5 @@
 -- Lists that take turns: those of ends, and those of pages.
-use Rattle.ksv_memo_links.proofs.Common.{◌≡◌, ◌≢◌, ◌⊎◌, inl, inr, true, false, cond, eqb, ℕ, zero, suc, ◌+◌, ◌*◌, ◌/◌, ◌<◌, ◌≤◌, List, [], ◌∷◌, length, map}
+use Rattle.ksv_memo_links.proofs.Common.{◌≡◌, ◌≢◌, inl, inr, true, false, cond, ℕ, zero, suc, ◌+◌, ◌*◌, ◌/◌, ◌<◌, ◌≤◌, List, [], ◌∷◌, length, map}
 use Rattle.ksv_memo_links.proofs.Common.{get_or, Contains, refl, sym, ◌∙◌, ap, subst, arith, sum_by, cases_lt, eqb_tells, get_or-map, get_or_past, get_or_read}
 use Rattle.ksv_memo_links.proofs.Common.{length-map, Contains-append_left, Contains-append_right, sum_by-cons, Use, Item, row, pages_in, ends_in, at, item_at}
 use Rattle.ksv_memo_links.proofs.Common.{one_if, naming, IsListed, list_of_page, lists_of_uses, end_lists, page_lists}
@@ -13,20 +13,19 @@ never-meet end page e = absurd (omega arith)
 
 -- a row of what each row gives
 pub row_of : {X Y : Type 0} (f : List X → List Y) (rows : List (List X)) (s : ℕ) → f [] ≡ [] → row (map f rows) s ≡ f (row rows s)
-row_of {X} {Y} f rows s none = by (cases_lt s (length rows))
-  where
-    by : (s < length rows) ⊎ (length rows ≤ s) → row (map f rows) s ≡ f (row rows s)
-    by (inl lt) = get_or-map f rows s [] [] lt
-    by (inr le) = get_or_past (map f rows) s [] (let n = length-map rows f in omega arith) ∙ sym none ∙ ap f (sym (get_or_past rows s [] le))
+row_of {X} {Y} f rows s none = elim (cases_lt s (length rows)) [
+  | inl lt ↦ get_or-map f rows s [] [] lt
+  | inr le ↦ cc (get_or_past (map f rows) s [] (let n = length-map rows f in omega arith), get_or_past rows s [] le)
+]
 
 -- every other row
 every : {X : Type 0} (lists : List (List X)) (n : ℕ)
     → (row (every_other true lists) n ≡ row lists (2 * n)) × (row (every_other false lists) n ≡ row lists (2 * n + 1))
 every [] n = (refl, refl)
-every {X} (x ∷ lists) zero = (refl, (every lists 0).0 ∙ (let e : suc (2 * 0) ≡ 2 * 0 + 1 = omega arith in ap (λ k. row (x ∷ lists) k) e))
+every {X} (x ∷ lists) zero = (refl, (every lists 0).0 ∙ (let e : suc (2 * 0) ≡ 2 * 0 + 1 = omega arith in ap (row (x ∷ lists)) e))
 every {X} (x ∷ lists) (suc n) = (
-  (every lists n).1 ∙ (let e : suc (2 * n + 1) ≡ 2 * suc n = omega arith in ap (λ k. row (x ∷ lists) k) e),
-  (every lists (suc n)).0 ∙ (let e : suc (2 * suc n) ≡ 2 * suc n + 1 = omega arith in ap (λ k. row (x ∷ lists) k) e),
+  (every lists n).1 ∙ (let e : suc (2 * n + 1) ≡ 2 * suc n = omega arith in ap (row (x ∷ lists)) e),
+  (every lists (suc n)).0 ∙ (let e : suc (2 * suc n) ≡ 2 * suc n + 1 = omega arith in ap (row (x ∷ lists)) e),
 )
 
 pub row-of-end : {X : Type 0} (lists : List (List X)) (end : ℕ) → row lists (list_of_end end) ≡ row (end_lists lists) end
@@ -38,7 +37,7 @@ row-of-page lists page = sym (every lists page).1
 -- how many they are
 counts : {X : Type 0} (lists : List X) → (length (every_other true lists) ≡ (length lists + 1) / 2) × (length (every_other false lists) ≡ length lists / 2)
 counts [] = (refl, refl)
-counts (x ∷ lists) = let h = counts lists in let a = h.0 in let b = h.1 in (omega arith, omega arith)
+counts (x ∷ lists) = let h = counts lists in (omega arith, omega arith)
 
 pub count-ends : {X : Type 0} (lists : List X) → length (end_lists lists) ≡ (length lists + 1) / 2
 count-ends lists = (counts lists).0
@@ -53,23 +52,24 @@ map-named f one l (p ∷ ps) =
     let a = sum_by-cons (one_if (f l)) (f p) (map f ps) in
     let b = sum_by-cons (one_if l) p ps in
     let h = map-named f one l ps in
-    let e = same (eqb_tells l p) (eqb_tells (f l) (f p)) in
+    let e : one_if (f l) (f p) ≡ one_if l p = elim (eqb_tells l p) [
+      | inl e ↦ elim (eqb_tells (f l) (f p)) [
+        | inl g ↦ ap (λ b. cond b 1 0) (g.0 ∙ sym e.0)
+        | inr g ↦ absurd (g.1 (ap f e.1))
+      ]
+      | inr e ↦ elim (eqb_tells (f l) (f p)) [
+        | inl g ↦ absurd (e.1 (one l p g.1))
+        | inr g ↦ ap (λ b. cond b 1 0) (g.0 ∙ sym e.0)
+      ]
+    ] in
     omega arith
-  where
-    same : ((eqb l p ≡ true) × (l ≡ p)) ⊎ ((eqb l p ≡ false) × (l ≢ p)) → ((eqb (f l) (f p) ≡ true) × (f l ≡ f p)) ⊎ ((eqb (f l) (f p) ≡ false) × (f l ≢ f p))
-        → one_if (f l) (f p) ≡ one_if l p
-    same (inl e) (inl g) = ap (λ b. cond b 1 0) (g.0 ∙ sym e.0)
-    same (inr e) (inr g) = ap (λ b. cond b 1 0) (g.0 ∙ sym e.0)
-    same (inl e) (inr g) = absurd (g.1 (ap f e.1))
-    same (inr e) (inl g) = absurd (e.1 (one l p g.1))
 
 none-of : (l : ℕ) (f : ℕ → ℕ) → ((p : ℕ) → l ≢ f p) → (ps : List ℕ) → sum_by (one_if l) (map f ps) ≡ 0
 none-of l f h [] = refl
-none-of l f h (p ∷ ps) = let a = sum_by-cons (one_if l) (f p) (map f ps) in let k = none-of l f h ps in let z = other (eqb_tells l (f p)) in omega arith
-  where
-    other : ((eqb l (f p) ≡ true) × (l ≡ f p)) ⊎ ((eqb l (f p) ≡ false) × (l ≢ f p)) → one_if l (f p) ≡ 0
-    other (inl e) = absurd (h p e.1)
-    other (inr e) = ap (λ b. cond b 1 0) e.0
+none-of l f h (p ∷ ps) = let a = sum_by-cons (one_if l) (f p) (map f ps) in let k = none-of l f h ps in let z : one_if l (f p) ≡ 0 = elim (eqb_tells l (f p)) [
+  | inl e ↦ absurd (h p e.1)
+  | inr e ↦ ap (λ b. cond b 1 0) e.0
+] in omega arith
 
 named-page : (g : ℕ) (us : List Use) → sum_by (one_if (list_of_page g)) (lists_of_uses us) ≡ sum_by (one_if g) (pages_in us)
 named-page g us =
@@ -92,7 +92,7 @@ IsOwner xs s = (i : ℕ) × (i < length xs) × ((get_or xs i (at 0 0)).owner ≡
 
 -- what a number of a list gives is among what all of them give
 gives : (f : ℕ → ℕ) (xs : List ℕ) (x : ℕ) → Contains xs x → Contains (map f xs) (f x)
-gives f xs x c = (c.0, (let n = length-map xs f in let lt = c.1 in omega arith), get_or-map f xs c.0 x (f x) c.1 ∙ ap f c.2)
+gives f xs x c = (c.0, (let n = length-map xs f in omega arith), get_or-map f xs c.0 x (f x) c.1 ∙ ap f c.2)
 
 module _ (rows : List (List Use)) (lists : List (List Item)) (h : IsListed lists (map lists_of_uses rows)) where
   -- a list has no more items than what it stands for is named
@@ -101,48 +101,46 @@ module _ (rows : List (List Use)) (lists : List (List Item)) (h : IsListed lists
   few-of l n of none each =
       let a = h.few l in
       let b = rows-le (λ ns. sum_by (one_if l) ns) (λ ns. sum_by (one_if n) ns) (map lists_of_uses rows) (map of rows) refl refl
-      (λ r. ap (λ ns. sum_by (one_if l) ns) (row_of lists_of_uses rows r refl) ∙ each (row rows r)
-      ∙ ap (λ ns. sum_by (one_if n) ns) (sym (row_of of rows r none))) in
+      (λ r. cc (row_of lists_of_uses rows r refl, each (row rows r), row_of of rows r none)) in
       omega arith
 
   pub few-pages : (g : ℕ) → length (row (page_lists lists) g) ≤ naming (map pages_in rows) g
   few-pages g = let a = few-of (list_of_page g) g pages_in refl (named-page g) in let e =
-      ap (λ (xs : List Item). length xs) (row-of-page lists g) in omega arith
+      ap length (row-of-page lists g) in omega arith
 
   pub few-ends : (l : ℕ) → length (row (end_lists lists) l) ≤ naming (map ends_in rows) l
-  few-ends l = let a = few-of (list_of_end l) l ends_in refl (named-end l) in let e = ap (λ (xs : List Item). length xs) (row-of-end lists l) in omega arith
+  few-ends l = let a = few-of (list_of_end l) l ends_in refl (named-end l) in let e = ap length (row-of-end lists l) in omega arith
 
   -- a slot is in each list of its uses
   in-list : (s l : ℕ) → Contains (lists_of_uses (row rows s)) l → IsOwner (row lists l) s
   in-list s l c =
       let ns = row (map lists_of_uses rows) s in
-      let k : Contains ns l = subst (λ (ms : List ℕ). Contains ms l) (sym (row_of lists_of_uses rows s refl)) c in
-      subst (λ m. IsOwner (row lists m) s) (sym (get_or_read ns k.0 l k.1 (sym k.2) 0)) (h.found s k.0 k.1)
+      let k : Contains ns l = rw (row_of lists_of_uses rows s refl) c in
+      rw (get_or_read ns k.0 l k.1 (sym k.2) 0) (h.found s k.0 k.1)
 
   pub page-item : (s g : ℕ) → Contains (pages_in (row rows s)) g → IsOwner (row (page_lists lists) g) s
   page-item s g c =
       let ps = map list_of_page (pages_in (row rows s)) in
       let es = map list_of_end (ends_in (row rows s)) in
       let there = Contains-append_left ps es (list_of_page g) (gives list_of_page (pages_in (row rows s)) g c) in
-      subst (λ (xs : List Item). IsOwner xs s) (row-of-page lists g) (in-list s (list_of_page g) there)
+      rw (row-of-page lists g) at (in-list s (list_of_page g) there)
 
   pub end-item : (s l : ℕ) → Contains (ends_in (row rows s)) l → IsOwner (row (end_lists lists) l) s
   end-item s l c =
       let ps = map list_of_page (pages_in (row rows s)) in
       let es = map list_of_end (ends_in (row rows s)) in
       let there = Contains-append_right ps es (list_of_end l) (gives list_of_end (ends_in (row rows s)) l c) in
-      subst (λ (xs : List Item). IsOwner xs s) (row-of-end lists l) (in-list s (list_of_end l) there)
+      rw (row-of-end lists l) at (in-list s (list_of_end l) there)
 
 -- the same lists, as rows that are read alike name them
 pub listed-as : (lists : List (List Item)) (rows : List (List Use)) (named : List (List ℕ)) → ((s : ℕ) → row named s ≡ lists_of_uses (row rows s))
     → IsListed lists named → IsListed lists (map lists_of_uses rows)
 listed-as lists rows named each h = record {
-  owners = λ l i lt. (let P : List ℕ → Type 0 = λ ns. (k : ℕ) × (k < length ns) × (get_or ns k 0 ≡ l) in subst P (alike (item_at lists l i).owner)
-      (h.owners l i lt));
+  owners = λ l i lt. (rw (alike (item_at lists l i).owner) at (h.owners l i lt));
   found = λ s k lt. (let P : List ℕ → Type 0 = λ ns. k < length ns
       → (i : ℕ) × (i < length (row lists (get_or ns k 0))) × ((item_at lists (get_or ns k 0) i).owner ≡ s) in subst P (alike s) (h.found s k) lt);
   few = λ l. (let a = h.few l in let b = rows-le (λ ns. sum_by (one_if l) ns) (λ ns. sum_by (one_if l) ns) named (map lists_of_uses rows) refl refl
-      (λ r. ap (λ (ns : List ℕ). sum_by (one_if l) ns) (alike r)) in omega arith);
+      (λ r. ap (sum_by (one_if l)) (alike r)) in omega arith);
   apart = h.apart;
 }
   where

@@ -12,7 +12,6 @@ overflow_add-begin c =
     let i = c.loop-left.invariant in
     let v = last c.loop-left.blocks.items c.args.owner c.index.result.now.begin c.loop-left.left i.begin i.count c.loop-left-test.true in
     let k = i.chained.inside c.args.owner (c.index.result.now.begin + (c.loop-left.left - 1)) v in
-    let m = i.chained.fits in
     omega arith
 
 pub unlink-requires-clause-inside : goal.unlink-requires-clause-inside
@@ -50,13 +49,12 @@ loop-left-preserved c =
     let begin = c.index.result.now.begin in
     let k = c.loop-left.left - 1 in
     let some = c.loop-left-test.true in
-    let count = i.count in
     let one : suc k ≡ (block_at B s).count = omega arith in
-    let s_in : s < length B = (let w = i.wide in let r = c.requires.owner_in in omega arith) in
+    let s_in : s < length B = (omega arith) in
     let now : block_at (set B s (record { begin = begin; count = k })) s ≡ record { begin = begin; count = k } =
     get_or-set_same B s (record { begin = begin; count = k }) (record { begin = 0; count = 0 }) s_in in
     let is : c.put_count.new.blocks.items ≡ set B s (record { begin = begin; count = k }) =
-    c.put_count.ensures ∙ ap (λ b. set B s (record { begin = b; count = k })) (sym i.begin) in
+    cc in
     record {
       chained = rw (sym is) at
           (chained-less c.loop-left.entries.items c.unlink.new.entries.items B c.loop-left.first.items c.unlink.new.first.items s begin k (begin + k)
@@ -65,16 +63,16 @@ loop-left-preserved c =
           (cut-more _ _ _ s i.cut
           (named-less c.loop-left.entries.items c.unlink.new.entries.items B c.loop-left.first.items c.unlink.new.first.items s begin k (begin + k)
           i.chained i.begin one refl c.unlink.ensures));
-      begin = rw (sym is) at (sym (ap (λ (b : Block). b.begin) now));
-      count = rw (sym is) at (sym (ap (λ (b : Block). b.count) now));
-      looks = let n = i.looks in omega arith;
+      begin = rw (sym is) at (sym (ap (λ b. b.begin) now));
+      count = rw (sym is) at (sym (ap (λ b. b.count) now));
+      looks = omega arith;
       size = c.unlink.ensures.size ∙ i.size;
-      wide = ap length is ∙ (length-set B s (record { begin = begin; count = k }) ∙ i.wide);
+      wide = cc (length-set B s (record { begin = begin; count = k }));
     }
 
 -- a block has as many entries as its owner has lists
 count-of : (a : List Entry) (B : List Block) (s : ℕ) (b : Block) → s < length B → b ≡ get_or B s b → b.count ≡ length (row (named_of a B) s)
-count-of a B s b lt is = ap (λ (x : Block). x.count) (get_or_read B s b lt is (record { begin = 0; count = 0 })) ∙ sym (row-length a B s)
+count-of a B s b lt is = cc (get_or_read B s b lt is (record { begin = 0; count = 0 }), row-length a B s)
 
 pub returns-clause-count : goal.returns-clause-count
 returns-clause-count c = count-of c.args.entries.now.items c.args.blocks.now.items c.args.owner c.index.result.now c.requires.owner_in c.index.ensures

@@ -1,4 +1,4 @@
-use Rattle.ksv_memo_links.proofs.Common.{◌≡◌, ℕ, suc, ◌+◌, List, [], ◌∷◌, ◌++◌, sym, ◌∙◌, ap, arith, Entry, entry_at, lists_in}
+use Rattle.ksv_memo_links.proofs.Common.{◌≡◌, ℕ, suc, ◌+◌, List, [], ◌∷◌, ◌++◌, arith, Entry, entry_at, lists_in}
 use Rattle.ksv_memo_links.proofs.Linking.{block-more}
 use Rattle.ksv_memo_links.proofs.blocks.copy_block.Goals as goal
 
@@ -6,7 +6,7 @@ use Rattle.ksv_memo_links.proofs.blocks.copy_block.Goals as goal
 copied : (a : List Entry) (p i : ℕ) (now then : List ℕ) → now ≡ lists_in a p i → then ≡ now ++ (entry_at a (p + i)).list ∷ [] → then ≡ lists_in a p (i + 1)
 copied a p i now then h e =
     let n : suc i ≡ i + 1 = omega arith in
-    e ∙ ap (λ (ns : List ℕ). ns ++ (entry_at a (p + i)).list ∷ []) h ∙ sym (block-more a p i) ∙ ap (λ k. lists_in a p k) n
+    cc (block-more a p i)
 
 pub loop-i-preserved : goal.loop-i-preserved
 loop-i-preserved c = copied c.args.entries.now c.args.block.begin c.loop-i.i c.loop-i.into.items c.push.new.self.items c.loop-i.invariant

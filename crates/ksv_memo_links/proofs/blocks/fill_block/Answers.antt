@@ -1,5 +1,5 @@
-use Rattle.ksv_memo_links.proofs.Common.{◌≡◌, ◌≢◌, ℕ, suc, ◌+◌, ◌<◌, List, [], length, set, get_or, refl, sym, ◌∙◌, ap, subst, arith, length-set}
-use Rattle.ksv_memo_links.proofs.Common.{get_or-set_same, get_or-set_other, set-get_or, Block, block_at, named_of, IsChained, IsFree}
+use Rattle.ksv_memo_links.proofs.Common.{◌≡◌, ◌≢◌, ℕ, suc, ◌+◌, ◌<◌, List, [], length, set, get_or, refl, sym, ◌∙◌, ap, arith, length-set}
+use Rattle.ksv_memo_links.proofs.Common.{get_or-set_same, get_or-set_other, set-get_or, Block, block_at, named_of, IsFree}
 use Rattle.ksv_memo_links.proofs.Linking.{named-length, row-length, live-as, first-other, first-inside, named-more, chained-more}
 use Rattle.ksv_memo_links.proofs.Filling.{one-more}
 use Rattle.ksv_memo_links.proofs.blocks.fill_block.Goals as goal
@@ -7,10 +7,10 @@ use Rattle.ksv_memo_links.proofs.blocks.fill_block.Goals as goal
 pub loop-i-init : goal.loop-i-init
 loop-i-init c = record {
   chained = c.requires.chained;
-  named = sym (ap (λ (ns : List ℕ). set (named_of c.args.entries.now.items c.args.blocks.now.items) c.args.owner ns) (sym c.requires.none)
+  named = sym (ap (set (named_of c.args.entries.now.items c.args.blocks.now.items) c.args.owner) (sym c.requires.none)
       ∙ set-get_or (named_of c.args.entries.now.items c.args.blocks.now.items) c.args.owner []);
   begin = λ lt. absurd (omega arith);
-  count = sym (sym (row-length c.args.entries.now.items c.args.blocks.now.items c.args.owner) ∙ ap (λ (ns : List ℕ). length ns) c.requires.none);
+  count = sym (sym (row-length c.args.entries.now.items c.args.blocks.now.items c.args.owner) ∙ ap length c.requires.none);
   others = λ t ne. refl;
   size = refl;
   places = refl;
@@ -26,7 +26,7 @@ pub link-requires-clause-next_in : goal.link-requires-clause-next_in
 link-requires-clause-next_in c =
     let i = c.loop-i.invariant in
     first-inside c.loop-i.entries.items c.loop-i.blocks.items c.loop-i.first.items (get_or c.args.lists.now c.loop-i.i 0) i.chained
-    (let m = c.requires.inside in let n = c.requires.some in let e = i.places in omega arith)
+    (omega arith)
 
 pub link-requires-clause-other : goal.link-requires-clause-other
 link-requires-clause-other c =
@@ -34,7 +34,6 @@ link-requires-clause-other c =
     let t = c.loop-i-test.true in
     let free = free-still c.args.blocks.now.items c.loop-i.blocks.items c.args.owner (c.args.begin + c.loop-i.i) i.others
     (c.requires.free c.loop-i.i (omega arith)) in
-    let n = c.requires.some in
     first-other c.loop-i.entries.items c.loop-i.blocks.items c.loop-i.first.items c.args.owner c.args.begin c.loop-i.i (c.args.begin + c.loop-i.i) i.chained
     i.count i.begin refl free (omega arith) (get_or c.args.lists.now c.loop-i.i 0)
 
@@ -42,20 +41,17 @@ pub loop-i-preserved : goal.loop-i-preserved
 loop-i-preserved c =
     let i = c.loop-i.invariant in
     let t = c.loop-i-test.true in
-    let n = c.requires.some in
     let s = c.args.owner in
     let B = c.loop-i.blocks.items in
     let k = c.loop-i.i in
     let l = get_or c.args.lists.now k 0 in
     let p = c.args.begin + k in
-    let w = i.wide in
-    let s_in0 = c.requires.owner_in in
     let s_in : s < length B = omega arith in
     let e : suc k ≡ k + 1 = omega arith in
     let new : Block = record { begin = c.args.begin; count = k + 1 } in
     let new_is : record { begin = c.args.begin; count = suc k } ≡ new = ap (λ m. record { begin = c.args.begin; count = m }) e in
     let free = free-still c.args.blocks.now.items B s p i.others (c.requires.free k (omega arith)) in
-    let there : p < length c.loop-i.entries.items = (let m = c.requires.inside in let z = i.places in omega arith) in
+    let there : p < length c.loop-i.entries.items = (omega arith) in
     let chained = chained-more c.loop-i.entries.items c.link.new.entries.items B c.loop-i.first.items c.link.new.first.items s c.args.begin k p l i.chained s_in
     i.count i.begin refl free (omega arith) there c.link.ensures in
     let named = named-more c.loop-i.entries.items c.link.new.entries.items B c.loop-i.first.items c.link.new.first.items s c.args.begin k p l i.chained s_in
@@ -63,12 +59,12 @@ loop-i-preserved c =
     let here : block_at (set B s new) s ≡ new = get_or-set_same B s new (record { begin = 0; count = 0 }) s_in in
     let rows0 = named_of c.args.entries.now.items c.args.blocks.now.items in
     record {
-      chained = subst (λ (x : Block). IsChained c.link.new.entries.items (set B s x) c.link.new.first.items) new_is chained;
+      chained = rw new_is at chained;
       named = one-more rows0 (named_of c.loop-i.entries.items B) (named_of c.link.new.entries.items (set B s new)) s k l c.args.lists.now
           (let m = named-length c.args.entries.now.items c.args.blocks.now.items in omega arith) (omega arith) refl i.named
-          (ap (λ (x : Block). named_of c.link.new.entries.items (set B s x)) (sym new_is) ∙ named);
-      begin = λ lt. sym (ap (λ (b : Block). b.begin) here);
-      count = sym (ap (λ (b : Block). b.count) here);
+          (cc);
+      begin = λ lt. sym (ap (λ b. b.begin) here);
+      count = sym (ap (λ b. b.count) here);
       others = λ t ne. get_or-set_other B s t new (record { begin = 0; count = 0 }) ne ∙ i.others t ne;
       size = c.link.ensures.size ∙ i.size;
       places = c.link.ensures.places ∙ i.places;

@@ -1,4 +1,4 @@
-use Rattle.ksv_memo_links.proofs.Common.{◌≡◌, ℕ, zero, suc, ◌+◌, ◌-◌, ◌/◌, ◌≤◌, List, [], ◌∷◌, ◌++◌, map, sym, ◌∙◌, ap, arith, map-append, numbers_from}
+use Rattle.ksv_memo_links.proofs.Common.{◌≡◌, ℕ, zero, suc, ◌+◌, ◌-◌, ◌/◌, ◌≤◌, List, [], ◌∷◌, ◌++◌, map, ◌∙◌, ap, arith, map-append, numbers_from}
 use Rattle.ksv_memo_links.proofs.Common.{list_of_page}
 use Rattle.std.proofs.Common.{append_assoc}
 use Rattle.ksv_memo_links.proofs.used.add_pages.Goals as goal
@@ -16,18 +16,13 @@ longer old now then first page list le e n f =
     let count : suc (page - first) ≡ page + 1 - first = omega arith in
     let last : first + (page - first) ≡ page = omega arith in
     let more : map list_of_page (numbers_from first (suc (page - first))) ≡ xs ++ list ∷ [] =
-    ap (λ (ns : List ℕ). map list_of_page ns) (numbers-more first (page - first))
-    ∙ map-append list_of_page (numbers_from first (page - first)) ((first + (page - first)) ∷ [])
-    ∙ ap (λ k. xs ++ list_of_page k ∷ []) last
-    ∙ ap (λ k. xs ++ k ∷ []) (sym n) in
-    f ∙ ap (λ (ns : List ℕ). ns ++ list ∷ []) e ∙ append_assoc old xs (list ∷ []) ∙ ap (λ (ns : List ℕ). old ++ ns) (sym more)
-    ∙ ap (λ k. old ++ map list_of_page (numbers_from first k)) count
+    cc (numbers-more first (page - first), map-append list_of_page (numbers_from first (page - first)) ((first + (page - first)) ∷ [])) in
+    cc (append_assoc old xs (list ∷ []))
 
 pub loop-page-preserved : goal.loop-page-preserved
 loop-page-preserved c =
     let t = c.loop-page-test.true in
     let i = c.loop-page.invariant in
-    let le = i.from in
     record {
       lists = longer c.args.lists.now.items c.loop-page.lists.items c.push.new.self.items (c.in-Bytes.from / 64) c.loop-page.page c.page_list.result i.from
           i.lists c.page_list.ensures.number c.in_ok-push-in-Bytes.ensures.items;

@@ -6,14 +6,17 @@ use Rattle.ksv_memo_links.specs.Touching.{pages_of}
 use Rattle.ksv_memo_links.proofs.used.all_pages.Goals as goal
 
 pages-more : (us : List Use) (i : ℕ) → i < length us → pages_in (take (i + 1) us) ≡ pages_in (take i us) ++ pages_of (get_or us i (Bytes 0 0))
-pages-more us i lt = ap pages_in (take_more us i (Bytes 0 0) lt) ∙ flat_map-append pages_of (take i us) (get_or us i (Bytes 0 0) ∷ [])
-    ∙ ap (λ ps. pages_in (take i us) ++ ps) (append-nil (pages_of (get_or us i (Bytes 0 0))))
+pages-more us i lt = cc (
+  take_more us i (Bytes 0 0) lt,
+  flat_map-append pages_of (take i us) (get_or us i (Bytes 0 0) ∷ []),
+  append-nil (pages_of (get_or us i (Bytes 0 0))),
+)
 
 pub loop-used-preserved : goal.loop-used-preserved
 loop-used-preserved c =
     let us = c.args.uses.now in
     let i = c.loop-used.used-index in
     c.in_ok-add_pages.ensures
-    ∙ ap (λ (ns : List ℕ). ns ++ map list_of_page (pages_of (get_or us i (Bytes 0 0)))) c.loop-used.invariant
+    ∙ ap (λ ns. ns ++ map list_of_page (pages_of (get_or us i (Bytes 0 0)))) c.loop-used.invariant
     ∙ sym (map-append list_of_page (pages_in (take i us)) (pages_of (get_or us i (Bytes 0 0))))
-    ∙ ap (λ (ns : List ℕ). map list_of_page ns) (sym (pages-more us i c.loop-used-test.true))
+    ∙ ap (map list_of_page) (sym (pages-more us i c.loop-used-test.true))

@@ -12,7 +12,6 @@ loop-used-preserved c =
     let us = c.args.uses.now in
     let i = c.loop-used.used-index in
     let a = c.max-place.ensures in
-    let b = c.reached.ensures in
     let d = farthest-more us i (Bytes 0 0) c.loop-used-test.true in
     let e : c.loop-used.place ≡ farthest (take i us) = c.loop-used.invariant in
     let n : suc i ≡ i + 1 = omega arith in

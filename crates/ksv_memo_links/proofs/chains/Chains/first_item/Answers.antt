@@ -1,4 +1,4 @@
-use Rattle.ksv_memo_links.proofs.Common.{◌≡◌, inl, ◌≤◌, length, sym, ◌∙◌, ap, subst, arith, get_or_read, row, item_at, Chained}
+use Rattle.ksv_memo_links.proofs.Common.{◌≡◌, inl, ◌≤◌, length, ap, subst, arith, get_or_read, row, item_at, Chained}
 use Rattle.ksv_memo_links.proofs.Items.{lists-length, cursor, no-item}
 use Rattle.ksv_memo_links.proofs.chains.Chains.first_item.Goals as goal
 
@@ -6,17 +6,16 @@ pub index-requires : goal.index-requires
 index-requires c =
     let e = ap (λ x. length x.lists) c.self.view_is in
     let n = lists-length c.self.inside.entries.items c.self.inside.blocks.items c.self.inside.first.items in
-    let k = c.requires in
     omega arith
 
 pub returns-clause-result : goal.returns-clause-result
 returns-clause-result c =
     let e = ap (λ x. length x.lists) c.self.view_is in
     let n = lists-length c.self.inside.entries.items c.self.inside.blocks.items c.self.inside.first.items in
-    let k = c.requires in
-    get_or_read c.self.inside.first.items c.args.list c.index.result.now (omega arith) c.index.ensures 0
-    ∙ sym (cursor c.self.inside.entries.items c.self.inside.blocks.items c.self.inside.first.items c.self.invariant c.args.list 0 (omega arith))
-    ∙ ap (λ x. (item_at x.lists c.args.list 0).at) c.self.view_is
+    cc (
+      get_or_read c.self.inside.first.items c.args.list c.index.result.now (omega arith) c.index.ensures 0,
+      cursor c.self.inside.entries.items c.self.inside.blocks.items c.self.inside.first.items c.self.invariant c.args.list 0 (omega arith),
+    )
 
 pub returns-clause-none : goal.returns-clause-none
 returns-clause-none c z =

@@ -1,4 +1,4 @@
-use Rattle.ksv_memo_links.proofs.Common.{◌≡◌, ◌≢◌, ◌⊎◌, inl, inr, ◌+◌, ◌<◌, ◌≤◌, length, ◌∙◌, ap, subst, arith, get_or_read, row, item_at, Chained, entry_at}
+use Rattle.ksv_memo_links.proofs.Common.{◌≡◌, ◌≢◌, ◌⊎◌, inl, inr, ◌+◌, ◌<◌, ◌≤◌, length, subst, arith, get_or_read, row, item_at, Chained, entry_at}
 use Rattle.ksv_memo_links.proofs.Items.{item-found, no-item}
 use Rattle.ksv_memo_links.proofs.chains.Chains.item.Goals as goal
 use Rattle.ksv_memo_links.proofs.chains.Chains.item.Goals.{then-at-eq0-via-then-at-eq0, then-at-eq0-via-else-at-eq0+then-at-len}
@@ -10,15 +10,13 @@ returns-then-at-eq0-clause-none c slot i =
     elim c.then-at-eq0.branch [
       | then-at-eq0-via-then-at-eq0 w ↦ inl (let k = w.if-at-eq0 in omega arith)
       | then-at-eq0-via-else-at-eq0+then-at-len w
-          ↦ inr (let k = w.if-at-len in let n = w.len.ensures in omega arith)
+          ↦ inr (let k = w.if-at-len in omega arith)
     ] in
-    let P : Chained → Type 0 = λ x. c.args.at ≡ (item_at x.lists slot i).at → length (row x.lists slot) ≤ i in
-    subst P c.self.view_is (no-item a c.self.inside.blocks.items c.self.inside.first.items c.self.invariant c.args.at slot i out)
+    rw (← c.self.view_is) (no-item a c.self.inside.blocks.items c.self.inside.first.items c.self.invariant c.args.at slot i out)
 
 pub returns-clause-some : goal.returns-clause-some
 returns-clause-some c slot i =
     let a = c.self.inside.entries.items in
-    let n = c.len.ensures in
     let k = c.if-at-len.false in
     let z = c.if-at-eq0.false in
     let some : c.args.at ≢ 0 = λ e. absurd (omega arith) in
@@ -28,4 +26,4 @@ returns-clause-some c slot i =
     → (i < length (row x.lists slot)) × (c.index-entry.result.now.owner ≡ (item_at x.lists slot i).owner)
     × (c.index-entry.result.now.next ≡ (item_at x.lists slot (i + 1)).at) in
     subst P c.self.view_is (λ e. (let u = item-found a c.self.inside.blocks.items c.self.inside.first.items c.self.invariant c.args.at slot i some e in
-    (u.0, ap (λ x. x.owner) read ∙ u.1, ap (λ x. x.next) read ∙ u.2)))
+    (u.0, cc, cc)))

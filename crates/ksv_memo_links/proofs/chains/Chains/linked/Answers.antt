@@ -1,7 +1,5 @@
-use Rattle.ksv_memo_links.proofs.Common.{subst, Chained, IsListed}
 use Rattle.ksv_memo_links.proofs.Items.{all-listed}
 use Rattle.ksv_memo_links.proofs.chains.Chains.linked.Goals as goal
 
 pub returns : goal.returns
-returns c = let P : Chained → Type 0 = λ x. IsListed x.lists x.named in subst P c.self.view_is
-    (all-listed c.self.inside.entries.items c.self.inside.blocks.items c.self.inside.first.items c.self.invariant)
+returns c = rw (← c.self.view_is) (all-listed c.self.inside.entries.items c.self.inside.blocks.items c.self.inside.first.items c.self.invariant)

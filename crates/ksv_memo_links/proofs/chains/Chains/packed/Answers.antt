@@ -1,4 +1,4 @@
-use Rattle.ksv_memo_links.proofs.Common.{◌≡◌, ℕ, ◌<◌, List, [], length, get_or, sym, ◌∙◌, ap, subst, arith, get_or_past, Block, row}
+use Rattle.ksv_memo_links.proofs.Common.{◌≡◌, ◌<◌, [], length, get_or, sym, ◌∙◌, ap, subst, arith, get_or_past, row}
 use Rattle.ksv_memo_links.proofs.Linking.{named-length}
 use Rattle.ksv_memo_links.proofs.Items.{lists-length}
 use Rattle.ksv_memo_links.proofs.Packing.{copied-more, copied-all, list-there}
@@ -11,24 +11,20 @@ loop-owner-init c =
     let w = ap (λ x. length x.lists) c.self.view_is in
     let n = named-length i.entries.items i.blocks.items in
     let m = lists-length i.entries.items i.blocks.items i.first.items in
-    let b = ap (λ (xs : List Block). length xs) c.as_slice-owners.ensures.value in
-    let f = ap (λ (xs : List ℕ). length xs) c.as_slice.ensures.value in
+    let b = ap length c.as_slice-owners.ensures.value in
+    let f = ap length c.as_slice.ensures.value in
     let z = ap (λ x. length x.named) c.new-packed.ensures in
     let y = ap (λ x. length x.lists) c.new-packed.ensures in
     let o1 = c.in_ok-number.ensures in
     let o2 = c.in_ok-number-2.ensures in
     let k1 = c.in_ok-reach_owners.ensures.ok in
-    let k2 = c.reach_owners.ensures.few in
-    let k3 = c.reach_owners.ensures.lists in
     let l1 = c.in_ok-reach_lists.ensures.ok in
-    let l2 = c.reach_lists.ensures.few in
-    let same = ap (λ (rows : List (List ℕ)). length rows) c.reach_lists.ensures.named in
+    let same = ap length c.reach_lists.ensures.named in
     record {
       copied = record {
         size = omega arith;
         done = λ t lt. absurd (omega arith);
-        none = λ t le. ap (λ (rows : List (List ℕ)). row rows t) c.reach_lists.ensures.named ∙ c.reach_owners.ensures.named.each t
-            ∙ get_or_past c.new-packed.result.named t [] (omega arith);
+        none = λ t le. cc (c.reach_owners.ensures.named.each t, get_or_past c.new-packed.result.named t [] (omega arith));
       };
       lists = omega arith;
     }
@@ -38,7 +34,7 @@ link_row-requires-clause-owner_in c =
     let i = c.self.inside in
     let v = ap (λ x. length x.named) c.self.view_is in
     let n = named-length i.entries.items i.blocks.items in
-    let b = ap (λ (xs : List Block). length xs) c.as_slice-owners.ensures.value in
+    let b = ap length c.as_slice-owners.ensures.value in
     let t = c.loop-owner-test.true in
     let s = c.loop-owner.invariant.copied.size in
     omega arith
@@ -51,7 +47,7 @@ link_row-requires-clause-lists_in c k d lt =
     let is : c.as_slice-in-loop-owner.result.now ≡ row c.args.self.now.named c.loop-owner.owner =
     c.as_slice-in-loop-owner.ensures.value ∙ c.in_ok-copy_row.ensures in
     let n = c.loop-owner.invariant.lists in
-    let there = subst (λ (xs : List ℕ). k < length xs → get_or xs k d < length c.args.self.now.lists) (sym is)
+    let there = subst (λ xs. k < length xs → get_or xs k d < length c.args.self.now.lists) (sym is)
     (list-there c.args.self.now.lists c.args.self.now.named c.loop-owner.owner c.linked.ensures k d) lt in
     omega arith
 
@@ -60,7 +56,7 @@ loop-owner-preserved c =
     let i = c.self.inside in
     let v = ap (λ x. length x.named) c.self.view_is in
     let n = named-length i.entries.items i.blocks.items in
-    let b = ap (λ (xs : List Block). length xs) c.as_slice-owners.ensures.value in
+    let b = ap length c.as_slice-owners.ensures.value in
     let t = c.loop-owner-test.true in
     record {
       copied = copied-more c.args.self.now.named c.loop-owner.packed.named c.link_row.new.self.named c.loop-owner.owner c.as_slice-in-loop-owner.result.now
@@ -73,6 +69,6 @@ returns-clause-named c =
     let i = c.self.inside in
     let v = ap (λ x. length x.named) c.self.view_is in
     let n = named-length i.entries.items i.blocks.items in
-    let b = ap (λ (xs : List Block). length xs) c.as_slice-owners.ensures.value in
+    let b = ap length c.as_slice-owners.ensures.value in
     let t = c.loop-owner-test.false in
     copied-all c.args.self.now.named c.loop-owner.packed.named c.loop-owner.owner c.loop-owner.invariant.copied (omega arith)

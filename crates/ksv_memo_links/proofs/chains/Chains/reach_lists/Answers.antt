@@ -1,4 +1,4 @@
-use Rattle.ksv_memo_links.proofs.Common.{ℕ, List, ◌-◌, length, sym, ap, subst, arith, length-append, IsChained}
+use Rattle.ksv_memo_links.proofs.Common.{ℕ, ◌-◌, length, sym, ap, subst, arith, length-append, IsChained}
 use Rattle.std.proofs.lemmas.List.{length-replicate}
 use Rattle.ksv_memo_links.proofs.Items.{lists-length}
 use Rattle.ksv_memo_links.proofs.Growing.{padded-by, on-ok, chained-lists}
@@ -9,7 +9,7 @@ invariant_of-self c =
     let i = c.self.inside in
     let p = padded-by c.reach_first.result i.first.items c.reach_first.new.first.items (c.args.count - length i.first.items) 0 c.reach_first.ensures.ok
     c.reach_first.ensures.err in
-    subst (λ (first : List ℕ). IsChained i.entries.items i.blocks.items first) (sym p.1)
+    subst (IsChained i.entries.items i.blocks.items) (sym p.1)
     (chained-lists i.entries.items i.blocks.items i.first.items p.0 c.self.invariant)
 
 pub returns-clause-lists : goal.returns-clause-lists
@@ -17,7 +17,7 @@ returns-clause-lists c =
     let i = c.self.inside in
     let p = padded-by c.reach_first.result i.first.items c.reach_first.new.first.items (c.args.count - length i.first.items) 0 c.reach_first.ensures.ok
     c.reach_first.ensures.err in
-    let n = ap (λ (first : List ℕ). length first) p.1 in
+    let n = ap length p.1 in
     let m = lists-length i.entries.items i.blocks.items c.reach_first.new.first.items in
     let k = lists-length i.entries.items i.blocks.items i.first.items in
     let e = ap (λ x. length x.lists) c.self.view_is in
@@ -28,8 +28,7 @@ returns-clause-few c =
     let i = c.self.inside in
     let p = padded-by c.reach_first.result i.first.items c.reach_first.new.first.items (c.args.count - length i.first.items) 0 c.reach_first.ensures.ok
     c.reach_first.ensures.err in
-    let le = p.2 in
-    let n = ap (λ (first : List ℕ). length first) p.1 in
+    let n = ap length p.1 in
     let m = lists-length i.entries.items i.blocks.items c.reach_first.new.first.items in
     let k = lists-length i.entries.items i.blocks.items i.first.items in
     let e = ap (λ x. length x.lists) c.self.view_is in
@@ -39,6 +38,6 @@ pub returns-clause-ok : goal.returns-clause-ok
 returns-clause-ok c =
     let i = c.self.inside in
     on-ok c.reach_first.result c.reach_first.ensures.ok (λ h. (
-    let n = ap (λ (first : List ℕ). length first) h in
+    let n = ap length h in
     let m = lists-length i.entries.items i.blocks.items c.reach_first.new.first.items in
     omega (arith, length-append {A = ℕ}, length-replicate {A = ℕ})))

@@ -1,4 +1,4 @@
-use Rattle.ksv_memo_links.proofs.Common.{List, ◌-◌, length, sym, ◌∙◌, ap, subst, Block, HasSameRows, Chained, named_of, IsChained}
+use Rattle.ksv_memo_links.proofs.Common.{◌-◌, length}
 use Rattle.ksv_memo_links.proofs.Items.{lists-length}
 use Rattle.ksv_memo_links.proofs.Growing.{padded-by, chained-owners, same-named}
 use Rattle.ksv_memo_links.proofs.chains.Chains.reach_owners.Goals as goal
@@ -8,22 +8,16 @@ invariant_of-self c =
     let i = c.self.inside in
     let p = padded-by c.reach_blocks.result i.blocks.items c.reach_blocks.new.blocks.items (c.args.count - length i.blocks.items)
     (record { begin = 0; count = 0 }) c.reach_blocks.ensures.ok c.reach_blocks.ensures.err in
-    subst (λ (blocks : List Block). IsChained i.entries.items blocks i.first.items) (sym p.1)
-    (chained-owners i.entries.items i.blocks.items i.first.items p.0 c.self.invariant)
+    rw p.1 (chained-owners i.entries.items i.blocks.items i.first.items p.0 c.self.invariant)
 
 pub returns-clause-named : goal.returns-clause-named
 returns-clause-named c =
     let i = c.self.inside in
     let p = padded-by c.reach_blocks.result i.blocks.items c.reach_blocks.new.blocks.items (c.args.count - length i.blocks.items)
     (record { begin = 0; count = 0 }) c.reach_blocks.ensures.ok c.reach_blocks.ensures.err in
-    let P : Chained → Type 0 = λ x. HasSameRows x.named (named_of i.entries.items c.reach_blocks.new.blocks.items) in
-    subst P c.self.view_is
-    (subst (λ (blocks : List Block). HasSameRows (named_of i.entries.items i.blocks.items) (named_of i.entries.items blocks)) (sym p.1)
-    (same-named i.entries.items i.blocks.items i.first.items p.0 c.self.invariant))
+    rw (← c.self.view_is) (rw (← p.1) at (same-named i.entries.items i.blocks.items i.first.items p.0 c.self.invariant))
 
 pub returns-clause-lists : goal.returns-clause-lists
 returns-clause-lists c =
     let i = c.self.inside in
-    lists-length i.entries.items c.reach_blocks.new.blocks.items i.first.items
-    ∙ sym (lists-length i.entries.items i.blocks.items i.first.items)
-    ∙ ap (λ x. length x.lists) c.self.view_is
+    cc (lists-length i.entries.items c.reach_blocks.new.blocks.items i.first.items, lists-length i.entries.items i.blocks.items i.first.items)

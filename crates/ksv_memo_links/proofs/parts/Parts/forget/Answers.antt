@@ -1,4 +1,4 @@
-use Rattle.ksv_memo_links.proofs.Common.{List, ℕ, length, ap, arith}
+use Rattle.ksv_memo_links.proofs.Common.{length, ap, arith}
 use Rattle.ksv_memo_links.proofs.Closing.{forgets, whole-after, near, behind, rises}
 use Rattle.ksv_memo_links.proofs.parts.Parts.forget.Goals as goal
 
@@ -24,4 +24,4 @@ returns-clause-grows c = rises c.args.self.now c.hit_touched.new.self c.spread.n
 
 pub returns-clause-vacant : goal.returns-clause-vacant
 returns-clause-vacant c s e =
-    (c.requires.whole.vacant s e (λ k. (let lt = k.1 in let z = ap (λ (ws : List ℕ). length ws) c.requires.idle in absurd (omega arith)))).1
+    (c.requires.whole.vacant s e (λ k. (let z = ap length c.requires.idle in absurd (omega arith)))).1

@@ -12,7 +12,7 @@ returns-then-is_touched c =
       kept = c.mark.ensures.kept;
       work = c.mark.ensures.work;
       least = c.mark.ensures.least;
-      rises = let a = c.is_touched.ensures.grows in let b = c.mark.ensures.grows in omega arith;
+      rises = omega arith;
     } in
     hit-marked p q c.args.change c.args.slot one (sym c.is_touched.ensures.result ∙ c.if-is_touched.true)
-    (let a = c.is_touched.ensures.looks in let b = c.mark.ensures.looks in omega arith)
+    (omega arith)

@@ -11,15 +11,11 @@ returns c =
     let r = c.hit_pages.new.self in
     let x = c.args.change in
     let place = c.args.at in
-    let f = c.linked.ensures.fits in
-    let s = c.saturating_add.ensures in
     let a = c.hit_size.ensures in
     let b0 = c.hit_ends.ensures in
     let n = count-ends p.uses.lists in
     let e : min c.saturating_add.result (length (end_lists p.uses.lists)) ≡ min (c.args.pages + 1) (length (end_lists p.uses.lists)) = omega arith in
-    let P : List (List Item) → Type 0 = λ lists. HitsRows q1 q2 x (end_lists lists) (first_page place + 1)
-    (min c.saturating_add.result (length (end_lists lists))) in
-    let b = subst (λ last. HitsRows q1 q2 x (end_lists p.uses.lists) (first_page place + 1) last) e (subst P a.more.same.use_lists b0) in
+    let b = subst (HitsRows q1 q2 x (end_lists p.uses.lists) (first_page place + 1)) e (rw (← a.more.same.use_lists) b0) in
     let Q : List (List Item) → Type 0 = λ lists. HitsRows q2 r x (page_lists lists) (first_page place) (min c.args.pages (length (page_lists lists))) in
     let d = subst Q (b0.more.same.use_lists ∙ a.more.same.use_lists) c.hit_pages.ensures in
     hits-behind p q1 q2 r x place c.args.pages a b d

@@ -1,4 +1,4 @@
-use Rattle.ksv_memo_links.proofs.Common.{map, sym, subst, arith, Parts, row, lists_of_uses, item_at, HitsRow}
+use Rattle.ksv_memo_links.proofs.Common.{map, arith, Parts, row, lists_of_uses, item_at}
 use Rattle.ksv_memo_links.proofs.Hits.{peek-uses, row-none, row-more, row-end, listed-in}
 use Rattle.ksv_memo_links.proofs.Cursors.{seen_to, starts, steps, ended}
 use Rattle.ksv_memo_links.proofs.parts.Parts.hit_items.Goals as goal
@@ -9,7 +9,7 @@ loop-item-init c =
     let items = row p.uses.lists c.args.list in
     let start = starts p.uses.lists (map lists_of_uses p.uses.rows) c.args.list c.linked.ensures.listed c.args.first c.requires.begins in
     record {
-      hits = subst (λ n. HitsRow p p c.args.change items n 0) (sym start.1) (row-none p c.args.change items);
+      hits = rw start.1 (row-none p c.args.change items);
       at = start.0;
     }
 
@@ -22,8 +22,6 @@ hit-requires-clause-slot_in c =
     i.hits.more.same.use_lists i.at c.in-Some.ensures.some in
     let some = listed-in p.uses.rows p.uses.lists c.args.list n c.linked.ensures.listed step.inside in
     let there = c.requires.shaped.used_in (item_at p.uses.lists c.args.list n).owner some in
-    let is = step.owner in
-    let same = i.hits.more.same_length in
     omega arith
 
 pub loop-item-preserved : goal.loop-item-preserved
@@ -38,8 +36,8 @@ loop-item-preserved c =
     i.hits.more.same.use_lists i.at c.in-Some.ensures.some in
     let k = peek-uses q q1.uses h.rows h.lists (let l = c.in-Some.ensures.looks in omega arith) h.grows in
     record {
-      hits = subst (λ n. HitsRow p c.hit.new.self c.args.change items n 0) (sym step.seen)
-          (row-more p q q1 c.hit.new.self c.args.change items (seen_to items c.loop-item.at) c.in-Some.item.owner i.hits k step.inside step.owner
+      hits = rw step.seen (row-more p q q1 c.hit.new.self c.args.change items
+          (seen_to items c.loop-item.at) c.in-Some.item.owner i.hits k step.inside step.owner
           c.hit.ensures);
       at = step.stands;
     }
@@ -58,8 +56,8 @@ returns c =
     let q1 : Parts = record { asks = q.asks; uses = c.item.new.self; marks = q.marks } in
     let i = c.loop-item.invariant in
     let h = c.item.ensures in
-    let idle = c.in_default.ensures.idle in
     let items = row p.uses.lists c.args.list in
+    let idle = c.in_default.ensures.idle in
     let end = ended p.uses.lists (map lists_of_uses p.uses.rows) c.args.list c.linked.ensures.listed q.uses.lists c.loop-item.at i.hits.more.same.use_lists i.at
     c.in_default.ensures.none in
     row-end p q q1 c.args.change items (seen_to items c.loop-item.at) i.hits (peek-uses q q1.uses h.rows h.lists (omega arith) h.grows) (omega arith) end

@@ -5,10 +5,7 @@ use Rattle.ksv_memo_links.proofs.parts.Parts.hit_met.Goals as goal
 pub returns : goal.returns
 returns c =
     let p = c.args.self.now in
-    let f = c.linked.ensures.fits in
     let n = count-pages p.uses.lists in
-    let m = c.max.ensures in
-    let s = c.saturating_add.ensures in
     let e : min ((c.saturating_add.result - 1) / 64 + 1) (length (page_lists p.uses.lists))
     ≡ min (end_page c.args.at c.args.n) (length (page_lists p.uses.lists)) = omega arith in
-    subst (λ last. HitsRows p c.hit_pages.new.self c.args.change (page_lists p.uses.lists) (first_page c.args.at) last) e c.hit_pages.ensures
+    subst (HitsRows p c.hit_pages.new.self c.args.change (page_lists p.uses.lists) (first_page c.args.at)) e c.hit_pages.ensures

@@ -1,4 +1,4 @@
-use Rattle.ksv_memo_links.proofs.Common.{List, length, ◌∙◌, ap, arith, Item, row, page_lists}
+use Rattle.ksv_memo_links.proofs.Common.{length, ◌∙◌, ap, arith, row, page_lists}
 use Rattle.ksv_memo_links.proofs.Hits.{rows-none, rows-more, row-as}
 use Rattle.ksv_memo_links.proofs.Turns.{row-of-page, count-ends, count-pages}
 use Rattle.ksv_memo_links.proofs.parts.Parts.hit_pages.Goals as goal
@@ -8,10 +8,9 @@ loop-page-init c = record { hits = rows-none c.args.self.now c.args.change (page
 
 pub hit_list-requires-clause-list_in : goal.hit_list-requires-clause-list_in
 hit_list-requires-clause-list_in c =
-    let e = ap (λ (lists : List (List Item)). length lists) c.loop-page.invariant.hits.more.same.use_lists in
+    let e = ap length c.loop-page.invariant.hits.more.same.use_lists in
     let a = count-ends c.args.self.now.uses.lists in
     let b = count-pages c.args.self.now.uses.lists in
-    let n = c.page_list.ensures.number in
     omega arith
 
 pub loop-page-preserved : goal.loop-page-preserved
@@ -19,8 +18,8 @@ loop-page-preserved c =
     let p = c.args.self.now in
     let q = c.loop-page.self in
     let r = c.hit_list.new.self in
-    let same = ap (λ (lists : List (List Item)). row lists c.page_list.result) c.loop-page.invariant.hits.more.same.use_lists in
-    let there = ap (λ n. row p.uses.lists n) c.page_list.ensures.number ∙ row-of-page p.uses.lists c.loop-page.page in
+    let same = ap (λ lists. row lists c.page_list.result) c.loop-page.invariant.hits.more.same.use_lists in
+    let there = ap (row p.uses.lists) c.page_list.ensures.number ∙ row-of-page p.uses.lists c.loop-page.page in
     record {
       hits = rows-more p q r c.args.change (page_lists p.uses.lists) c.args.first c.loop-page.page (omega arith) c.loop-page.invariant.hits
           (row-as q r c.args.change (row q.uses.lists c.page_list.result) (row (page_lists p.uses.lists) c.loop-page.page) (same ∙ there) c.hit_list.ensures);

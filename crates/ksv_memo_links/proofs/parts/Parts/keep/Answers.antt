@@ -1,4 +1,4 @@
-use Rattle.ksv_memo_links.proofs.Common.{refl, sym, ◌∙◌, ap, set, true, arith, Parts}
+use Rattle.ksv_memo_links.proofs.Common.{refl, sym, ◌∙◌, arith, Parts}
 use Rattle.ksv_memo_links.proofs.Keeping.{same_whole, filled_whole}
 use Rattle.ksv_memo_links.proofs.parts.Parts.keep.Goals as goal
 
@@ -12,16 +12,14 @@ returns-clause-whole c =
     let r : Parts = record { asks = q.asks; uses = q.uses; marks = c.keep.new.self } in
     let f = c.in_ok-fill.ensures.ok in
     filled_whole p q r c.args.slot c.args.asked.now c.args.uses.now c.requires.whole c.requires.idle c.requires.slot_in c.requires.asked_kept f refl refl
-    (c.keep.ensures.kept ∙ ap (λ m. set m.kept c.args.slot true) f.marks) c.keep.ensures.work
+    (cc) c.keep.ensures.work
 
 pub returns-clause-ok : goal.returns-clause-ok
 returns-clause-ok c =
-    let p = c.args.self.now in
     let f = c.in_ok-fill.ensures.ok in
     let h = c.requires.whole.shaped in
-    let h1 = h.asks in let h2 = h.uses in let k = c.requires.slot_in in
     record {
-      kept = c.keep.ensures.kept ∙ ap (λ m. set m.kept c.args.slot true) f.marks;
+      kept = cc;
       asked = f.asks;
       uses = f.uses;
       in_asked = omega arith;

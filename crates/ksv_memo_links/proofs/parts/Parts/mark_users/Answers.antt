@@ -1,4 +1,4 @@
-use Rattle.ksv_memo_links.proofs.Common.{sym, subst, refl, arith, Parts, row, HitsUsers}
+use Rattle.ksv_memo_links.proofs.Common.{refl, arith, Parts, row}
 use Rattle.ksv_memo_links.proofs.More.{MarksOne}
 use Rattle.ksv_memo_links.proofs.Hits.{peek-asks}
 use Rattle.ksv_memo_links.proofs.Spreading.{users-first, users-more, users-end, user-there}
@@ -12,8 +12,7 @@ loop-user-init c =
     let h = c.first_item-at.ensures in
     let start = starts p.asks.lists p.asks.named c.args.slot c.linked.ensures c.first_item-at.result h.result in
     record {
-      users = subst (λ n. HitsUsers p p1 c.args.slot n 1) (sym start.1)
-          (users-first p p1 c.args.slot (peek-asks p p1.asks h.named h.lists (let l = h.looks in omega arith) h.grows));
+      users = rw start.1 (users-first p p1 c.args.slot (peek-asks p p1.asks h.named h.lists (omega arith) h.grows));
       at = start.0;
     }
 
@@ -32,13 +31,13 @@ loop-user-preserved c =
       kept = c.mark.ensures.kept;
       work = c.mark.ensures.work;
       least = c.mark.ensures.least;
-      rises = let l = c.mark.ensures.grows in omega arith;
+      rises = omega arith;
     } in
     let k = peek-asks q q1.asks h.named h.lists (let l = c.in-Some.ensures.looks in omega arith) h.grows in
     record {
-      users = subst (λ n. HitsUsers p r c.args.slot n 1) (sym step.seen)
-          (users-more p q q1 r c.args.slot (seen_to (row p.asks.lists c.args.slot) c.loop-user.at) c.in-Some.user.owner i.users k c.linked.ensures step.inside
-          step.owner one (let l = c.mark.ensures.looks in omega arith));
+      users = rw step.seen (users-more p q q1 r c.args.slot (seen_to (row p.asks.lists c.args.slot) c.loop-user.at) c.in-Some.user.owner i.users k
+          c.linked.ensures step.inside
+          step.owner one (omega arith));
       at = step.stands;
     }
 
@@ -49,8 +48,6 @@ mark-requires c =
     let step = steps p.asks.lists p.asks.named c.args.slot c.linked.ensures c.loop-user.self.asks.lists c.loop-user.at c.in-Some.user
     i.users.more.same.ask_lists i.at c.in-Some.ensures.some in
     let there = user-there p c.args.slot (seen_to (row p.asks.lists c.args.slot) c.loop-user.at) c.requires.shaped c.linked.ensures step.inside in
-    let is = step.owner in
-    let n = i.users.more.same_length in
     omega arith
 
 pub loop-user-smaller : goal.loop-user-smaller

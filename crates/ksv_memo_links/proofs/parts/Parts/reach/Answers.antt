@@ -1,4 +1,4 @@
-use Rattle.ksv_memo_links.proofs.Common.{ℕ, List, length, refl, sym, ap, subst, arith, Parts, HasSameRows}
+use Rattle.ksv_memo_links.proofs.Common.{List, length, refl, sym, ap, subst, arith, Parts, HasSameRows}
 use Rattle.ksv_memo_links.specs.Marking.{HasMore}
 use Rattle.ksv_memo_links.proofs.Keeping.{same_rows, grown_whole}
 use Rattle.ksv_memo_links.proofs.parts.Parts.reach.Goals as goal
@@ -10,50 +10,34 @@ pub returns-in_err-reach_lists-clause-whole : goal.returns-in_err-reach_lists-cl
 returns-in_err-reach_lists-clause-whole c =
     let p = c.args.self.now in
     let r : Parts = record { asks = c.reach_lists.new.self; uses = p.uses; marks = p.marks } in
-    let same = ap (λ (rows : List (List ℕ)). length rows) c.reach_lists.ensures.named in
-    let l = c.reach_lists.ensures.lists in
+    let same = ap length c.reach_lists.ensures.named in
     let h = c.requires.whole.shaped in
-    let h1 = h.asks in let h2 = h.lists in
     grown_whole p r c.requires.whole
-    (subst (λ (rows : List (List ℕ)). HasSameRows p.asks.named rows) (sym c.reach_lists.ensures.named) (same_rows p.asks.named)) (same_rows p.uses.rows)
+    (subst (HasSameRows p.asks.named) (sym c.reach_lists.ensures.named) (same_rows p.asks.named)) (same_rows p.uses.rows)
     (same_slots p.marks.kept) refl (omega arith) (omega arith) h.uses
 
 pub returns-in_err-reach_owners-clause-whole : goal.returns-in_err-reach_owners-clause-whole
 returns-in_err-reach_owners-clause-whole c =
     let p = c.args.self.now in
     let r : Parts = record { asks = c.reach_owners.new.self; uses = p.uses; marks = p.marks } in
-    let asks = subst (λ (rows : List (List ℕ)). HasSameRows rows c.reach_owners.new.self.named) c.reach_lists.ensures.named c.reach_owners.ensures.named in
-    let n = asks.more in
-    let m = c.reach_owners.ensures.lists in
-    let l = c.reach_lists.ensures.lists in
+    let asks = rw c.reach_lists.ensures.named at c.reach_owners.ensures.named in
     let h = c.requires.whole.shaped in
-    let h1 = h.asks in let h2 = h.lists in
     grown_whole p r c.requires.whole asks (same_rows p.uses.rows) (same_slots p.marks.kept) refl (omega arith) (omega arith) h.uses
 
 pub returns-in_err-reach-clause-whole : goal.returns-in_err-reach-clause-whole
 returns-in_err-reach-clause-whole c =
     let p = c.args.self.now in
     let r : Parts = record { asks = c.reach_owners.new.self; uses = c.reach.new.self; marks = p.marks } in
-    let asks = subst (λ (rows : List (List ℕ)). HasSameRows rows c.reach_owners.new.self.named) c.reach_lists.ensures.named c.reach_owners.ensures.named in
-    let n = asks.more in
-    let m = c.reach_owners.ensures.lists in
-    let l = c.reach_lists.ensures.lists in
-    let u = c.reach.ensures.same.more in
+    let asks = rw c.reach_lists.ensures.named at c.reach_owners.ensures.named in
     let h = c.requires.whole.shaped in
-    let h1 = h.asks in let h2 = h.lists in let h4 = h.uses in
     grown_whole p r c.requires.whole asks c.reach.ensures.same (same_slots p.marks.kept) refl (omega arith) (omega arith) (omega arith)
 
 pub returns-clause-whole : goal.returns-clause-whole
 returns-clause-whole c =
     let p = c.args.self.now in
     let r : Parts = record { asks = c.reach_owners.new.self; uses = c.reach.new.self; marks = c.reach-2.new.self } in
-    let asks = subst (λ (rows : List (List ℕ)). HasSameRows rows c.reach_owners.new.self.named) c.reach_lists.ensures.named c.reach_owners.ensures.named in
-    let n = asks.more in
-    let m = c.reach_owners.ensures.lists in
-    let l = c.reach_lists.ensures.lists in
-    let u = c.reach.ensures.same.more in
+    let asks = rw c.reach_lists.ensures.named at c.reach_owners.ensures.named in
     let f = c.reach-2.ensures.few in
     let o1 = c.in_ok-reach_lists.ensures.ok in let o2 = c.in_ok-reach_owners.ensures.ok in let o4 = c.in_ok-reach.ensures.ok in
     let h = c.requires.whole.shaped in
-    let h1 = h.asks in let h2 = h.lists in let h4 = h.uses in
     grown_whole p r c.requires.whole asks c.reach.ensures.same c.reach-2.ensures.kept c.reach-2.ensures.work (omega arith) (omega arith) (omega arith)

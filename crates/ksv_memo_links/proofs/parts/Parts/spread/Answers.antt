@@ -14,9 +14,9 @@ loop-slot-preserved c =
       same = record { asks = refl; ask_lists = refl; uses = refl; use_lists = refl };
       kept = c.at.ensures.kept;
       work = c.at.ensures.work;
-      looks = let l = c.at.ensures.looks in omega arith;
+      looks = omega arith;
       least = c.at.ensures.least;
-      rises = let l = c.at.ensures.grows in omega arith;
+      rises = omega arith;
     } in
     spread-more c.args.self.now q q1 c.mark_users.new.self c.loop-slot.i c.in-Some.slot c.loop-slot.invariant k c.in-Some.ensures.some.0
     c.in-Some.ensures.some.1 c.mark_users.ensures
@@ -29,8 +29,8 @@ returns c =
       same = record { asks = refl; ask_lists = refl; uses = refl; use_lists = refl };
       kept = c.at.ensures.kept;
       work = c.at.ensures.work;
-      looks = let l = c.at.ensures.looks in omega arith;
+      looks = omega arith;
       least = c.at.ensures.least;
-      rises = let l = c.at.ensures.grows in omega arith;
+      rises = omega arith;
     } in
     spread-end c.args.self.now q q1 c.loop-slot.i c.loop-slot.invariant k c.in_default.ensures.none

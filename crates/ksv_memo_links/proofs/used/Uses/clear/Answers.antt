@@ -1,4 +1,4 @@
-use Rattle.ksv_memo_links.proofs.Common.{◌≡◌, ◌<◌, [], List, length, map, sym, ◌∙◌, ap, refl, subst, arith, Use, uses_of, lists_of_uses, ends_in, row}
+use Rattle.ksv_memo_links.proofs.Common.{◌≡◌, [], List, length, map, sym, ap, refl, arith, Use, uses_of, lists_of_uses, row}
 use Rattle.ksv_memo_links.specs.declared.used.Noted.TheVariants.{Nothing}
 use Rattle.ksv_memo_links.proofs.Writing.{row_written, row_read}
 use Rattle.ksv_memo_links.proofs.Meeting.{met-put, pages-among}
@@ -7,8 +7,6 @@ use Rattle.ksv_memo_links.proofs.used.Uses.clear.Goals as goal
 pub clear-linked-requires : goal.clear-linked-requires
 clear-linked-requires c =
     let e = ap (λ v. length v.rows) c.self.view_is in
-    let w = c.self.invariant.wide in
-    let k = c.requires in
     omega arith
 
 pub returns-clause-rows : goal.returns-clause-rows
@@ -20,11 +18,10 @@ invariant_of-self c =
     let items = c.self.inside.rows.items in
     let rows = map uses_of items in
     let C = c.self.inside.chains in
-    let slot_in = subst (λ (rs : List (List Use)). c.args.slot < length rs) (sym (ap (λ v. v.rows) c.self.view_is)) c.requires in
+    let slot_in = rw (← ap (λ v. v.rows) c.self.view_is) at c.requires in
     let written = row_written uses_of (λ (xs : List Use). []) items rows c.args.slot c.index_mut.result.now Nothing refl c.index_mut.ensures.value slot_in
     refl in
     let n = c.clear-linked.ensures.lists in
-    let f = c.self.invariant.fits in
     met-put rows _ C.named c.clear-linked.new.self.named C.lists c.clear-linked.new.self.lists c.args.slot [] c.self.invariant c.clear-linked.ensures.named
     (omega arith) slot_in written
 
@@ -36,9 +33,8 @@ returns-clause-looks c =
     let read : us ≡ uses_of c.index.result.now = row_read uses_of c.self.inside.rows.items rows c.args.slot c.index.result.now (sym v) c.index.ensures
     c.requires in
     let count : c.clear-linked.result ≡ length (lists_of_uses us) =
-    c.clear-linked.ensures.count ∙ ap (λ (ns : List _). length ns)
-    (c.self.invariant.each c.args.slot ∙ ap (λ rs. lists_of_uses (row rs c.args.slot)) v) in
-    let pages = pages-among us c.noted_end-end.result c.clear-linked.result (c.noted_end-end.ensures ∙ ap ends_in (sym read)) count in
+    cc (c.self.invariant.each c.args.slot) in
+    let pages = pages-among us c.noted_end-end.result c.clear-linked.result (cc) count in
     let p = c.pages_linked-pages.ensures in
     let l = ap (λ v. v.looks) c.self.view_is in
     let a = c.saturating_add-self-inside.ensures in

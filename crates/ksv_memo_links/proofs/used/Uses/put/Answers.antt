@@ -1,4 +1,4 @@
-use Rattle.ksv_memo_links.proofs.Common.{◌<◌, List, length, map, sym, ◌∙◌, ap, refl, subst, arith, Use, uses_of, lists_of_uses, row}
+use Rattle.ksv_memo_links.proofs.Common.{List, length, map, sym, ◌∙◌, ap, refl, arith, Use, uses_of, lists_of_uses, row}
 use Rattle.ksv_memo_links.proofs.Writing.{row_written}
 use Rattle.ksv_memo_links.proofs.Meeting.{met-put}
 use Rattle.ksv_memo_links.proofs.used.Uses.put.Goals as goal
@@ -6,8 +6,6 @@ use Rattle.ksv_memo_links.proofs.used.Uses.put.Goals as goal
 pub link_uses-requires-clause-slot_in : goal.link_uses-requires-clause-slot_in
 link_uses-requires-clause-slot_in c =
     let e = ap (λ v. length v.rows) c.self.view_is in
-    let w = c.self.invariant.wide in
-    let k = c.requires.slot_in in
     omega arith
 
 pub link_uses-requires-clause-none : goal.link_uses-requires-clause-none
@@ -19,7 +17,7 @@ invariant_of-self-2 c =
     let items = c.self.inside.rows.items in
     let rows = map uses_of items in
     let C = c.self.inside.chains in
-    let slot_in = subst (λ (rs : List (List Use)). c.args.slot < length rs) (sym (ap (λ v. v.rows) c.self.view_is)) c.requires.slot_in in
+    let slot_in = rw (← ap (λ v. v.rows) c.self.view_is) at c.requires.slot_in in
     let written = row_written uses_of (λ (xs : List Use). c.args.uses.now) items rows c.args.slot c.index_mut.result.now c.in_ok-noted.noted refl
     c.index_mut.ensures.value slot_in c.in_ok-noted.ensures in
     met-put rows _ C.named c.link_uses.new.chains.named C.lists c.link_uses.new.chains.lists c.args.slot c.args.uses.now c.self.invariant
