@@ -10,9 +10,9 @@ pub record IsCutTo {X : Type 0} (before now : List (List X)) (o : ℕ) : Type 0 
   pub is : now ≡ set before o (take (length (row now o)) (row before o))
 
 -- what is left of the row after one more pop
-pub cut-next : {X : Type 0} (before now then : List (List X)) (o : ℕ) → IsCutTo before now o → then ≡ pop_row now o
+pub cut-next : {X : Type 0} {before now then : List (List X)} {o : ℕ} → IsCutTo before now o → then ≡ pop_row now o
     → (row then o ≡ take (length (row now o) - 1) (row before o)) × (then ≡ set before o (take (length (row now o) - 1) (row before o)))
-cut-next {X} before now then o h e =
+cut-next {X} {before} {now} {then} {o} h e =
     let n = length (row now o) in
     let here : row now o ≡ take n (row before o) = cc (row_set before o (take n (row before o)) h.inside) in
     let less : take (n - 1) (row now o) ≡ take (n - 1) (row before o) =
@@ -24,13 +24,13 @@ cut-next {X} before now then o h e =
 pub cut-length : {X : Type 0} (before now then : List (List X)) (o : ℕ) → IsCutTo before now o → then ≡ pop_row now o
     → length (row then o) ≡ length (row now o) - 1
 cut-length {X} before now then o h e =
-    ap length (cut-next before now then o h e).0 ∙ length-take-le (length (row now o) - 1) (row before o) (omega arith)
+    ap length (cut-next h e).0 ∙ length-take-le (length (row now o) - 1) (row before o) (omega arith)
 
 pub cut-more : {X : Type 0} (before now then : List (List X)) (o : ℕ) → IsCutTo before now o → then ≡ pop_row now o → IsCutTo before then o
 cut-more {X} before now then o h e =
-    let n = cut-length before now then o h e in
+    let n = cut-length _ _ _ _ h e in
     record {
       inside = h.inside;
       short = omega arith;
-      is = cc (cut-next before now then o h e).1;
+      is = cc (cut-next h e).1;
     }

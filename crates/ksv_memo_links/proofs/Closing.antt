@@ -7,7 +7,7 @@ use Rattle.ksv_memo_links.proofs.Common.{MarksMore, Why, HitsRows, Spreads, look
 use Rattle.std.proofs.Common.{nat_eq, nat_le, ◌||◌}
 use Rattle.std.proofs.lemmas.Bool.{cases_Bool}
 use Rattle.ksv_bytes.specs.declared.uses.Change.TheVariants.{Overwrite, Insert, Delete, Append}
-use Rattle.ksv_memo_links.specs.Links.{is_hit, IsHit, here, through, Forgets, pages_met, met_by}
+use Rattle.ksv_memo_links.specs.Links.{is_hit, IsHit, here, through, Forgets, pages_met, met_by, asks_of}
 use Rattle.ksv_memo_links.specs.Forgetting.{IsEdit, AreAllWithin, HitsBehind, HitsTouched, IsWhole, IsNear, IsBehind, linked_of, lengths}
 use Rattle.ksv_memo_links.proofs.Edits.{row_there}
 use Rattle.ksv_memo_links.proofs.Turns.{row_of, few-pages, few-ends, page-item, end-item}
@@ -34,10 +34,9 @@ pages-hit : (p q : Parts) (place n s : ℕ) → IsListed p.uses.lists (map lists
     → IsHit (Overwrite place n) p.marks.kept p.uses.rows s → is_kept q.marks.kept s ≡ false
 pages-hit p q place n s l h hit =
     let m = uses-meet place n (row p.uses.rows s) hit.touched in
-    let i = page-item p.uses.rows p.uses.lists l s m.page m.there in
+    let i = page-item p.uses.rows l s m.page m.there in
     let there = row_there (page_lists p.uses.lists) m.page i.0 i.1 in
-    let P : ℕ → Type 0 = λ t. is_hit (Overwrite place n) p.uses.rows t ≡ true → is_kept q.marks.kept t ≡ false in
-    subst P i.2 (h.out m.page i.0 (omega arith) (omega arith) i.1) hit.touched
+    (rw i.2 at (h.out m.page i.0 (omega arith) (omega arith) i.1)) hit.touched
 
 pages-near : (p q : Parts) (place n : ℕ) → IsListed p.uses.lists (map lists_of_uses p.uses.rows)
     → HitsRows p q (Overwrite place n) (page_lists p.uses.lists) (first_page place) (min (end_page place n) (length (page_lists p.uses.lists)))
@@ -50,45 +49,39 @@ pages-near p q place n b h =
     let N = map pages_in p.uses.rows in
     let last = max first (min end (length L)) in
     let le : first ≤ end = omega arith in
-    let a = sizes-few L N first (end - first) (few-pages p.uses.rows p.uses.lists b) in
+    let a = sizes-few L N first (end - first) (few-pages p.uses.rows b) in
     let g = sizes-grow L last (end - last) in
     let e1 : end - first + first ≡ end = omega arith in
     let e2 : end - last + last ≡ end = omega arith in
-    let f1 = ap (sizes L) e1 in
-    let f2 = ap (sizes L) e2 in
-    let f3 = ap (λ k. tally first k N) e1 in
     let t : tally first end N ≤ sum_by (met_by (Overwrite place n)) p.uses.rows =
     rows-le (λ ns. count_by (within first end) ns) (met_by (Overwrite place n)) N p.uses.rows refl refl
     (λ r. ap (count_by (within first end)) (row_of pages_in p.uses.rows r refl)) in
-    omega arith
+    omega (arith, ap (sizes L) e1, ap (sizes L) e2, ap (λ k. tally first k N) e1)
 
 pub pages-touched : (p q : Parts) (place n pages : ℕ) → IsListed p.uses.lists (map lists_of_uses p.uses.rows)
     → HitsRows p q (Overwrite place n) (page_lists p.uses.lists) (first_page place) (min (end_page place n) (length (page_lists p.uses.lists)))
     → HitsTouched p q (Overwrite place n) pages
 pages-touched p q place n pages b h = record {
   more = h.more;
-  hits = λ s hit. pages-hit p q place n s b h hit;
-  near = λ o. pages-near p q place n b h;
+  hits = λ s hit. pages-hit _ _ _ _ _ b h hit;
+  near = λ o. pages-near _ _ _ _ b h;
   behind = λ o. absurd o;
 }
 
 -- ---- an insert or a delete
-module _ (p q : Parts) (change : Change) (place pages : ℕ) (all : AreAllWithin pages p) (b : IsListed p.uses.lists (map lists_of_uses p.uses.rows))
+module _ {p q : Parts} {change : Change} {place pages : ℕ} (all : AreAllWithin pages p) (b : IsListed p.uses.lists (map lists_of_uses p.uses.rows))
     (h : HitsBehind p q change place pages) where
   -- each slot that it touches is marked
   past-hit : (s : ℕ) → is_kept p.marks.kept s ≡ true → is_hit change p.uses.rows s ≡ true → EndsPast place (row p.uses.rows s) → is_kept q.marks.kept s ≡ false
   past-hit s k t (inl (g, c, le)) =
-      let i = page-item p.uses.rows p.uses.lists b s g c in
-      let P : ℕ → Type 0 = λ x. is_hit change p.uses.rows x ≡ true → is_kept q.marks.kept x ≡ false in
-      subst P i.2 (h.met g i.0 le ((all s k).met g c) i.1) t
+      let i = page-item p.uses.rows b s g c in
+      (rw i.2 at (h.met g i.0 le ((all s k).met g c) i.1)) t
   past-hit s k t (inr (l, c, inl z)) =
-      let i = end-item p.uses.rows p.uses.lists b s 0 (subst (Contains (ends_in (row p.uses.rows s))) z c) in
-      let P : ℕ → Type 0 = λ x. is_hit change p.uses.rows x ≡ true → is_kept q.marks.kept x ≡ false in
-      subst P i.2 (h.sized i.0 i.1) t
+      let i = end-item p.uses.rows b s 0 (subst (Contains (ends_in (row p.uses.rows s))) z c) in
+      (rw i.2 at (h.sized i.0 i.1)) t
   past-hit s k t (inr (l, c, inr lt)) =
-      let i = end-item p.uses.rows p.uses.lists b s l c in
-      let P : ℕ → Type 0 = λ x. is_hit change p.uses.rows x ≡ true → is_kept q.marks.kept x ≡ false in
-      subst P i.2 (h.ended l i.0 lt ((all s k).ends l c) i.1) t
+      let i = end-item p.uses.rows b s l c in
+      (rw i.2 at (h.ended l i.0 lt ((all s k).ends l c) i.1)) t
 
   past-near : looks q + 2 * length p.marks.work ≤ looks p + 1 + 2 * (pages - first_page place)
       + 3 * sum_by (λ us. count_by (nat_le (first_page place)) (pages_in us)) p.uses.rows
@@ -98,7 +91,7 @@ module _ (p q : Parts) (change : Change) (place pages : ℕ) (all : AreAllWithin
       let E = end_lists p.uses.lists in let L = page_lists p.uses.lists in
       let N = map pages_in p.uses.rows in let M = map ends_in p.uses.rows in
       let m = max f pages in
-      let a = sizes-few L N f (m - f) (few-pages p.uses.rows p.uses.lists b) in
+      let a = sizes-few L N f (m - f) (few-pages p.uses.rows b) in
       let a1 : m - f + f ≡ m = omega arith in
       let a2 = ap (sizes L) a1 in
       let a3 = ap (λ k. tally f k N) a1 in
@@ -107,33 +100,29 @@ module _ (p q : Parts) (change : Change) (place pages : ℕ) (all : AreAllWithin
       rows-le (λ ns. count_by (nat_le f) ns) (λ us. count_by (nat_le f) (pages_in us)) N p.uses.rows refl refl
       (λ r. ap (count_by (nat_le f)) (row_of pages_in p.uses.rows r refl)) in
       let n = max (f + 1) (pages + 1) in
-      let d = sizes-few E M (f + 1) (n - (f + 1)) (few-ends p.uses.rows p.uses.lists b) in
+      let d = sizes-few E M (f + 1) (n - (f + 1)) (few-ends p.uses.rows b) in
       let d1 : n - (f + 1) + (f + 1) ≡ n = omega arith in
-      let d2 = ap (sizes E) d1 in
-      let d3 = ap (λ k. tally (f + 1) k M) d1 in
-      let z = sizes-few E M 0 1 (few-ends p.uses.rows p.uses.lists b) in
-      let d4 = tally-ends f n M in
       let d5 : sum_by (λ ns. count_by (λ l. nat_eq l 0 || nat_lt f l) ns) M ≤ sum_by (λ us. count_by (λ l. nat_eq l 0 || nat_lt f l) (ends_in us)) p.uses.rows =
       rows-le (λ ns. count_by (λ l. nat_eq l 0 || nat_lt f l) ns) (λ us. count_by (λ l. nat_eq l 0 || nat_lt f l) (ends_in us)) M p.uses.rows refl refl
       (λ r. ap (count_by (λ l. nat_eq l 0 || nat_lt f l)) (row_of ends_in p.uses.rows r refl)) in
-      omega arith
+      omega (arith, ap (sizes E) d1, ap (λ k. tally (f + 1) k M) d1, sizes-few E M 0 1 (few-ends p.uses.rows b), tally-ends f n M)
 
-pub insert-touched : (p q : Parts) (place n pages : ℕ) → AreAllWithin pages p → IsListed p.uses.lists (map lists_of_uses p.uses.rows)
+pub insert-touched : {p q : Parts} {place : ℕ} (n : ℕ) {pages : ℕ} → AreAllWithin pages p → IsListed p.uses.lists (map lists_of_uses p.uses.rows)
     → HitsBehind p q (Insert place n) place pages → HitsTouched p q (Insert place n) pages
-insert-touched p q place n pages all b h = record {
+insert-touched {p} {q} {place} n {pages} all b h = record {
   more = h.more;
-  hits = λ s hit. past-hit p q (Insert place n) place pages all b h s hit.was_kept hit.touched (insert-past place n (row p.uses.rows s) hit.touched);
+  hits = λ s hit. past-hit all b h s hit.was_kept hit.touched (insert-past place n (row p.uses.rows s) hit.touched);
   near = λ o. absurd o;
-  behind = λ o. past-near p q (Insert place n) place pages all b h;
+  behind = λ o. past-near all b h;
 }
 
-pub delete-touched : (p q : Parts) (place n pages : ℕ) → AreAllWithin pages p → IsListed p.uses.lists (map lists_of_uses p.uses.rows)
+pub delete-touched : {p q : Parts} {place : ℕ} (n : ℕ) {pages : ℕ} → AreAllWithin pages p → IsListed p.uses.lists (map lists_of_uses p.uses.rows)
     → HitsBehind p q (Delete place n) place pages → HitsTouched p q (Delete place n) pages
-delete-touched p q place n pages all b h = record {
+delete-touched {p} {q} {place} n {pages} all b h = record {
   more = h.more;
-  hits = λ s hit. past-hit p q (Delete place n) place pages all b h s hit.was_kept hit.touched (delete-past place n (row p.uses.rows s) hit.touched);
+  hits = λ s hit. past-hit all b h s hit.was_kept hit.touched (delete-past place n (row p.uses.rows s) hit.touched);
   near = λ o. absurd o;
-  behind = λ o. past-near p q (Delete place n) place pages all b h;
+  behind = λ o. past-near all b h;
 }
 
 -- ---- an append
@@ -142,10 +131,9 @@ sized-hit : (p q : Parts) (s : ℕ) → IsListed p.uses.lists (map lists_of_uses
     → is_kept q.marks.kept s ≡ false
 sized-hit p q s e h hit =
     let c = append-ends (row p.uses.rows s) hit.touched in
-    let i = end-item p.uses.rows p.uses.lists e s 0 c in
+    let i = end-item p.uses.rows e s 0 c in
     let there = row_there (end_lists p.uses.lists) 0 i.0 i.1 in
-    let P : ℕ → Type 0 = λ x. is_hit Append p.uses.rows x ≡ true → is_kept q.marks.kept x ≡ false in
-    subst P i.2 (h.out 0 i.0 (omega arith) (omega arith) i.1) hit.touched
+    (rw i.2 at (h.out 0 i.0 (omega arith) (omega arith) i.1)) hit.touched
 
 sized-near : (p q : Parts) → IsListed p.uses.lists (map lists_of_uses p.uses.rows)
     → HitsRows p q Append (end_lists p.uses.lists) 0 (min 1 (length (end_lists p.uses.lists)))
@@ -153,13 +141,10 @@ sized-near : (p q : Parts) → IsListed p.uses.lists (map lists_of_uses p.uses.r
 sized-near p q e h =
     let E = end_lists p.uses.lists in
     let M = map ends_in p.uses.rows in
-    let z = sizes-few E M 0 1 (few-ends p.uses.rows p.uses.lists e) in
-    let s1 = sizes-up E (max 0 (min 1 (length E))) 1 (omega arith) in
-    let d4 = tally-size M in
     let d5 : sum_by (λ ns. count_by (λ l. nat_eq l 0) ns) M ≤ sum_by (λ us. count_by (λ l. nat_eq l 0) (ends_in us)) p.uses.rows =
     rows-le (λ ns. count_by (λ l. nat_eq l 0) ns) (λ us. count_by (λ l. nat_eq l 0) (ends_in us)) M p.uses.rows refl refl
     (λ r. ap (count_by (λ l. nat_eq l 0)) (row_of ends_in p.uses.rows r refl)) in
-    omega arith
+    omega (arith, sizes-few E M 0 1 (few-ends p.uses.rows e), sizes-up E (max 0 (min 1 (length E))) 1 (omega arith), tally-size M)
 
 pub append-touched : (p q : Parts) (pages : ℕ) → IsListed p.uses.lists (map lists_of_uses p.uses.rows)
     → HitsRows p q Append (end_lists p.uses.lists) 0 (min 1 (length (end_lists p.uses.lists))) → HitsTouched p q Append pages
@@ -167,7 +152,7 @@ append-touched p q pages e h = record {
   more = h.more;
   hits = λ s hit. sized-hit p q s e h hit;
   near = λ o. absurd o;
-  behind = λ o. (let a = sized-near p q e h in omega arith);
+  behind = λ o. (omega (arith, sized-near p q e h));
 }
 
 user-reached : (p q r : Parts) (s i asked : ℕ) → IsListed p.asks.lists p.asks.named → i < length (row p.asks.named s) → get_or (row p.asks.named s) i 0 ≡ asked
@@ -181,14 +166,14 @@ user-reached p q r s i asked l lt e same spread c =
     ap (λ n. is_kept r.marks.kept n) (sym a.2) ∙ out
 
 -- and each slot from which a marked one is reached
-all-reached : (p q r : Parts) (change : Change) (pages : ℕ) → IsWhole p → IsListed p.asks.lists p.asks.named → HitsTouched p q change pages
+all-reached : {p q r : Parts} {change : Change} {pages : ℕ} → IsWhole p → IsListed p.asks.lists p.asks.named → HitsTouched p q change pages
     → Spreads q r (length r.marks.work) 1 → IsMarking p.marks.kept (Why p p.marks.kept change) r.marks.kept r.marks.work → (s : ℕ)
     → is_kept p.marks.kept s ≡ true → Why p p.marks.kept change s → is_kept r.marks.kept s ≡ false
-all-reached p q r change pages w l h spread m _ k (here s hit) = stays-out q.marks.kept r.marks.kept s spread.more.fewer (h.hits s hit)
-all-reached p q r change pages w l h spread m _ k (through s i lt why) =
+all-reached {q} {r} w l h spread m _ k (here s hit) = stays-out _ _ _ spread.more.fewer (h.hits s hit)
+all-reached {p} {q} {r} {change} {pages} w l h spread m _ k (through s i lt why) =
     let asked = get_or (row p.asks.named s) i 0 in
     let was = w.asked_kept s i k lt in
-    user-reached p q r s i asked l lt refl h.more.same spread (m.out asked was (all-reached p q r change pages w l h spread m asked was why))
+    user-reached p q r s i asked l lt refl h.more.same spread (m.out asked was (all-reached w l h spread m _ was why))
 
 -- a positive sum has a positive part
 cases_sum : (f : ℕ → ℕ) (xs : List ℕ) → 0 < sum_by f xs → (k : ℕ) × (k < length xs) × (0 < f (get_or xs k 0))
@@ -213,7 +198,7 @@ positive : (f : ℕ → ℕ) (xs : List ℕ) → 0 < sum_by f xs → (x : ℕ) �
 positive f xs lt = by (cases_sum f xs lt)
   where
     by : (k : ℕ) × (k < length xs) × (0 < f (get_or xs k 0)) → (x : ℕ) × Contains xs x × (0 < f x)
-    by (k, l, h) = (get_or xs k 0, (k, l, get_or_default xs k (get_or xs k 0) 0 l), h)
+    by (k, l, h) = (get_or xs k 0, (k, l, get_or_default _ _ _ _ l), h)
 
 module _ (p q r : Parts) (change : Change) (pages : ℕ) (w : IsWhole p) (idle : p.marks.work ≡ []) (asks : IsListed p.asks.lists p.asks.named)
     (h : HitsTouched p q change pages) (spread : Spreads q r (length r.marks.work) 1) where
@@ -221,13 +206,13 @@ module _ (p q r : Parts) (change : Change) (pages : ℕ) (w : IsWhole p) (idle :
   same = same-trans p q r h.more.same spread.more.same
 
   to_r : MarksMore p r (IsEdit change)
-  to_r = more-trans p q r (IsEdit change) (λ first x. Unit {0}) h.more spread.more (λ first x e m. tt)
+  to_r = more-trans h.more spread.more (λ first x e m. tt)
 
   marking : IsMarking p.marks.kept (Why p p.marks.kept change) r.marks.kept r.marks.work
-  marking = to_r.marking p.marks.kept change refl (marking-none p.marks.kept (Why p p.marks.kept change) p.marks.work idle)
+  marking = to_r.marking p.marks.kept change refl (marking-none _ _ _ idle)
 
   reached : (s : ℕ) → is_kept p.marks.kept s ≡ true → Why p p.marks.kept change s → is_kept r.marks.kept s ≡ false
-  reached s k y = all-reached p q r change pages w asks h spread marking s k y
+  reached s k y = all-reached w asks h spread marking s k y
 
   out : (s : ℕ) → Contains r.marks.work s → (is_kept p.marks.kept s ≡ true) × (is_kept r.marks.kept s ≡ false) × Why p p.marks.kept change s
   out s c =
@@ -277,7 +262,7 @@ module _ (p q r : Parts) (change : Change) (pages : ℕ) (w : IsWhole p) (idle :
   closed o lt =
       let a = positive (λ s. sum_by (one_if s) (row p.asks.named o)) r.marks.work lt in
       let b = positive (one_if a.0) (row p.asks.named o) a.2 in
-      let same_slot : b.0 ≡ a.0 = one-is a.0 b.0 b.2 in
+      let same_slot : b.0 ≡ a.0 = one-is _ _ b.2 in
       let k = b.1.0 in
       let name : get_or (row p.asks.named o) k 0 ≡ a.0 = get_or_default (row p.asks.named o) k 0 b.0 b.1.1 ∙ b.1.2 ∙ same_slot in
       marking.out o (elim (cases_Bool (is_kept p.marks.kept o)) [
@@ -286,23 +271,23 @@ module _ (p q r : Parts) (change : Change) (pages : ℕ) (w : IsWhole p) (idle :
             let n = ap length v.0 in absurd (omega arith)
       ]) (user-reached p q r o k a.0 asks b.1.1 name h.more.same spread a.1)
 
+  in_all : (n : ℕ) → looks q + 2 * length p.marks.work ≤ n + 2 * length q.marks.work
+      → looks r ≤ n + 1 + 4 * length r.marks.work + 2 * asks_of p.asks.named r.marks.work
+  in_all n a =
+      omega (
+        arith,
+        spread.looks,
+        users_few p.asks.lists p.asks.named r.marks.work marking.apart asks.few closed,
+        ap (λ rows. lengths rows (take (length r.marks.work) r.marks.work)) h.more.same.ask_lists,
+        ap (lengths p.asks.lists) (take_all (length r.marks.work) r.marks.work (omega arith)),
+        ap length idle,
+      )
+
   pub near : IsNear change p r
-  near o =
-      let a = h.near o in
-      let u = users_few p.asks.lists p.asks.named r.marks.work marking.apart asks.few closed in
-      let e = ap (λ rows. lengths rows (take (length r.marks.work) r.marks.work)) h.more.same.ask_lists in
-      let f = ap (lengths p.asks.lists) (take_all (length r.marks.work) r.marks.work (omega arith)) in
-      let z = ap length idle in
-      omega arith
+  near o = omega (arith, in_all _ (h.near o))
 
   pub behind : IsBehind change pages p r
-  behind o =
-      let a = h.behind o in
-      let u = users_few p.asks.lists p.asks.named r.marks.work marking.apart asks.few closed in
-      let e = ap (λ rows. lengths rows (take (length r.marks.work) r.marks.work)) h.more.same.ask_lists in
-      let f = ap (lengths p.asks.lists) (take_all (length r.marks.work) r.marks.work (omega arith)) in
-      let z = ap length idle in
-      omega arith
+  behind o = omega (arith, in_all _ (h.behind o))
 
   pub rises : looks p ≤ looks r
   rises = to_r.rises

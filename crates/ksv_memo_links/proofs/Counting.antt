@@ -13,36 +13,38 @@ swapped {X} {Y} f [] ys = sym (zeros ys)
   where
     zeros : (ys : List Y) → sum_by (λ (y : Y). 0) ys ≡ 0
     zeros [] = refl
-    zeros (y ∷ ys) = sum_by-cons (λ (y : Y). 0) y ys ∙ (let h = zeros ys in omega arith)
+    zeros (y ∷ ys) = sum_by-cons (λ (y : Y). 0) y ys ∙ (omega (arith, zeros ys))
 swapped {X} {Y} f (x ∷ xs) ys = cc (sum_by-cons (λ x. sum_by (f x) ys) x xs, swapped f xs ys, both ys)
   where
     both : (ys : List Y) → sum_by (f x) ys + sum_by (λ y. sum_by (λ x. f x y) xs) ys ≡ sum_by (λ y. sum_by (λ x. f x y) (x ∷ xs)) ys
     both [] = omega arith
     both (y ∷ ys) =
-        let a = sum_by-cons (f x) y ys in
-        let b = sum_by-cons (λ y. sum_by (λ x. f x y) xs) y ys in
-        let c = sum_by-cons (λ y. sum_by (λ x. f x y) (x ∷ xs)) y ys in
-        let d = sum_by-cons (λ x. f x y) x xs in
-        let h = both ys in
-        omega arith
+        omega (
+          arith,
+          sum_by-cons (f x) y ys,
+          sum_by-cons (λ y. sum_by (λ x. f x y) xs) y ys,
+          sum_by-cons (λ y. sum_by (λ x. f x y) (x ∷ xs)) y ys,
+          sum_by-cons (λ x. f x y) x xs,
+          both ys,
+        )
 
 row_emptied : (rows : List (List ℕ)) (w : ℕ) → row (set rows w []) w ≡ []
 row_emptied rows w = elim (cases_lt w (length rows)) [
-  | inl lt ↦ row_set rows w [] lt
+  | inl lt ↦ row_set _ _ _ lt
   | inr le ↦ cc (set_past rows w [] le, get_or_past rows w [] le)
 ]
 
 -- one row less
 sum_emptied : (g : List ℕ → ℕ) → g [] ≡ 0 → (rows : List (List ℕ)) (w : ℕ) → sum_by g (set rows w []) + g (row rows w) ≡ sum_by g rows
 sum_emptied g z rows w = elim (cases_lt w (length rows)) [
-  | inl lt ↦ let e = sum_by-set g rows w [] [] lt in omega arith
-  | inr le ↦ let e = ap (sum_by g) (set_past rows w [] le) in let f = ap g (get_or_past rows w [] le) in omega arith
+  | inl lt ↦ omega (arith, sum_by-set g rows w [] [] lt)
+  | inr le ↦ omega (arith, ap (sum_by g) (set_past rows w [] le), ap g (get_or_past rows w [] le))
 ]
 
 less_after : (g : List ℕ → ℕ) → g [] ≡ 0 → (rows : List (List ℕ)) (w o : ℕ) → g (row (set rows w []) o) ≤ g (row rows o)
 less_after g z rows w o = elim (eqb_tells o w) [
-  | inl e ↦ let f = ap (λ n. g (row (set rows w []) n)) e.1 in let k = ap g (row_emptied rows w) in omega arith
-  | inr e ↦ let f = ap g (row_other rows w o [] e.1) in omega arith
+  | inl e ↦ omega (arith, ap (λ n. g (row (set rows w []) n)) e.1, ap g (row_emptied rows w))
+  | inr e ↦ omega (arith, ap g (row_other rows w o [] e.1))
 ]
 
 left_after : (g : List ℕ → ℕ) → g [] ≡ 0 → (rows : List (List ℕ)) (w : ℕ) (ws : List ℕ) → ((o : ℕ) → 0 < g (row rows o) → Contains (w ∷ ws) o) → (o : ℕ)
@@ -60,7 +62,7 @@ none_counts : (g : List ℕ → ℕ) (rows : List (List ℕ)) → ((o : ℕ) →
     → g (get_or rows k d) ≤ 0
 none_counts g rows h k d lt = elim (cases_lt 0 (g (row rows k))) [
   | inl p ↦ absurd (none_in k (h k p))
-  | inr le ↦ let e = ap g (get_or_default rows k d [] lt) in omega arith
+  | inr le ↦ omega (arith, ap g (get_or_default rows k d [] lt))
 ]
 
 -- a sum over rows is one over the slots of the rows that count
@@ -68,17 +70,19 @@ pub supported : (g : List ℕ → ℕ) → g [] ≡ 0 → (ws : List ℕ) (rows 
     → sum_by g rows ≤ sum_by (λ o. g (row rows o)) ws
 supported g z [] rows h = let m : sum_by g rows ≤ length rows * 0 = sum_by-le g 0 rows (none_counts g rows h) in omega arith
 supported g z (w ∷ ws) rows h =
-    let ih = supported g z ws (set rows w []) (left_after g z rows w ws h) in
-    let a = sum_emptied g z rows w in
-    let b = sum_by-le-sum_by (λ o. g (row (set rows w []) o)) (λ o. g (row rows o)) ws (less_after g z rows w) in
-    let c = sum_by-cons (λ o. g (row rows o)) w ws in
-    omega arith
+    omega (
+      arith,
+      supported g z ws (set rows w []) (left_after g z rows w ws h),
+      sum_emptied g z rows w,
+      sum_by-le-sum_by (λ o. g (row (set rows w []) o)) (λ o. g (row rows o)) ws (less_after g z rows w),
+      sum_by-cons (λ o. g (row rows o)) w ws,
+    )
 
 -- what isn't among the slots isn't counted
 not_counted_next : (n v : ℕ) (vs : List ℕ) → (Contains (v ∷ vs) n → ⊥) → ((eqb v n ≡ true) × (v ≡ n)) ⊎ ((eqb v n ≡ false) × (v ≢ n))
     → sum_by (λ s. one_if s n) vs ≡ 0 → sum_by (λ s. one_if s n) (v ∷ vs) ≡ 0
 not_counted_next n v vs k (inl e) h = absurd (k (subst (Contains (v ∷ vs)) e.1 (Contains-append_left (v ∷ []) vs v (Contains-push [] v))))
-not_counted_next n v vs k (inr e) h = let c = sum_by-cons (λ s. one_if s n) v vs in let t : one_if v n ≡ 0 = ap (λ b. cond b 1 0) e.0 in omega arith
+not_counted_next n v vs k (inr e) h = let t : one_if v n ≡ 0 = ap (λ b. cond b 1 0) e.0 in omega (arith, sum_by-cons (λ s. one_if s n) v vs)
 
 not_counted : (n : ℕ) (vs : List ℕ) → (Contains vs n → ⊥) → sum_by (λ s. one_if s n) vs ≡ 0
 not_counted n [] k = refl
@@ -86,10 +90,10 @@ not_counted n (v ∷ vs) k = not_counted_next n v vs k (eqb_tells v n) (not_coun
 
 one_more : (w : ℕ) (ws : List ℕ) (n : ℕ) → AllPairs (λ (a b : ℕ). a ≢ b) (w ∷ ws) → ((eqb w n ≡ true) × (w ≡ n)) ⊎ ((eqb w n ≡ false) × (w ≢ n))
     → sum_by (λ s. one_if s n) ws ≤ 1 → sum_by (λ s. one_if s n) (w ∷ ws) ≤ 1
-one_more w ws n h (inl e) ih = let c = sum_by-cons (λ s. one_if s n) w ws in let r =
+one_more w ws n h (inl e) ih = let r =
     not_counted n ws (rw e.1 at (not_later [] ws w h)) in let t : one_if w n ≡ 1 =
-    ap (λ b. cond b 1 0) e.0 in omega arith
-one_more w ws n h (inr e) ih = let c = sum_by-cons (λ s. one_if s n) w ws in let t : one_if w n ≡ 0 = ap (λ b. cond b 1 0) e.0 in omega arith
+    ap (λ b. cond b 1 0) e.0 in omega (arith, sum_by-cons (λ s. one_if s n) w ws)
+one_more w ws n h (inr e) ih = let t : one_if w n ≡ 0 = ap (λ b. cond b 1 0) e.0 in omega (arith, sum_by-cons (λ s. one_if s n) w ws)
 
 -- of slots that differ at most one is n
 at_most_one : (ws : List ℕ) (n : ℕ) → AllPairs (λ (a b : ℕ). a ≢ b) ws → sum_by (λ s. one_if s n) ws ≤ 1
@@ -102,13 +106,11 @@ tally ws ns = sum_by (λ s. sum_by (one_if s) ns) ws
 
 pub tally_few : (ws ns : List ℕ) → AllPairs (λ (a b : ℕ). a ≢ b) ws → tally ws ns ≤ length ns
 tally_few ws ns h =
-    let e = swapped one_if ws ns in
-    let m = sum_by-le (λ n. sum_by (λ s. one_if s n) ws) 1 ns (λ k d lt. at_most_one ws (get_or ns k d) h) in
-    omega arith
+    omega (arith, swapped one_if ws ns, sum_by-le (λ n. sum_by (λ s. one_if s n) ws) 1 ns (λ k d lt. at_most_one ws (get_or ns k d) h))
 
 tally_none : (ws : List ℕ) → tally ws [] ≡ 0
 tally_none [] = refl
-tally_none (w ∷ ws) = let c = sum_by-cons (λ s. sum_by (one_if s) []) w ws in let h = tally_none ws in omega arith
+tally_none (w ∷ ws) = omega (arith, sum_by-cons (λ s. sum_by (one_if s) []) w ws, tally_none ws)
 
 -- the users of slots that go are no more than what those slots asked, where no list has more items than asks name it
 pub users_few : {X : Type 0} (lists : List (List X)) (asked : List (List ℕ)) (ws : List ℕ) → AllPairs (λ (a b : ℕ). a ≢ b) ws

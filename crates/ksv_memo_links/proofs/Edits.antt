@@ -3,7 +3,7 @@ use Rattle.ksv_memo_links.proofs.Common.{◌≡◌, ◌≢◌, inl, inr, ℕ, �
 use Rattle.ksv_memo_links.proofs.Common.{cases_lt, row}
 
 pub row_set : {X : Type 0} (rows : List (List X)) (r : ℕ) (xs : List X) → r < length rows → row (set rows r xs) r ≡ xs
-row_set rows r xs lt = get_or-set_same rows r xs [] lt
+row_set rows r xs lt = get_or-set_same _ _ _ _ lt
 
 pub row_other : {X : Type 0} (rows : List (List X)) (r q : ℕ) (xs : List X) → q ≢ r → row (set rows r xs) q ≡ row rows q
 row_other rows r q xs ne = get_or-set_other rows r q xs [] ne

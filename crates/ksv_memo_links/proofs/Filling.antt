@@ -10,6 +10,6 @@ filled before now o i n ns lt li is e =
     let next : row now o ++ n ∷ [] ≡ take (i + 1) ns = cc (take_more ns i 0 li) in
     cc (set-set before o (take i ns) (take (i + 1) ns))
 
-pub one-more : (before now then : List (List ℕ)) (o i n : ℕ) (ns : List ℕ) → o < length before → i < length ns → n ≡ get_or ns i 0
+pub one-more : (before : List (List ℕ)) {now then : List (List ℕ)} (o i : ℕ) {n : ℕ} (ns : List ℕ) → o < length before → i < length ns → n ≡ get_or ns i 0
     → now ≡ set before o (take i ns) → then ≡ push_row now o n → then ≡ set before o (take (i + 1) ns)
-one-more before now then o i n ns lt li is e f = f ∙ filled before now o i n ns lt li is e
+one-more before {now} o i {n} ns lt li is e f = f ∙ filled before now o i n ns lt li is e

@@ -5,14 +5,12 @@ use Rattle.ksv_memo_links.proofs.Common.{lists_in, named_of, hop, IsChain, IsCha
 use Rattle.std.proofs.Common.{Result, Ok, Err, OnOk, OnErr}
 use Rattle.std.proofs.lemmas.List.Sums.{sum_by-append}
 use Rattle.ksv_memo_links.proofs.Padding.{padded}
-use Rattle.ksv_memo_links.proofs.Linking.{named-row, live-as}
+use Rattle.ksv_memo_links.proofs.Linking.{no_block, many, named-row, live-as}
 
-none-named : (a : List Entry) (n l : ℕ) → naming (named_of a (replicate n (record { begin = 0; count = 0 }))) l ≡ 0
+none-named : (a : List Entry) (n l : ℕ) → naming (named_of a (replicate n no_block)) l ≡ 0
 none-named a zero l = refl
 none-named a (suc n) l =
-    let c = sum_by-cons (λ (ns : List ℕ). sum_by (one_if l) ns) [] (named_of a (replicate n (record { begin = 0; count = 0 }))) in
-    let h = none-named a n l in
-    omega arith
+    omega (arith, sum_by-cons (λ (ns : List ℕ). sum_by (one_if l) ns) [] (named_of a (replicate n no_block)), none-named a n l)
 
 -- a list that was made longer, or was left as it was
 pub padded-by : {X T E : Type 0} (r : Result T E) (old new : List X) (n : ℕ) (d : X) → OnOk r (new ≡ old ++ replicate n d) → OnErr r (new ≡ old)
@@ -24,38 +22,41 @@ pub on-ok : {T E P Q : Type 0} (r : Result T E) → OnOk r P → (P → Q) → O
 on-ok (Ok x) p h = h p
 on-ok (Err e) p h = tt
 
-module _ (a : List Entry) (B : List Block) (f : List ℕ) (n : ℕ) (h : IsChained a B f) where
+module _ {a : List Entry} {B : List Block} {f : List ℕ} (n : ℕ) (h : IsChained a B f) where
   abbrev pub more : List Block
-  more = B ++ replicate n (record { begin = 0; count = 0 })
+  more = B ++ replicate n no_block
 
   pub same-blocks : (s : ℕ) → block_at more s ≡ block_at B s
-  same-blocks s = padded B n s (record { begin = 0; count = 0 })
+  same-blocks s = padded B n s no_block
 
   pub same-named : HasSameRows (named_of a B) (named_of a more)
   same-named = record {
-    more = (let e = ap length
-        (map-append (λ (b : Block). lists_in a b.begin b.count) B (replicate n (record { begin = 0; count = 0 }))) in let m =
-        length-append (named_of a B) (named_of a (replicate n (record { begin = 0; count = 0 }))) in omega arith);
+    more = (omega (
+      arith,
+      ap length (map-append (λ (b : Block). lists_in a b.begin b.count) B (replicate n no_block)),
+      length-append (named_of a B) (named_of a (replicate n no_block)),
+    ));
     each = λ s. cc (named-row a more s, same-blocks s, named-row a B s);
   }
 
-  pub same-naming : (l : ℕ) → naming (named_of a more) l ≡ naming (named_of a B) l
+  pub same-naming : (l : ℕ) → many a more l ≡ many a B l
   same-naming l =
-      let e = ap (λ rows. naming rows l)
-      (map-append (λ (b : Block). lists_in a b.begin b.count) B (replicate n (record { begin = 0; count = 0 }))) in
-      let m = sum_by-append (λ (ns : List ℕ). sum_by (one_if l) ns) (named_of a B) (named_of a (replicate n (record { begin = 0; count = 0 }))) in
-      let z = none-named a n l in
-      omega arith
+      omega (
+        arith,
+        ap (λ rows. naming rows l) (map-append (λ (b : Block). lists_in a b.begin b.count) B (replicate n no_block)),
+        sum_by-append (λ (ns : List ℕ). sum_by (one_if l) ns) (named_of a B) (named_of a (replicate n no_block)),
+        none-named a n l,
+      )
 
   pub chained-owners : IsChained a more f
   chained-owners = record {
     chains = λ l. subst (IsChain a l (first_at f l)) (sym (same-naming l)) (h.chains l);
-    inside = λ s p v. h.inside s p (live-as more B s p (sym (same-blocks s)) v);
-    owner = λ s p v. h.owner s p (live-as more B s p (sym (same-blocks s)) v);
-    found = λ s p v. (let k = h.found s p (live-as more B s p (sym (same-blocks s)) v) in
-        (k.0, (let m = same-naming (entry_at a p).list in omega arith), k.2));
-    live = λ l i lt. (let m = same-naming l in live-as B more (entry_at a (hop a (first_at f l) i)).owner (hop a (first_at f l) i)
-        (same-blocks (entry_at a (hop a (first_at f l) i)).owner) (h.live l i (omega arith)));
+    inside = λ s p v. h.inside s p (live-as B (sym (same-blocks s)) v);
+    owner = λ s p v. h.owner s p (live-as B (sym (same-blocks s)) v);
+    found = λ s p v. (let k = h.found s p (live-as B (sym (same-blocks s)) v) in
+        (k.0, (omega (arith, same-naming (entry_at a p).list)), k.2));
+    live = λ l i lt. (let m = same-naming l in live-as _
+        (same-blocks _) (h.live l i (omega arith)));
     fits = h.fits;
   }
 

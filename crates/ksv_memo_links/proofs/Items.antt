@@ -1,10 +1,10 @@
 -- The items of a list, as the chain of its entries has them.
 use Rattle.ksv_memo_links.proofs.Common.{◌≡◌, ◌≢◌, ◌⊎◌, inl, inr, ℕ, zero, suc, ◌+◌, ◌-◌, ◌<◌, ◌≤◌, List, [], ◌∷◌, length, get_or, refl, sym, ◌∙◌, ap}
 use Rattle.ksv_memo_links.proofs.Common.{arith, cases_lt, get_or_past, Entry, Block, row, at, naming, entry_at, block_at, first_at, named_of, hop, IsLive}
-use Rattle.ksv_memo_links.proofs.Common.{IsChained, IsListed}
+use Rattle.ksv_memo_links.proofs.Common.{IsChained, IsListed, item_at}
 use Rattle.ksv_memo_links.specs.Chained.{items_from, rows_from, lists_of}
 use Rattle.ksv_memo_links.proofs.Chaining.{apart}
-use Rattle.ksv_memo_links.proofs.Linking.{block-get, named-row, row-length}
+use Rattle.ksv_memo_links.proofs.Linking.{many, block-get, named-row, row-length}
 
 pub users-length : (a : List Entry) (p n : ℕ) → length (items_from a p n) ≡ n
 users-length a p zero = refl
@@ -22,7 +22,7 @@ users-get a p (suc n) (suc i) lt = users-get a (entry_at a p).next n i (omega ar
 
 pub rows-length : (a : List Entry) (rows : List (List ℕ)) (l : ℕ) (f : List ℕ) → length (rows_from a rows l f) ≡ length f
 rows-length a rows l [] = refl
-rows-length a rows l (p ∷ f) = let h = rows-length a rows (l + 1) f in omega arith
+rows-length a rows l (p ∷ f) = omega (arith, rows-length a rows (l + 1) f)
 
 pub rows-row : (a : List Entry) (rows : List (List ℕ)) (l : ℕ) (f : List ℕ) (i : ℕ) → i < length f
     → row (rows_from a rows l f) i ≡ items_from a (first_at f i) (naming rows (l + i))
@@ -33,43 +33,43 @@ rows-row a rows l (p ∷ f) (suc i) lt = let e : l + 1 + i ≡ l + suc i = omega
 pub lists-length : (a : List Entry) (B : List Block) (f : List ℕ) → length (lists_of a B f) ≡ length f
 lists-length a B f = rows-length a (named_of a B) 0 f
 
-module _ (a : List Entry) (B : List Block) (f : List ℕ) (h : IsChained a B f) where
+module _ {a : List Entry} {B : List Block} {f : List ℕ} (h : IsChained a B f) where
   -- no entry is of a list that isn't there
-  none-past : (l : ℕ) → length f ≤ l → naming (named_of a B) l ≡ 0
-  none-past l le = elim (cases_lt 0 (naming (named_of a B) l)) [
+  none-past : (l : ℕ) → length f ≤ l → many a B l ≡ 0
+  none-past l le = elim (cases_lt 0 (many a B l)) [
     | inl lt ↦ let s = (h.chains l).some 0 lt in let z = get_or_past f l 0 le in absurd (omega arith)
     | inr z ↦ omega arith
   ]
 
-  pub list-row : (l : ℕ) → row (lists_of a B f) l ≡ items_from a (first_at f l) (naming (named_of a B) l)
+  pub list-row : (l : ℕ) → row (lists_of a B f) l ≡ items_from a (first_at f l) (many a B l)
   list-row l = elim (cases_lt l (length f)) [
     | inl lt ↦ let e : 0 + l ≡ l = omega arith in cc (rows-row a (named_of a B) 0 f l lt)
-    | inr le ↦ cc (get_or_past (lists_of a B f) l [] (let n = rows-length a (named_of a B) 0 f in omega arith), none-past l le)
+    | inr le ↦ cc (get_or_past (lists_of a B f) l [] (omega (arith, rows-length a (named_of a B) 0 f)), none-past l le)
   ]
 
-  pub list-length : (l : ℕ) → length (row (lists_of a B f) l) ≡ naming (named_of a B) l
-  list-length l = ap length (list-row l) ∙ users-length a (first_at f l) (naming (named_of a B) l)
+  pub list-length : (l : ℕ) → length (row (lists_of a B f) l) ≡ many a B l
+  list-length l = ap length (list-row l) ∙ users-length a (first_at f l) (many a B l)
 
-  pub list-item : (l i : ℕ) → i < naming (named_of a B) l
-      → get_or (row (lists_of a B f) l) i (at 0 0) ≡ at (entry_at a (hop a (first_at f l) i)).owner (hop a (first_at f l) i)
-  list-item l i lt = cc (list-row l, users-get a (first_at f l) (naming (named_of a B) l) i lt)
+  pub list-item : (l i : ℕ) → i < many a B l
+      → item_at (lists_of a B f) l i ≡ at (entry_at a (hop a (first_at f l) i)).owner (hop a (first_at f l) i)
+  list-item l i lt = cc (list-row l, users-get a (first_at f l) (many a B l) i lt)
 
   -- the place of the entry of the item after i others, 0 after the last
-  pub cursor : (l i : ℕ) → i ≤ naming (named_of a B) l → (get_or (row (lists_of a B f) l) i (at 0 0)).at ≡ hop a (first_at f l) i
-  cursor l i le = elim (cases_lt i (naming (named_of a B) l)) [
+  pub cursor : (l i : ℕ) → i ≤ many a B l → (item_at (lists_of a B f) l i).at ≡ hop a (first_at f l) i
+  cursor l i le = elim (cases_lt i (many a B l)) [
     | inl lt ↦ ap (λ x. x.at) (list-item l i lt)
-    | inr ge ↦ let e : naming (named_of a B) l ≡ i = omega arith in
-        cc (get_or_past (row (lists_of a B f) l) i (at 0 0) (let n = list-length l in omega arith), (h.chains l).ends)
+    | inr ge ↦ let e : many a B l ≡ i = omega arith in
+        cc (get_or_past (row (lists_of a B f) l) i (at 0 0) (omega (arith, list-length l)), (h.chains l).ends)
   ]
 
   -- the owner of an item has an entry of the list
   users-ask : (l i : ℕ) → i < length (row (lists_of a B f) l)
-      → (k : ℕ) × (k < length (row (named_of a B) (get_or (row (lists_of a B f) l) i (at 0 0)).owner))
-      × (get_or (row (named_of a B) (get_or (row (lists_of a B f) l) i (at 0 0)).owner) k 0 ≡ l)
+      → (k : ℕ) × (k < length (row (named_of a B) (item_at (lists_of a B f) l i).owner))
+      × (get_or (row (named_of a B) (item_at (lists_of a B f) l i).owner) k 0 ≡ l)
   users-ask l i lt = rw user (p - (block_at B s).begin, count, entries)
     where
-      inside : i < naming (named_of a B) l
-      inside = let n = list-length l in omega arith
+      inside : i < many a B l
+      inside = omega (arith, list-length l)
 
       p : ℕ
       p = hop a (first_at f l) i
@@ -77,20 +77,20 @@ module _ (a : List Entry) (B : List Block) (f : List ℕ) (h : IsChained a B f) 
       s : ℕ
       s = (entry_at a (hop a (first_at f l) i)).owner
 
-      user : (get_or (row (lists_of a B f) l) i (at 0 0)).owner ≡ (entry_at a (hop a (first_at f l) i)).owner
+      user : (item_at (lists_of a B f) l i).owner ≡ (entry_at a (hop a (first_at f l) i)).owner
       user = ap (λ x. x.owner) (list-item l i inside)
 
       v : IsLive B (entry_at a (hop a (first_at f l) i)).owner (hop a (first_at f l) i)
       v = h.live l i inside
 
       short : p - (block_at B s).begin < (block_at B s).count
-      short = let v0 = v.from in let v1 = v.until in omega arith
+      short = omega (arith, v.from, v.until)
 
       count : p - (block_at B s).begin < length (row (named_of a B) s)
-      count = let m = row-length a B s in let z = short in omega arith
+      count = omega (arith, row-length a B s, short)
 
       there : (block_at B s).begin + (p - (block_at B s).begin) ≡ p
-      there = let v0 = v.from in omega arith
+      there = omega (arith, v.from)
 
       entries : get_or (row (named_of a B) s) (p - (block_at B s).begin) 0 ≡ l
       entries =
@@ -103,62 +103,59 @@ module _ (a : List Entry) (B : List Block) (f : List ℕ) (h : IsChained a B f) 
   entries-use s k lt = rw entries (place.0, there, user)
     where
       short : k < (block_at B s).count
-      short = let m = row-length a B s in omega arith
+      short = omega (arith, row-length a B s)
 
       p : ℕ
       p = (block_at B s).begin + k
 
       v : IsLive B s ((block_at B s).begin + k)
-      v = record { from = omega arith; until = let z = short in omega arith }
+      v = record { from = omega arith; until = omega (arith, short) }
 
       entries : get_or (row (named_of a B) s) k 0 ≡ (entry_at a ((block_at B s).begin + k)).list
       entries = cc (named-row a B s, block-get a (block_at B s).begin (block_at B s).count k short)
 
-      place : (i : ℕ) × (i < naming (named_of a B) (entry_at a ((block_at B s).begin + k)).list)
+      place : (i : ℕ) × (i < many a B (entry_at a ((block_at B s).begin + k)).list)
           × (hop a (first_at f (entry_at a ((block_at B s).begin + k)).list) i ≡ (block_at B s).begin + k)
       place = h.found s ((block_at B s).begin + k) v
 
       there : place.0 < length (row (lists_of a B f) (entry_at a ((block_at B s).begin + k)).list)
-      there = let n = list-length (entry_at a ((block_at B s).begin + k)).list in let z = place.1 in omega arith
+      there = omega (arith, list-length (entry_at a ((block_at B s).begin + k)).list, place.1)
 
       user : (get_or (row (lists_of a B f) (entry_at a ((block_at B s).begin + k)).list) place.0 (at 0 0)).owner ≡ s
       user =
           cc (list-item (entry_at a ((block_at B s).begin + k)).list place.0 place.1, place.2, h.owner s ((block_at B s).begin + k) v)
 
   places-apart : (l i j : ℕ) → i < j → j ≤ length (row (lists_of a B f) l)
-      → (get_or (row (lists_of a B f) l) i (at 0 0)).at ≢ (get_or (row (lists_of a B f) l) j (at 0 0)).at
-  places-apart l i j lt le e = elim (cases_lt j (naming (named_of a B) l)) [
-    | inl lj ↦ let z = apart a l (first_at f l) (naming (named_of a B) l) (h.chains l) i j (omega arith) lj (sym x ∙ e ∙ y) in
-        omega arith
+      → (item_at (lists_of a B f) l i).at ≢ (item_at (lists_of a B f) l j).at
+  places-apart l i j lt le e = elim (cases_lt j (many a B l)) [
+    | inl lj ↦ omega (arith, apart (h.chains l) i j (omega arith) lj (sym x ∙ e ∙ y))
     | inr ge ↦ let m = n in
-        let w : j ≡ naming (named_of a B) l = omega arith in
-        let z = ap (hop a (first_at f l)) w in
-        let s = (h.chains l).some i (omega arith) in
-        let x1 = x in let y1 = y in let d = (h.chains l).ends in omega arith
+        let w : j ≡ many a B l = omega arith in
+        omega (arith, ap (hop a (first_at f l)) w, (h.chains l).some i (omega arith), x, y, (h.chains l).ends)
   ]
     where
-      n : length (row (lists_of a B f) l) ≡ naming (named_of a B) l
+      n : length (row (lists_of a B f) l) ≡ many a B l
       n = list-length l
 
-      x : (get_or (row (lists_of a B f) l) i (at 0 0)).at ≡ hop a (first_at f l) i
-      x = cursor l i (let m = n in omega arith)
+      x : (item_at (lists_of a B f) l i).at ≡ hop a (first_at f l) i
+      x = cursor l i (omega (arith, n))
 
-      y : (get_or (row (lists_of a B f) l) j (at 0 0)).at ≡ hop a (first_at f l) j
-      y = cursor l j (let m = n in omega arith)
+      y : (item_at (lists_of a B f) l j).at ≡ hop a (first_at f l) j
+      y = cursor l j (omega (arith, n))
 
   pub all-listed : IsListed (lists_of a B f) (named_of a B)
   all-listed = record {
     owners = users-ask;
     found = entries-use;
-    few = λ l. (let n = list-length l in omega arith);
+    few = λ l. (omega (arith, list-length l));
     apart = places-apart;
   }
 
   -- at a place that an item has, its owner is found, and the place of the next item
-  pub item-found : (p l i : ℕ) → p ≢ 0 → p ≡ (get_or (row (lists_of a B f) l) i (at 0 0)).at
-      → (i < length (row (lists_of a B f) l)) × ((entry_at a p).owner ≡ (get_or (row (lists_of a B f) l) i (at 0 0)).owner)
-      × ((entry_at a p).next ≡ (get_or (row (lists_of a B f) l) (i + 1) (at 0 0)).at)
-  item-found p l i some e = elim (cases_lt i (naming (named_of a B) l)) [
+  pub item-found : (p l i : ℕ) → p ≢ 0 → p ≡ (item_at (lists_of a B f) l i).at
+      → (i < length (row (lists_of a B f) l)) × ((entry_at a p).owner ≡ (item_at (lists_of a B f) l i).owner)
+      × ((entry_at a p).next ≡ (item_at (lists_of a B f) l (i + 1)).at)
+  item-found p l i some e = elim (cases_lt i (many a B l)) [
     | inl lt ↦ let m = n in
         let here : p ≡ hop a (first_at f l) i = e ∙ cursor l i (omega arith) in
         let step : suc i ≡ i + 1 = omega arith in (
@@ -170,12 +167,12 @@ module _ (a : List Entry) (B : List Block) (f : List ℕ) (h : IsChained a B f) 
         absurd (some (cc (get_or_past (row (lists_of a B f) l) i (at 0 0) (omega arith))))
   ]
     where
-      n : length (row (lists_of a B f) l) ≡ naming (named_of a B) l
+      n : length (row (lists_of a B f) l) ≡ many a B l
       n = list-length l
 
   -- place 0, and what is no place, comes after the last
-  pub no-item : (p l i : ℕ) → (p ≡ 0) ⊎ (length a ≤ p) → p ≡ (get_or (row (lists_of a B f) l) i (at 0 0)).at → length (row (lists_of a B f) l) ≤ i
-  no-item p l i out e = elim (cases_lt i (length (row (lists_of a B f) l))) [
+  pub no-item : {p : ℕ} (l i : ℕ) → (p ≡ 0) ⊎ (length a ≤ p) → p ≡ (item_at (lists_of a B f) l i).at → length (row (lists_of a B f) l) ≤ i
+  no-item {p} l i out e = elim (cases_lt i (length (row (lists_of a B f) l))) [
     | inl lt ↦ elim out [
       | inl z ↦ let n = list-length l in
           let here : p ≡ hop a (first_at f l) i = e ∙ cursor l i (omega arith) in

@@ -1,5 +1,5 @@
 -- Marks upon marks.
-use Rattle.ksv_memo_links.proofs.Common.{◌≡◌, inl, inr, Bool, true, false, ℕ, ◌+◌, ◌<◌, ◌≤◌, List, [], ◌++◌, length, set, sym, ◌∙◌, ap, subst}
+use Rattle.ksv_memo_links.proofs.Common.{◌≡◌, inl, inr, Bool, true, false, ℕ, ◌+◌, ◌<◌, ◌≤◌, List, [], ◌++◌, length, set, refl, sym, ◌∙◌, ap, subst}
 use Rattle.ksv_memo_links.proofs.Common.{arith, length-set, append-nil, eqb_tells, Change, Parts, row, is_kept, IsMarking, IsShaped, SameLinks}
 use Rattle.ksv_memo_links.proofs.Common.{looks, Why, MarksMore}
 use Rattle.std.proofs.Common.{append_assoc}
@@ -16,31 +16,31 @@ same-trans p q r h k = record {
 
 pub shaped-more : (p q : Parts) → IsShaped p → SameLinks p q → length q.marks.kept ≡ length p.marks.kept → IsShaped q
 shaped-more p q h s e = record {
-  asks = (let a = ap length s.asks in omega arith);
-  lists = (let a = ap length s.ask_lists in omega arith);
-  uses = (let a = ap length s.uses in omega arith);
-  asked_in = λ t lt. (let a = ap (λ rows. length (row rows t)) s.asks in let b = h.asked_in t (omega arith) in omega arith);
-  used_in = λ t lt. (let a = ap (λ rows. length (row rows t)) s.uses in let b = h.used_in t (omega arith) in omega arith);
+  asks = (omega (arith, ap length s.asks));
+  lists = (omega (arith, ap length s.ask_lists));
+  uses = (omega (arith, ap length s.uses));
+  asked_in = λ t lt. (let a = ap (λ rows. length (row rows t)) s.asks in omega (arith, h.asked_in t (omega arith)));
+  used_in = λ t lt. (let a = ap (λ rows. length (row rows t)) s.uses in omega (arith, h.used_in t (omega arith)));
 }
 
 -- the reasons are those of the parts as they were
-pub why-along : (p q : Parts) (first : List Bool) (x : Change) (P : (ℕ → Type 0) → Type 0) → SameLinks p q → P (Why p first x) → P (Why q first x)
-why-along p q first x P s h =
+pub why-along : {p q : Parts} (first : List Bool) (x : Change) (P : (ℕ → Type 0) → Type 0) → SameLinks p q → P (Why p first x) → P (Why q first x)
+why-along first x P s h =
     rw s.asks (rw s.uses h)
 
 pub why-back : (p q : Parts) (first : List Bool) (x : Change) (P : (ℕ → Type 0) → Type 0) → SameLinks p q → P (Why q first x) → P (Why p first x)
 why-back p q first x P s h =
     rw s.asks at (rw s.uses at h)
 
-pub more-trans : (p q r : Parts) (P Q : List Bool → Change → Type 0) → MarksMore p q P → MarksMore q r Q
+pub more-trans : {p q r : Parts} {P Q : List Bool → Change → Type 0} → MarksMore p q P → MarksMore q r Q
     → ((first : List Bool) (x : Change) → P first x → IsMarking first (Why p first x) q.marks.kept q.marks.work → Q first x) → MarksMore p r P
-more-trans p q r P Q h k f = record {
+more-trans {p} {q} {r} h k f = record {
   same = same-trans p q r h.same k.same;
   same_length = k.same_length ∙ h.same_length;
   fewer = λ s e. h.fewer s (k.fewer s e);
   marking = λ first x w m.
-      (let n = h.marking first x w m in why-back p q first x (λ why. IsMarking first why r.marks.kept r.marks.work) h.same
-      (k.marking first x (f first x w n) (why-along p q first x (λ why. IsMarking first why q.marks.kept q.marks.work) h.same n)));
+      (let n = h.marking first x w m in why-back _ _ first x (λ why. IsMarking first why r.marks.kept r.marks.work) h.same
+      (k.marking first x (f first x w n) (why-along first x (λ why. IsMarking first why q.marks.kept q.marks.work) h.same n)));
   grows = (h.grows.0 ++ k.grows.0, cc (append_assoc p.marks.work h.grows.0 k.grows.0));
   least = λ from c. k.least from (h.least from c);
   rises = omega arith;
@@ -60,7 +60,7 @@ one-mark p q P s h why = record {
   same = h.same;
   same_length = ap length h.kept ∙ length-set p.marks.kept s false;
   fewer = λ t e. kept-fewer p.marks.kept s t (cc);
-  marking = λ first x w m. (rw h.kept (rw h.work (mark-step first (Why p first x) p.marks.kept p.marks.work s m (λ e. why first x w (m.less s e)))));
+  marking = λ first x w m. (rw h.kept (rw h.work (mark-step s m (λ e. why first x w (m.less s e)))));
   grows = let g = marked-grows p.marks.kept p.marks.work s in (g.0, h.work ∙ g.1);
   least = h.least;
   rises = h.rises;
@@ -76,6 +76,17 @@ no-mark p q P s e f least rises = record {
   grows = ([], f ∙ sym (append-nil p.marks.work));
   least = least;
   rises = rises;
+}
+
+pub mark-none : {p : Parts} {P : List Bool → Change → Type 0} → MarksMore p p P
+mark-none {p} = record {
+  same = record { asks = refl; ask_lists = refl; uses = refl; use_lists = refl };
+  same_length = refl;
+  fewer = λ s e. e;
+  marking = λ first x w m. m;
+  grows = ([], sym (append-nil p.marks.work));
+  least = λ from c. c;
+  rises = omega arith;
 }
 
 pub one-out : (p q : Parts) (s : ℕ) → MarksOne p q s → is_kept q.marks.kept s ≡ false

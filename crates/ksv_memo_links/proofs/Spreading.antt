@@ -6,13 +6,12 @@ use Rattle.std.proofs.lemmas.List.{take-append-le}
 use Rattle.std.proofs.lemmas.List.Sums.{sum_by_more}
 use Rattle.ksv_memo_links.specs.Forgetting.{lengths}
 use Rattle.ksv_memo_links.proofs.Mark.{stays-out}
-use Rattle.ksv_memo_links.proofs.More.{more-trans, no-mark, why-along, MarksOne, one-mark, one-out, below-more}
+use Rattle.ksv_memo_links.proofs.More.{more-trans, mark-none, why-along, MarksOne, one-mark, one-out, below-more}
 use Rattle.ksv_memo_links.proofs.Hits.{Peeks, peek-more, user-why}
 
 pub users-none : (p : Parts) (slot : ℕ) → HitsUsers p p slot 0 0
 users-none p slot = record {
-  more = no-mark p p (λ first x. Why p first x slot) (record { asks = refl; ask_lists = refl; uses = refl; use_lists = refl }) refl refl (λ from c. c)
-      (omega arith);
+  more = mark-none;
   out = λ s lt. absurd (omega arith);
   within = omega arith;
   looks = omega arith;
@@ -35,7 +34,7 @@ pub users-first : (p p1 : Parts) (slot : ℕ) → Peeks p p1 → HitsUsers p p1 
 users-first p p1 slot k =
     let h = users-none p slot in
     record {
-      more = peek-more p p p1 (λ first x. Why p first x slot) h.more k;
+      more = peek-more h.more k;
       out = λ s lt. absurd (omega arith);
       within = omega arith;
       looks = let len = ap (λ (ws : List ℕ). length ws) k.work in let b = k.looks in omega arith;
@@ -45,11 +44,11 @@ pub users-more : (p q q1 r : Parts) (slot i user : ℕ) → HitsUsers p q slot i
     → i < length (row p.asks.lists slot) → user ≡ (item_at p.asks.lists slot i).owner → MarksOne q1 r user
     → looks r + 2 * length q1.marks.work ≤ looks q1 + 1 + 2 * length r.marks.work → HitsUsers p r slot (i + 1) 1
 users-more p q q1 r slot i user h k l lt e one few = record {
-  more = more-trans p q1 r (λ first x. Why p first x slot) (λ first x. Why q first x slot) to_q1
+  more = more-trans to_q1
       (one-mark q1 r (λ first x. Why q first x slot) user one
-      (λ first x w f. why-along q q1 first x (λ why. why user) k.same
+      (λ first x w f. why-along first x (λ why. why user) k.same
       (let P : ℕ → Type 0 = λ s. Why q first x s in subst P now (user-why q slot i (asked-along p q l h.more.same) there first x w))))
-      (λ first x w m. why-along p q first x (λ why. why slot) h.more.same w);
+      (λ first x w m. why-along first x (λ why. why slot) h.more.same w);
   out = below-more (λ j. is_kept r.marks.kept (item_at p.asks.lists slot j).owner ≡ false) i
       (λ j lj. stays-out q.marks.kept r.marks.kept (item_at p.asks.lists slot j).owner fewer (h.out j lj))
       (ap (λ s. is_kept r.marks.kept s) (sym e) ∙ one-out q1 r user one);
@@ -58,7 +57,7 @@ users-more p q q1 r slot i user h k l lt e one few = record {
 }
   where
     to_q1 : MarksMore p q1 (λ first x. Why p first x slot)
-    to_q1 = peek-more p q q1 (λ first x. Why p first x slot) h.more k
+    to_q1 = peek-more h.more k
 
     there : i < length (row q.asks.lists slot)
     there = let n = ap (λ (rows : List (List Item)). length (row rows slot)) h.more.same.ask_lists in omega arith
@@ -79,7 +78,7 @@ users-end p q q1 slot i h k idle le =
     let w = h.within in
     let same : i ≡ length (row p.asks.lists slot) = omega arith in
     subst (λ m. HitsUsers p q1 slot m 1) same (record {
-      more = peek-more p q q1 (λ first x. Why p first x slot) h.more k;
+      more = peek-more h.more k;
       out = λ j lj. ap (λ (ks : List Bool). is_kept ks (item_at p.asks.lists slot j).owner) k.kept ∙ h.out j lj;
       within = w;
       looks = let len = ap (λ (ws : List ℕ). length ws) k.work in let a = h.looks in omega arith;
@@ -87,47 +86,45 @@ users-end p q q1 slot i h k idle le =
 
 pub spread-none : (p : Parts) → Spreads p p 0 0
 spread-none p = record {
-  more = no-mark p p (λ first x. Unit {0}) (record { asks = refl; ask_lists = refl; uses = refl; use_lists = refl }) refl refl (λ from c. c) (omega arith);
+  more = mark-none;
   within = omega arith;
   out = λ j i lt k. absurd (omega arith);
   looks = omega arith;
 }
 
-pub spread-end : (p q q1 : Parts) (i : ℕ) → Spreads p q i 0 → Peeks q q1 → length q.marks.work ≤ i → Spreads p q1 (length q1.marks.work) 1
-spread-end p q q1 i h k le =
+pub spread-end : {p q q1 : Parts} {i : ℕ} → Spreads p q i 0 → Peeks q q1 → length q.marks.work ≤ i → Spreads p q1 (length q1.marks.work) 1
+spread-end {p} {q} {q1} {i} h k le =
     let n = ap length k.work in
     let same : i ≡ length q1.marks.work = omega arith in
     let c : Spreads p q1 i 1 = record {
-      more = peek-more p q q1 (λ first x. Unit {0}) h.more k;
+      more = peek-more h.more k;
       within = omega arith;
       out = λ j l lt. (rw k.kept (rw k.work (h.out j l lt)));
-      looks = let z = ap (λ ws. lengths p.asks.lists (take i ws)) k.work in omega arith;
+      looks = omega (arith, ap (λ ws. lengths p.asks.lists (take i ws)) k.work);
     } in
     rw same at c
 
-pub spread-more : (p q q1 r : Parts) (i slot : ℕ) → Spreads p q i 0 → Peeks q q1 → i < length q.marks.work → slot ≡ get_or q.marks.work i slot
+pub spread-more : {p q q1 r : Parts} {i slot : ℕ} → Spreads p q i 0 → Peeks q q1 → i < length q.marks.work → slot ≡ get_or q.marks.work i slot
     → HitsUsers q1 r slot (length (row q1.asks.lists slot)) 1 → Spreads p r (i + 1) 0
-spread-more p q q1 r i slot h k lt is u = record {
-  more = more-trans p q1 r (λ first x. Unit {0}) (λ first x. Why q1 first x slot) to_q1 u.more
-      (λ first x w m. why-along p q1 first x (λ why. why slot) to_q1.same (rw there at (m.gone i lt1).2));
-  within = let n = ap length grown in let l = length-append q.marks.work u.more.grows.0 in omega arith;
+spread-more {p} {q} {q1} {r} {i} {slot} h k lt is u = record {
+  more = more-trans to_q1 u.more
+      (λ first x w m. why-along first x (λ why. why slot) to_q1.same (rw there at (m.gone i lt1).2));
+  within = omega (arith, ap length grown, length-append q.marks.work u.more.grows.0);
   out = λ j l lt2. elim (eqb_tells j i) [
     | inl e ↦ rw (ap (λ n. get_or r.marks.work n 0) e.1 ∙ early i lt ∙ at_i) (new l)
     | inr e ↦
         let lj : j < i = omega arith in
-        rw (early j (omega arith)) (λ m. stays-out q.marks.kept r.marks.kept (item_at p.asks.lists (get_or q.marks.work j 0) l).owner fewer (h.out j l lj m))
+        rw (early j (omega arith)) (λ m. stays-out _ _ _ fewer (h.out j l lj m))
   ];
   looks =
-      let n = ap (λ rows. length (row rows slot)) to_q1.same.ask_lists in
-      let len = ap length k.work in
-      omega (arith, sums);
+      omega (arith, ap (λ rows. length (row rows slot)) to_q1.same.ask_lists, ap length k.work, sums);
 }
   where
     to_q1 : MarksMore p q1 (λ first x. Unit {0})
-    to_q1 = peek-more p q q1 (λ first x. Unit {0}) h.more k
+    to_q1 = peek-more h.more k
 
     lt1 : i < length q1.marks.work
-    lt1 = let len = ap length k.work in omega arith
+    lt1 = omega (arith, ap length k.work)
 
     at_i : get_or q.marks.work i 0 ≡ slot
     at_i = sym (get_or_read q.marks.work i slot lt is 0)

@@ -39,7 +39,7 @@ bytes-meet at n f t a b =
     let g = max f at / 64 in
     record {
       page = g;
-      there = numbers-in (f / 64) (pages_end f t - f / 64) g (omega arith) (omega arith);
+      there = numbers-in _ _ _ (omega arith) (omega arith);
       from = omega arith;
       before = omega arith;
     }
@@ -51,16 +51,16 @@ use-meets at n (Reach t) e = absurd (cc)
 use-meets at n Size e = absurd (cc)
 
 -- a page of one use is among those of all
-part-in : (us : List Use) (k : ℕ) (u : Use) (g : ℕ) → k < length us → get_or us k u ≡ u → Contains (pages_of u) g → Contains (pages_in us) g
-part-in [] k u g lt e h = absurd (omega arith)
-part-in (v ∷ us) zero u g lt e h = Contains-append_left (pages_of v) (pages_in us) g (rw e h)
-part-in (v ∷ us) (suc k) u g lt e h = Contains-append_right (pages_of v) (pages_in us) g (part-in us k u g (omega arith) e h)
+part-in : (us : List Use) (k : ℕ) {u : Use} (g : ℕ) → k < length us → get_or us k u ≡ u → Contains (pages_of u) g → Contains (pages_in us) g
+part-in [] k g lt e h = absurd (omega arith)
+part-in (v ∷ us) zero g lt e h = Contains-append_left (pages_of v) (pages_in us) g (rw e h)
+part-in (v ∷ us) (suc k) {u} g lt e h = Contains-append_right _ _ _ (part-in us k g (omega arith) e h)
 
 pub uses-meet : (at n : ℕ) (us : List Use) → list_any (is_use_touched (Overwrite at n)) us ≡ true → Meets at n (pages_in us)
 uses-meet at n us e =
     let a = Any-from_list_any (is_use_touched (Overwrite at n)) us e in
     let m = use-meets at n a.1 a.4 in
-    record { page = m.page; there = part-in us a.0 a.1 m.page a.2 a.3 m.there; from = m.from; before = m.before }
+    record { page = m.page; there = part-in us a.0 m.page a.2 a.3 m.there; from = m.from; before = m.before }
 
 -- ---- an insert or a delete
 -- a use ends after a place, or is of the size
@@ -85,8 +85,8 @@ EndsPast at us = ((g : ℕ) × Contains (pages_in us) g × (first_page at ≤ g)
 
 farthest-most : (us : List Use) (k : ℕ) (u : Use) → k < length us → get_or us k u ≡ u → reach_of u ≤ farthest us
 farthest-most [] k u lt e = absurd (omega arith)
-farthest-most (v ∷ us) zero u lt e = let n = ap reach_of e in omega arith
-farthest-most (v ∷ us) (suc k) u lt e = let n = farthest-most us k u (omega arith) e in omega arith
+farthest-most (v ∷ us) zero u lt e = omega (arith, ap reach_of e)
+farthest-most (v ∷ us) (suc k) u lt e = omega (arith, farthest-most us k u (omega arith) e)
 
 pub size-ends : (us : List Use) → list_any is_size us ≡ true → Contains (ends_in us) 0
 size-ends us e = rw (ap (λ b. cond b (0 ∷ []) (end_at (farthest us))) e) (head-in 0 [])
@@ -107,7 +107,7 @@ reach-past at us lt = by (list_any is_size us) refl
 use-past : (at : ℕ) (us : List Use) (k : ℕ) (u : Use) → k < length us → get_or us k u ≡ u → IsPast at u → EndsPast at us
 use-past at us k (Bytes f t) lt e p =
     let g = max f (t - 1) / 64 in
-    inl (g, part-in us k (Bytes f t) g lt e (numbers-in (f / 64) (pages_end f t - f / 64) g (omega arith) (omega arith)), omega arith)
+    inl (g, part-in us k g lt e (numbers-in (f / 64) (pages_end f t - f / 64) g (omega arith) (omega arith)), omega arith)
 use-past at us k (Reach t) lt e p = let n = farthest-most us k (Reach t) lt e in reach-past at us (omega arith)
 use-past at us k Size lt e p = inr (0, size-ends us (list_any-from_Any is_size us (k, Size, lt, e, refl)), inl refl)
 
@@ -119,9 +119,8 @@ delete-past at n us e = let a = Any-from_list_any (is_use_touched (Delete at n))
 
 -- what an append touches is of the size
 append-size : (u : Use) → is_use_touched Append u ≡ true → is_size u ≡ true
-append-size (Bytes f t) e = e
-append-size (Reach t) e = e
 append-size Size e = refl
+append-size _ e = e
 
 pub append-ends : (us : List Use) → list_any (is_use_touched Append) us ≡ true → Contains (ends_in us) 0
 append-ends us e = let a = Any-from_list_any (is_use_touched Append) us e in size-ends us

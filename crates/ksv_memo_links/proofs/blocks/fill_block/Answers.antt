@@ -20,12 +20,12 @@ loop-i-init c = record {
 
 -- the next place is free still
 free-still : (B C : List Block) (s p : ℕ) → ((t : ℕ) → t ≢ s → block_at C t ≡ block_at B t) → IsFree B s p → IsFree C s p
-free-still B C s p h free t ne v = free t ne (live-as C B t p (sym (h t ne)) v)
+free-still B C s p h free t ne v = free t ne (live-as B (sym (h t ne)) v)
 
 pub link-requires-clause-next_in : goal.link-requires-clause-next_in
 link-requires-clause-next_in c =
     let i = c.loop-i.invariant in
-    first-inside c.loop-i.entries.items c.loop-i.blocks.items c.loop-i.first.items (get_or c.args.lists.now c.loop-i.i 0) i.chained
+    first-inside _ i.chained
     (omega arith)
 
 pub link-requires-clause-other : goal.link-requires-clause-other
@@ -34,8 +34,8 @@ link-requires-clause-other c =
     let t = c.loop-i-test.true in
     let free = free-still c.args.blocks.now.items c.loop-i.blocks.items c.args.owner (c.args.begin + c.loop-i.i) i.others
     (c.requires.free c.loop-i.i (omega arith)) in
-    first-other c.loop-i.entries.items c.loop-i.blocks.items c.loop-i.first.items c.args.owner c.args.begin c.loop-i.i (c.args.begin + c.loop-i.i) i.chained
-    i.count i.begin refl free (omega arith) (get_or c.args.lists.now c.loop-i.i 0)
+    first-other _ _ i.chained
+    i.count i.begin refl free (omega arith) _
 
 pub loop-i-preserved : goal.loop-i-preserved
 loop-i-preserved c =
@@ -52,16 +52,16 @@ loop-i-preserved c =
     let new_is : record { begin = c.args.begin; count = suc k } ≡ new = ap (λ m. record { begin = c.args.begin; count = m }) e in
     let free = free-still c.args.blocks.now.items B s p i.others (c.requires.free k (omega arith)) in
     let there : p < length c.loop-i.entries.items = (omega arith) in
-    let chained = chained-more c.loop-i.entries.items c.link.new.entries.items B c.loop-i.first.items c.link.new.first.items s c.args.begin k p l i.chained s_in
+    let chained = chained-more c.args.begin i.chained s_in
     i.count i.begin refl free (omega arith) there c.link.ensures in
-    let named = named-more c.loop-i.entries.items c.link.new.entries.items B c.loop-i.first.items c.link.new.first.items s c.args.begin k p l i.chained s_in
+    let named = named-more c.args.begin i.chained s_in
     i.count i.begin refl free (omega arith) there c.link.ensures in
-    let here : block_at (set B s new) s ≡ new = get_or-set_same B s new (record { begin = 0; count = 0 }) s_in in
+    let here : block_at (set B s new) s ≡ new = get_or-set_same _ _ _ _ s_in in
     let rows0 = named_of c.args.entries.now.items c.args.blocks.now.items in
     record {
       chained = rw new_is at chained;
-      named = one-more rows0 (named_of c.loop-i.entries.items B) (named_of c.link.new.entries.items (set B s new)) s k l c.args.lists.now
-          (let m = named-length c.args.entries.now.items c.args.blocks.now.items in omega arith) (omega arith) refl i.named
+      named = one-more _ _ _ _
+          (omega (arith, named-length c.args.entries.now.items c.args.blocks.now.items)) (omega arith) refl i.named
           (cc);
       begin = λ lt. sym (ap (λ b. b.begin) here);
       count = sym (ap (λ b. b.count) here);

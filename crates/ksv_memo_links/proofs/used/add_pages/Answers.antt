@@ -9,9 +9,9 @@ numbers-more a (suc n) = let e : a + 1 + n ≡ a + suc n =
     omega arith in ap (λ ns. a ∷ ns) (numbers-more (a + 1) n ∙ ap (λ k. numbers_from (a + 1) n ++ k ∷ []) e)
 
 -- the list of one page more
-longer : (old now then : List ℕ) (first page list : ℕ) → first ≤ page → now ≡ old ++ map list_of_page (numbers_from first (page - first))
+longer : (old : List ℕ) {now then : List ℕ} (first page : ℕ) {list : ℕ} → first ≤ page → now ≡ old ++ map list_of_page (numbers_from first (page - first))
     → list ≡ list_of_page page → then ≡ now ++ list ∷ [] → then ≡ old ++ map list_of_page (numbers_from first (page + 1 - first))
-longer old now then first page list le e n f =
+longer old first page {list} le e n f =
     let xs = map list_of_page (numbers_from first (page - first)) in
     let count : suc (page - first) ≡ page + 1 - first = omega arith in
     let last : first + (page - first) ≡ page = omega arith in
@@ -24,7 +24,7 @@ loop-page-preserved c =
     let t = c.loop-page-test.true in
     let i = c.loop-page.invariant in
     record {
-      lists = longer c.args.lists.now.items c.loop-page.lists.items c.push.new.self.items (c.in-Bytes.from / 64) c.loop-page.page c.page_list.result i.from
+      lists = longer _ _ _ i.from
           i.lists c.page_list.ensures.number c.in_ok-push-in-Bytes.ensures.items;
       from = omega arith;
       until = omega arith;

@@ -5,7 +5,7 @@ use Rattle.ksv_memo_links.proofs.used.farthest_of.Goals as goal
 farthest-more : (us : List Use) (i : ℕ) (d : Use) → i < length us → farthest (take (suc i) us) ≡ max (farthest (take i us)) (reach_of (get_or us i d))
 farthest-more [] i d lt = absurd (omega arith)
 farthest-more (u ∷ us) zero d lt = omega arith
-farthest-more (u ∷ us) (suc i) d lt = let h = farthest-more us i d (omega arith) in omega arith
+farthest-more (u ∷ us) (suc i) d lt = omega (arith, farthest-more us i d (omega arith))
 
 pub loop-used-preserved : goal.loop-used-preserved
 loop-used-preserved c =

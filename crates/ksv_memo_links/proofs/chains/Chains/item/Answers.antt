@@ -8,11 +8,11 @@ returns-then-at-eq0-clause-none c slot i =
     let a = c.self.inside.entries.items in
     let out : (c.args.at ≡ 0) ⊎ (length a ≤ c.args.at) =
     elim c.then-at-eq0.branch [
-      | then-at-eq0-via-then-at-eq0 w ↦ inl (let k = w.if-at-eq0 in omega arith)
+      | then-at-eq0-via-then-at-eq0 w ↦ inl (omega (arith, w.if-at-eq0))
       | then-at-eq0-via-else-at-eq0+then-at-len w
-          ↦ inr (let k = w.if-at-len in omega arith)
+          ↦ inr (omega (arith, w.if-at-len))
     ] in
-    rw (← c.self.view_is) (no-item a c.self.inside.blocks.items c.self.inside.first.items c.self.invariant c.args.at slot i out)
+    rw (← c.self.view_is) (no-item c.self.invariant _ _ out)
 
 pub returns-clause-some : goal.returns-clause-some
 returns-clause-some c slot i =
@@ -25,5 +25,5 @@ returns-clause-some c slot i =
     let P : Chained → Type 0 = λ x. c.args.at ≡ (item_at x.lists slot i).at
     → (i < length (row x.lists slot)) × (c.index-entry.result.now.owner ≡ (item_at x.lists slot i).owner)
     × (c.index-entry.result.now.next ≡ (item_at x.lists slot (i + 1)).at) in
-    subst P c.self.view_is (λ e. (let u = item-found a c.self.inside.blocks.items c.self.inside.first.items c.self.invariant c.args.at slot i some e in
+    subst P c.self.view_is (λ e. (let u = item-found c.self.invariant _ slot i some e in
     (u.0, cc, cc)))

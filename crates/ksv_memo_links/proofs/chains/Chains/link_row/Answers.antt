@@ -4,10 +4,12 @@ use Rattle.ksv_memo_links.proofs.chains.Chains.link_row.Goals as goal
 
 pub link_block-requires-clause-lists_in : goal.link_block-requires-clause-lists_in
 link_block-requires-clause-lists_in c k d lt =
-    let e = ap (λ x. length x.lists) c.self.view_is in
-    let n = lists-length c.self.inside.entries.items c.self.inside.blocks.items c.self.inside.first.items in
-    let m = c.requires.lists_in k d lt in
-    omega arith
+    omega (
+      arith,
+      ap (λ x. length x.lists) c.self.view_is,
+      lists-length c.self.inside.entries.items c.self.inside.blocks.items c.self.inside.first.items,
+      c.requires.lists_in k d lt,
+    )
 
 pub returns-in_err-link_block-clause-count : goal.returns-in_err-link_block-clause-count
 returns-in_err-link_block-clause-count c =

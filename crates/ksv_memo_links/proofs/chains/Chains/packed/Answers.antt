@@ -32,12 +32,14 @@ loop-owner-init c =
 pub link_row-requires-clause-owner_in : goal.link_row-requires-clause-owner_in
 link_row-requires-clause-owner_in c =
     let i = c.self.inside in
-    let v = ap (λ x. length x.named) c.self.view_is in
-    let n = named-length i.entries.items i.blocks.items in
-    let b = ap length c.as_slice-owners.ensures.value in
-    let t = c.loop-owner-test.true in
-    let s = c.loop-owner.invariant.copied.size in
-    omega arith
+    omega (
+      arith,
+      ap (λ x. length x.named) c.self.view_is,
+      named-length i.entries.items i.blocks.items,
+      ap length c.as_slice-owners.ensures.value,
+      c.loop-owner-test.true,
+      c.loop-owner.invariant.copied.size,
+    )
 
 pub link_row-requires-clause-none : goal.link_row-requires-clause-none
 link_row-requires-clause-none c = c.loop-owner.invariant.copied.none c.loop-owner.owner (omega arith)
@@ -46,10 +48,12 @@ pub link_row-requires-clause-lists_in : goal.link_row-requires-clause-lists_in
 link_row-requires-clause-lists_in c k d lt =
     let is : c.as_slice-in-loop-owner.result.now ≡ row c.args.self.now.named c.loop-owner.owner =
     c.as_slice-in-loop-owner.ensures.value ∙ c.in_ok-copy_row.ensures in
-    let n = c.loop-owner.invariant.lists in
-    let there = subst (λ xs. k < length xs → get_or xs k d < length c.args.self.now.lists) (sym is)
-    (list-there c.args.self.now.lists c.args.self.now.named c.loop-owner.owner c.linked.ensures k d) lt in
-    omega arith
+    omega (
+      arith,
+      c.loop-owner.invariant.lists,
+      subst (λ xs. k < length xs → get_or xs k d < length c.args.self.now.lists) (sym is)
+          (list-there c.loop-owner.owner c.linked.ensures k d) lt,
+    )
 
 pub loop-owner-preserved : goal.loop-owner-preserved
 loop-owner-preserved c =
@@ -59,7 +63,7 @@ loop-owner-preserved c =
     let b = ap length c.as_slice-owners.ensures.value in
     let t = c.loop-owner-test.true in
     record {
-      copied = copied-more c.args.self.now.named c.loop-owner.packed.named c.link_row.new.self.named c.loop-owner.owner c.as_slice-in-loop-owner.result.now
+      copied = copied-more
           c.loop-owner.invariant.copied (omega arith) (c.as_slice-in-loop-owner.ensures.value ∙ c.in_ok-copy_row.ensures) c.in_ok-link_row.ensures.ok;
       lists = c.link_row.ensures.count ∙ c.loop-owner.invariant.lists;
     }
@@ -71,4 +75,4 @@ returns-clause-named c =
     let n = named-length i.entries.items i.blocks.items in
     let b = ap length c.as_slice-owners.ensures.value in
     let t = c.loop-owner-test.false in
-    copied-all c.args.self.now.named c.loop-owner.packed.named c.loop-owner.owner c.loop-owner.invariant.copied (omega arith)
+    copied-all c.loop-owner.invariant.copied (omega arith)

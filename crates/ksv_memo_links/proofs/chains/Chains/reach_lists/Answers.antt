@@ -10,34 +10,40 @@ invariant_of-self c =
     let p = padded-by c.reach_first.result i.first.items c.reach_first.new.first.items (c.args.count - length i.first.items) 0 c.reach_first.ensures.ok
     c.reach_first.ensures.err in
     subst (IsChained i.entries.items i.blocks.items) (sym p.1)
-    (chained-lists i.entries.items i.blocks.items i.first.items p.0 c.self.invariant)
+    (chained-lists p.0 c.self.invariant)
 
 pub returns-clause-lists : goal.returns-clause-lists
 returns-clause-lists c =
     let i = c.self.inside in
     let p = padded-by c.reach_first.result i.first.items c.reach_first.new.first.items (c.args.count - length i.first.items) 0 c.reach_first.ensures.ok
     c.reach_first.ensures.err in
-    let n = ap length p.1 in
-    let m = lists-length i.entries.items i.blocks.items c.reach_first.new.first.items in
-    let k = lists-length i.entries.items i.blocks.items i.first.items in
-    let e = ap (λ x. length x.lists) c.self.view_is in
-    omega (arith, length-append {A = ℕ}, length-replicate {A = ℕ})
+    omega (
+      arith,
+      ap length p.1,
+      lists-length i.entries.items i.blocks.items c.reach_first.new.first.items,
+      lists-length i.entries.items i.blocks.items i.first.items,
+      ap (λ x. length x.lists) c.self.view_is,
+      length-append {A = ℕ},
+      length-replicate {A = ℕ},
+    )
 
 pub returns-clause-few : goal.returns-clause-few
 returns-clause-few c =
     let i = c.self.inside in
     let p = padded-by c.reach_first.result i.first.items c.reach_first.new.first.items (c.args.count - length i.first.items) 0 c.reach_first.ensures.ok
     c.reach_first.ensures.err in
-    let n = ap length p.1 in
-    let m = lists-length i.entries.items i.blocks.items c.reach_first.new.first.items in
-    let k = lists-length i.entries.items i.blocks.items i.first.items in
-    let e = ap (λ x. length x.lists) c.self.view_is in
-    omega (arith, length-append {A = ℕ}, length-replicate {A = ℕ})
+    omega (
+      arith,
+      ap length p.1,
+      lists-length i.entries.items i.blocks.items c.reach_first.new.first.items,
+      lists-length i.entries.items i.blocks.items i.first.items,
+      ap (λ x. length x.lists) c.self.view_is,
+      length-append {A = ℕ},
+      length-replicate {A = ℕ},
+    )
 
 pub returns-clause-ok : goal.returns-clause-ok
 returns-clause-ok c =
     let i = c.self.inside in
     on-ok c.reach_first.result c.reach_first.ensures.ok (λ h. (
-    let n = ap length h in
-    let m = lists-length i.entries.items i.blocks.items c.reach_first.new.first.items in
-    omega (arith, length-append {A = ℕ}, length-replicate {A = ℕ})))
+    omega (arith, ap length h, lists-length i.entries.items i.blocks.items c.reach_first.new.first.items, length-append {A = ℕ}, length-replicate {A = ℕ})))

@@ -14,10 +14,7 @@ one_more kept s lt none =
 
 at_most : (kept : List Bool) (s : ℕ) → s < length kept → is_kept kept s ≡ false → count_by (λ b. b) kept + 1 ≤ length kept
 at_most kept s lt none =
-    let a = count_by-le-length (λ (b : Bool). b) (set kept s true) in
-    let b = one_more kept s lt none in
-    let n = length-set kept s true in
-    omega arith
+    omega (arith, count_by-le-length (λ (b : Bool). b) (set kept s true), one_more kept s lt none, length-set kept s true)
 
 pub overflow_add-self : goal.overflow_add-self
 overflow_add-self c =

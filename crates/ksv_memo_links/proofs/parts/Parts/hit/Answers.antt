@@ -14,5 +14,5 @@ returns-then-is_touched c =
       least = c.mark.ensures.least;
       rises = omega arith;
     } in
-    hit-marked p q c.args.change c.args.slot one (sym c.is_touched.ensures.result ∙ c.if-is_touched.true)
+    hit-marked _ _ _ _ one (sym c.is_touched.ensures.result ∙ c.if-is_touched.true)
     (omega arith)

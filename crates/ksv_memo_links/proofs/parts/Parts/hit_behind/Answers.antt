@@ -18,4 +18,4 @@ returns c =
     let b = subst (HitsRows q1 q2 x (end_lists p.uses.lists) (first_page place + 1)) e (rw (← a.more.same.use_lists) b0) in
     let Q : List (List Item) → Type 0 = λ lists. HitsRows q2 r x (page_lists lists) (first_page place) (min c.args.pages (length (page_lists lists))) in
     let d = subst Q (b0.more.same.use_lists ∙ a.more.same.use_lists) c.hit_pages.ensures in
-    hits-behind p q1 q2 r x place c.args.pages a b d
+    hits-behind _ _ _ _ _ _ _ a b d

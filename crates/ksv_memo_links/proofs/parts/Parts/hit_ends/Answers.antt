@@ -4,14 +4,11 @@ use Rattle.ksv_memo_links.proofs.Turns.{row-of-end, count-ends, count-pages}
 use Rattle.ksv_memo_links.proofs.parts.Parts.hit_ends.Goals as goal
 
 pub loop-list-init : goal.loop-list-init
-loop-list-init c = record { hits = rows-none c.args.self.now c.args.change (end_lists c.args.self.now.uses.lists) c.args.first; bound = omega arith }
+loop-list-init c = record { hits = rows-none _ _ _ _; bound = omega arith }
 
 pub hit_list-requires-clause-list_in : goal.hit_list-requires-clause-list_in
 hit_list-requires-clause-list_in c =
-    let e = ap length c.loop-list.invariant.hits.more.same.use_lists in
-    let a = count-ends c.args.self.now.uses.lists in
-    let b = count-pages c.args.self.now.uses.lists in
-    omega arith
+    omega (arith, ap length c.loop-list.invariant.hits.more.same.use_lists, count-ends c.args.self.now.uses.lists, count-pages c.args.self.now.uses.lists)
 
 pub loop-list-preserved : goal.loop-list-preserved
 loop-list-preserved c =
@@ -21,7 +18,7 @@ loop-list-preserved c =
     let same = ap (λ lists. row lists c.end_list.result) c.loop-list.invariant.hits.more.same.use_lists in
     let there = ap (row p.uses.lists) c.end_list.ensures.number ∙ row-of-end p.uses.lists c.loop-list.list in
     record {
-      hits = rows-more p q r c.args.change (end_lists p.uses.lists) c.args.first c.loop-list.list (omega arith) c.loop-list.invariant.hits
-          (row-as q r c.args.change (row q.uses.lists c.end_list.result) (row (end_lists p.uses.lists) c.loop-list.list) (same ∙ there) c.hit_list.ensures);
+      hits = rows-more (omega arith) c.loop-list.invariant.hits
+          (row-as (same ∙ there) c.hit_list.ensures);
       bound = omega arith;
     }

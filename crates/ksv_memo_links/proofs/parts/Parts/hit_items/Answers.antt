@@ -7,9 +7,9 @@ pub loop-item-init : goal.loop-item-init
 loop-item-init c =
     let p = c.args.self.now in
     let items = row p.uses.lists c.args.list in
-    let start = starts p.uses.lists (map lists_of_uses p.uses.rows) c.args.list c.linked.ensures.listed c.args.first c.requires.begins in
+    let start = starts c.args.list c.linked.ensures.listed c.requires.begins in
     record {
-      hits = rw start.1 (row-none p c.args.change items);
+      hits = rw start.1 (row-none _ _ _);
       at = start.0;
     }
 
@@ -18,11 +18,10 @@ hit-requires-clause-slot_in c =
     let p = c.args.self.now in
     let i = c.loop-item.invariant in
     let n = seen_to (row p.uses.lists c.args.list) c.loop-item.at in
-    let step = steps p.uses.lists (map lists_of_uses p.uses.rows) c.args.list c.linked.ensures.listed c.loop-item.self.uses.lists c.loop-item.at c.in-Some.item
+    let step = steps c.args.list c.linked.ensures.listed c.loop-item.at c.in-Some.item
     i.hits.more.same.use_lists i.at c.in-Some.ensures.some in
     let some = listed-in p.uses.rows p.uses.lists c.args.list n c.linked.ensures.listed step.inside in
-    let there = c.requires.shaped.used_in (item_at p.uses.lists c.args.list n).owner some in
-    omega arith
+    omega (arith, c.requires.shaped.used_in (item_at p.uses.lists c.args.list n).owner some)
 
 pub loop-item-preserved : goal.loop-item-preserved
 loop-item-preserved c =
@@ -32,12 +31,11 @@ loop-item-preserved c =
     let i = c.loop-item.invariant in
     let h = c.item.ensures in
     let items = row p.uses.lists c.args.list in
-    let step = steps p.uses.lists (map lists_of_uses p.uses.rows) c.args.list c.linked.ensures.listed q.uses.lists c.loop-item.at c.in-Some.item
+    let step = steps _ c.linked.ensures.listed _ _
     i.hits.more.same.use_lists i.at c.in-Some.ensures.some in
-    let k = peek-uses q q1.uses h.rows h.lists (let l = c.in-Some.ensures.looks in omega arith) h.grows in
+    let k = peek-uses q q1.uses h.rows h.lists (omega (arith, c.in-Some.ensures.looks)) h.grows in
     record {
-      hits = rw step.seen (row-more p q q1 c.hit.new.self c.args.change items
-          (seen_to items c.loop-item.at) c.in-Some.item.owner i.hits k step.inside step.owner
+      hits = rw step.seen (row-more i.hits k step.inside step.owner
           c.hit.ensures);
       at = step.stands;
     }
@@ -46,7 +44,7 @@ pub loop-item-smaller : goal.loop-item-smaller
 loop-item-smaller c =
     let p = c.args.self.now in
     let i = c.loop-item.invariant in
-    (steps p.uses.lists (map lists_of_uses p.uses.rows) c.args.list c.linked.ensures.listed c.loop-item.self.uses.lists c.loop-item.at c.in-Some.item
+    (steps _ c.linked.ensures.listed _ _
     i.hits.more.same.use_lists i.at c.in-Some.ensures.some).less
 
 pub returns : goal.returns
@@ -58,6 +56,6 @@ returns c =
     let h = c.item.ensures in
     let items = row p.uses.lists c.args.list in
     let idle = c.in_default.ensures.idle in
-    let end = ended p.uses.lists (map lists_of_uses p.uses.rows) c.args.list c.linked.ensures.listed q.uses.lists c.loop-item.at i.hits.more.same.use_lists i.at
+    let end = ended c.args.list c.linked.ensures.listed c.loop-item.at i.hits.more.same.use_lists i.at
     c.in_default.ensures.none in
-    row-end p q q1 c.args.change items (seen_to items c.loop-item.at) i.hits (peek-uses q q1.uses h.rows h.lists (omega arith) h.grows) (omega arith) end
+    row-end i.hits (peek-uses _ _ h.rows h.lists (omega arith) h.grows) (omega arith) end

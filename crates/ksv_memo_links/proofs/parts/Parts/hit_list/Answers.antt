@@ -12,5 +12,5 @@ returns c =
     let p1 : Parts = record { asks = p.asks; uses = c.first_item-first.new.self; marks = p.marks } in
     let h = c.first_item-first.ensures in
     let k = peek-uses p p1.uses h.rows h.lists (omega arith) h.grows in
-    row-from p p1 c.hit_items.new.self c.args.change (row p.uses.lists c.args.list) (length (row p.uses.lists c.args.list)) k
+    row-from k
     (rw (← h.lists) c.hit_items.ensures)

@@ -4,14 +4,11 @@ use Rattle.ksv_memo_links.proofs.Turns.{row-of-page, count-ends, count-pages}
 use Rattle.ksv_memo_links.proofs.parts.Parts.hit_pages.Goals as goal
 
 pub loop-page-init : goal.loop-page-init
-loop-page-init c = record { hits = rows-none c.args.self.now c.args.change (page_lists c.args.self.now.uses.lists) c.args.first; bound = omega arith }
+loop-page-init c = record { hits = rows-none _ _ _ _; bound = omega arith }
 
 pub hit_list-requires-clause-list_in : goal.hit_list-requires-clause-list_in
 hit_list-requires-clause-list_in c =
-    let e = ap length c.loop-page.invariant.hits.more.same.use_lists in
-    let a = count-ends c.args.self.now.uses.lists in
-    let b = count-pages c.args.self.now.uses.lists in
-    omega arith
+    omega (arith, ap length c.loop-page.invariant.hits.more.same.use_lists, count-ends c.args.self.now.uses.lists, count-pages c.args.self.now.uses.lists)
 
 pub loop-page-preserved : goal.loop-page-preserved
 loop-page-preserved c =
@@ -21,7 +18,7 @@ loop-page-preserved c =
     let same = ap (λ lists. row lists c.page_list.result) c.loop-page.invariant.hits.more.same.use_lists in
     let there = ap (row p.uses.lists) c.page_list.ensures.number ∙ row-of-page p.uses.lists c.loop-page.page in
     record {
-      hits = rows-more p q r c.args.change (page_lists p.uses.lists) c.args.first c.loop-page.page (omega arith) c.loop-page.invariant.hits
-          (row-as q r c.args.change (row q.uses.lists c.page_list.result) (row (page_lists p.uses.lists) c.loop-page.page) (same ∙ there) c.hit_list.ensures);
+      hits = rows-more (omega arith) c.loop-page.invariant.hits
+          (row-as (same ∙ there) c.hit_list.ensures);
       bound = omega arith;
     }

@@ -3,7 +3,7 @@ use Rattle.ksv_memo_links.proofs.Keeping.{same_whole, filled_whole}
 use Rattle.ksv_memo_links.proofs.parts.Parts.keep.Goals as goal
 
 pub returns-in_err-fill-clause-whole : goal.returns-in_err-fill-clause-whole
-returns-in_err-fill-clause-whole c = same_whole c.args.self.now c.fill.new.self c.requires.whole c.in_err-fill.ensures.err
+returns-in_err-fill-clause-whole c = same_whole c.requires.whole c.in_err-fill.ensures.err
 
 pub returns-clause-whole : goal.returns-clause-whole
 returns-clause-whole c =
@@ -11,7 +11,7 @@ returns-clause-whole c =
     let q = c.fill.new.self in
     let r : Parts = record { asks = q.asks; uses = q.uses; marks = c.keep.new.self } in
     let f = c.in_ok-fill.ensures.ok in
-    filled_whole p q r c.args.slot c.args.asked.now c.args.uses.now c.requires.whole c.requires.idle c.requires.slot_in c.requires.asked_kept f refl refl
+    filled_whole r c.requires.whole c.requires.idle c.requires.slot_in c.requires.asked_kept f refl refl
     (cc) c.keep.ensures.work
 
 pub returns-clause-ok : goal.returns-clause-ok

@@ -10,9 +10,9 @@ loop-user-init c =
     let p = c.args.self.now in
     let p1 : Parts = record { asks = c.first_item-at.new.self; uses = p.uses; marks = p.marks } in
     let h = c.first_item-at.ensures in
-    let start = starts p.asks.lists p.asks.named c.args.slot c.linked.ensures c.first_item-at.result h.result in
+    let start = starts c.args.slot c.linked.ensures h.result in
     record {
-      users = rw start.1 (users-first p p1 c.args.slot (peek-asks p p1.asks h.named h.lists (omega arith) h.grows));
+      users = rw start.1 (users-first p p1 c.args.slot (peek-asks _ _ h.named h.lists (omega arith) h.grows));
       at = start.0;
     }
 
@@ -24,7 +24,7 @@ loop-user-preserved c =
     let r : Parts = record { asks = c.item.new.self; uses = q.uses; marks = c.mark.new.self } in
     let i = c.loop-user.invariant in
     let h = c.item.ensures in
-    let step = steps p.asks.lists p.asks.named c.args.slot c.linked.ensures q.asks.lists c.loop-user.at c.in-Some.user i.users.more.same.ask_lists i.at
+    let step = steps _ c.linked.ensures _ _ i.users.more.same.ask_lists i.at
     c.in-Some.ensures.some in
     let one : MarksOne q1 r c.in-Some.user.owner = record {
       same = record { asks = refl; ask_lists = refl; uses = refl; use_lists = refl };
@@ -33,7 +33,7 @@ loop-user-preserved c =
       least = c.mark.ensures.least;
       rises = omega arith;
     } in
-    let k = peek-asks q q1.asks h.named h.lists (let l = c.in-Some.ensures.looks in omega arith) h.grows in
+    let k = peek-asks q q1.asks h.named h.lists (omega (arith, c.in-Some.ensures.looks)) h.grows in
     record {
       users = rw step.seen (users-more p q q1 r c.args.slot (seen_to (row p.asks.lists c.args.slot) c.loop-user.at) c.in-Some.user.owner i.users k
           c.linked.ensures step.inside
@@ -45,16 +45,15 @@ pub mark-requires : goal.mark-requires
 mark-requires c =
     let p = c.args.self.now in
     let i = c.loop-user.invariant in
-    let step = steps p.asks.lists p.asks.named c.args.slot c.linked.ensures c.loop-user.self.asks.lists c.loop-user.at c.in-Some.user
+    let step = steps c.args.slot c.linked.ensures c.loop-user.at c.in-Some.user
     i.users.more.same.ask_lists i.at c.in-Some.ensures.some in
-    let there = user-there p c.args.slot (seen_to (row p.asks.lists c.args.slot) c.loop-user.at) c.requires.shaped c.linked.ensures step.inside in
-    omega arith
+    omega (arith, user-there p c.args.slot (seen_to (row p.asks.lists c.args.slot) c.loop-user.at) c.requires.shaped c.linked.ensures step.inside)
 
 pub loop-user-smaller : goal.loop-user-smaller
 loop-user-smaller c =
     let p = c.args.self.now in
     let i = c.loop-user.invariant in
-    (steps p.asks.lists p.asks.named c.args.slot c.linked.ensures c.loop-user.self.asks.lists c.loop-user.at c.in-Some.user i.users.more.same.ask_lists i.at
+    (steps _ c.linked.ensures _ _ i.users.more.same.ask_lists i.at
     c.in-Some.ensures.some).less
 
 pub returns : goal.returns
@@ -65,7 +64,7 @@ returns c =
     let i = c.loop-user.invariant in
     let h = c.item.ensures in
     let idle = c.in_default.ensures.idle in
-    let end = ended p.asks.lists p.asks.named c.args.slot c.linked.ensures q.asks.lists c.loop-user.at i.users.more.same.ask_lists i.at
+    let end = ended c.args.slot c.linked.ensures c.loop-user.at i.users.more.same.ask_lists i.at
     c.in_default.ensures.none in
-    users-end p q q1 c.args.slot (seen_to (row p.asks.lists c.args.slot) c.loop-user.at) i.users (peek-asks q q1.asks h.named h.lists (omega arith) h.grows)
+    users-end p q q1 c.args.slot (seen_to (row p.asks.lists c.args.slot) c.loop-user.at) i.users (peek-asks _ _ h.named h.lists (omega arith) h.grows)
     (omega arith) end

@@ -13,8 +13,8 @@ returns-in_err-reach_lists-clause-whole c =
     let same = ap length c.reach_lists.ensures.named in
     let h = c.requires.whole.shaped in
     grown_whole p r c.requires.whole
-    (subst (HasSameRows p.asks.named) (sym c.reach_lists.ensures.named) (same_rows p.asks.named)) (same_rows p.uses.rows)
-    (same_slots p.marks.kept) refl (omega arith) (omega arith) h.uses
+    (subst (HasSameRows p.asks.named) (sym c.reach_lists.ensures.named) (same_rows _)) (same_rows _)
+    (same_slots _) refl (omega arith) (omega arith) h.uses
 
 pub returns-in_err-reach_owners-clause-whole : goal.returns-in_err-reach_owners-clause-whole
 returns-in_err-reach_owners-clause-whole c =
@@ -22,7 +22,7 @@ returns-in_err-reach_owners-clause-whole c =
     let r : Parts = record { asks = c.reach_owners.new.self; uses = p.uses; marks = p.marks } in
     let asks = rw c.reach_lists.ensures.named at c.reach_owners.ensures.named in
     let h = c.requires.whole.shaped in
-    grown_whole p r c.requires.whole asks (same_rows p.uses.rows) (same_slots p.marks.kept) refl (omega arith) (omega arith) h.uses
+    grown_whole p r c.requires.whole asks (same_rows _) (same_slots _) refl (omega arith) (omega arith) h.uses
 
 pub returns-in_err-reach-clause-whole : goal.returns-in_err-reach-clause-whole
 returns-in_err-reach-clause-whole c =
@@ -30,7 +30,7 @@ returns-in_err-reach-clause-whole c =
     let r : Parts = record { asks = c.reach_owners.new.self; uses = c.reach.new.self; marks = p.marks } in
     let asks = rw c.reach_lists.ensures.named at c.reach_owners.ensures.named in
     let h = c.requires.whole.shaped in
-    grown_whole p r c.requires.whole asks c.reach.ensures.same (same_slots p.marks.kept) refl (omega arith) (omega arith) (omega arith)
+    grown_whole p r c.requires.whole asks c.reach.ensures.same (same_slots _) refl (omega arith) (omega arith) (omega arith)
 
 pub returns-clause-whole : goal.returns-clause-whole
 returns-clause-whole c =

@@ -4,7 +4,7 @@ use Rattle.ksv_memo_links.proofs.Spreading.{spread-none, spread-more, spread-end
 use Rattle.ksv_memo_links.proofs.parts.Parts.spread.Goals as goal
 
 pub loop-slot-init : goal.loop-slot-init
-loop-slot-init c = spread-none c.args.self.now
+loop-slot-init c = spread-none _
 
 pub loop-slot-preserved : goal.loop-slot-preserved
 loop-slot-preserved c =
@@ -18,7 +18,7 @@ loop-slot-preserved c =
       least = c.at.ensures.least;
       rises = omega arith;
     } in
-    spread-more c.args.self.now q q1 c.mark_users.new.self c.loop-slot.i c.in-Some.slot c.loop-slot.invariant k c.in-Some.ensures.some.0
+    spread-more c.loop-slot.invariant k c.in-Some.ensures.some.0
     c.in-Some.ensures.some.1 c.mark_users.ensures
 
 pub returns : goal.returns
@@ -33,4 +33,4 @@ returns c =
       least = c.at.ensures.least;
       rises = omega arith;
     } in
-    spread-end c.args.self.now q q1 c.loop-slot.i c.loop-slot.invariant k c.in_default.ensures.none
+    spread-end c.loop-slot.invariant k c.in_default.ensures.none

@@ -6,5 +6,5 @@ pub returns-clause-whole : goal.returns-clause-whole
 returns-clause-whole c =
     let p = c.args.self.now in
     let q : Parts = record { asks = p.asks; uses = p.uses; marks = c.take.new.self } in
-    taken_whole p q c.clear.new.self c.in_ok-slot.slot c.requires.whole c.take.ensures.kept c.in_ok-slot.ensures.work c.in_ok-slot.ensures.inside refl refl
+    taken_whole _ _ _ _ c.requires.whole c.take.ensures.kept c.in_ok-slot.ensures.work c.in_ok-slot.ensures.inside refl refl
     c.clear.ensures

@@ -6,11 +6,10 @@ use Rattle.ksv_memo_links.proofs.used.Uses.clear.Goals as goal
 
 pub clear-linked-requires : goal.clear-linked-requires
 clear-linked-requires c =
-    let e = ap (λ v. length v.rows) c.self.view_is in
-    omega arith
+    omega (arith, ap (λ v. length v.rows) c.self.view_is)
 
 pub returns-clause-rows : goal.returns-clause-rows
-returns-clause-rows c = row_written uses_of (λ (xs : List Use). []) c.self.inside.rows.items c.args.self.now.rows c.args.slot c.index_mut.result.now Nothing
+returns-clause-rows c = row_written uses_of (λ (xs : List Use). []) c.self.inside.rows.items c.args.slot Nothing
     (sym (ap (λ v. v.rows) c.self.view_is)) c.index_mut.ensures.value c.requires refl
 
 pub invariant_of-self : goal.invariant_of-self
@@ -19,10 +18,10 @@ invariant_of-self c =
     let rows = map uses_of items in
     let C = c.self.inside.chains in
     let slot_in = rw (← ap (λ v. v.rows) c.self.view_is) at c.requires in
-    let written = row_written uses_of (λ (xs : List Use). []) items rows c.args.slot c.index_mut.result.now Nothing refl c.index_mut.ensures.value slot_in
+    let written = row_written uses_of (λ (xs : List Use). []) items c.args.slot Nothing refl c.index_mut.ensures.value slot_in
     refl in
     let n = c.clear-linked.ensures.lists in
-    met-put rows _ C.named c.clear-linked.new.self.named C.lists c.clear-linked.new.self.lists c.args.slot [] c.self.invariant c.clear-linked.ensures.named
+    met-put _ _ _ c.self.invariant c.clear-linked.ensures.named
     (omega arith) slot_in written
 
 pub returns-clause-looks : goal.returns-clause-looks
@@ -30,12 +29,9 @@ returns-clause-looks c =
     let rows = c.args.self.now.rows in
     let us = row rows c.args.slot in
     let v = ap (λ v. v.rows) c.self.view_is in
-    let read : us ≡ uses_of c.index.result.now = row_read uses_of c.self.inside.rows.items rows c.args.slot c.index.result.now (sym v) c.index.ensures
+    let read : us ≡ uses_of c.index.result.now = row_read uses_of c.self.inside.rows.items c.args.slot (sym v) c.index.ensures
     c.requires in
     let count : c.clear-linked.result ≡ length (lists_of_uses us) =
     cc (c.self.invariant.each c.args.slot) in
-    let pages = pages-among us c.noted_end-end.result c.clear-linked.result (cc) count in
-    let p = c.pages_linked-pages.ensures in
-    let l = ap (λ v. v.looks) c.self.view_is in
-    let a = c.saturating_add-self-inside.ensures in
-    omega arith
+    let pages = pages-among us c.noted_end-end.result (cc) count in
+    omega (arith, c.pages_linked-pages.ensures, ap (λ v. v.looks) c.self.view_is, c.saturating_add-self-inside.ensures)

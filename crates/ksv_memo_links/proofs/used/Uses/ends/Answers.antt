@@ -4,6 +4,4 @@ use Rattle.ksv_memo_links.proofs.used.Uses.ends.Goals as goal
 
 pub returns-clause-count : goal.returns-clause-count
 returns-clause-count c =
-    let e = ap (λ v. length v.lists) c.self.view_is in
-    let k = count-ends c.args.self.now.lists in
-    omega arith
+    omega (arith, ap (λ v. length v.lists) c.self.view_is, count-ends c.args.self.now.lists)
