@@ -47,7 +47,7 @@ unfolding with_step
 step_change holds f g us restF restG same (Done a) h u = refl
 step_change holds f g us restF restG same (Need m) h u =
     ap (after (m ∷ []) us)
-    (ap (with_reply restG) (sym h.0) ∙ reply_change holds f g restF restG same (f m) h.1 (All-right holds us (with_reply restF (f m)).uses u))
+    (cc (reply_change holds f g restF restG same (f m) h.1 (All-right holds us (with_reply restF (f m)).uses u)))
 
 told_change : {N A : Type 0} (w : Standing N A) (follow : N → List A → Next N A) (added : N → List A → List Use) (holds : Use → Type 0)
     → IsLocal w follow added holds → (f g : N → Outcome N A) (n : N) (j : ℕ) (replies : List A) → AllByRecursion (λ m. f m ≡ g m) (told w f n j replies).asked
@@ -57,10 +57,13 @@ told_change w follow added holds local f g n zero replies h u = refl
 told_change w follow added holds local f g n (suc j) replies h u =
     let used : AllByRecursion holds (w.added n replies) =
     step_uses holds f (w.added n replies) (λ a. told w f n j (replies ++ a ∷ [])) (w.follow n replies) u in
-    ap (λ us. with_step g us (λ a. told (changed w follow added) g n j (replies ++ a ∷ [])) (follow n replies)) (local.adds n replies used)
-    ∙ ap (with_step g (w.added n replies) (λ a. told (changed w follow added) g n j (replies ++ a ∷ []))) (local.steps n replies used)
-    ∙ step_change holds f g (w.added n replies) (λ a. told w f n j (replies ++ a ∷ [])) (λ a. told (changed w follow added) g n j (replies ++ a ∷ []))
-    (λ a. told_change w follow added holds local f g n j (replies ++ a ∷ [])) (w.follow n replies) h u
+    cc (
+      local.adds n replies used,
+      local.steps n replies used,
+      step_change holds f g (w.added n replies) (λ a. told w f n j (replies ++ a ∷ []))
+          (λ a. told (changed w follow added) g n j (replies ++ a ∷ [])) (λ a. told_change _ _ _ _ local f g n j (replies ++ a ∷ []))
+          (w.follow n replies) h u,
+    )
 
 -- what is known of a node that stays
 record Stays {N A : Type 0} (w : Standing N A) (kept : List N) (holds : Use → Type 0) (n : N) : Type 0 where
@@ -82,14 +85,14 @@ change-step {N} {A} w law follow added holds local kept each j k before n ih in_
     let same : eval w (suc j + w.nodes) [] n ≡ t = transfer w (suc j) (suc j + w.nodes) before [] n (omega arith) h nothing in
     let level : t ≡ u = eval-free w j before n e in
     let is : tells w [] n ≡ u = sym (deep_enough w law (suc j + w.nodes) [] n (AreDistinct-none w) (omega arith)) ∙ same ∙ level in
-    let closed : AllByRecursion (IsIn w kept) u.asked = subst (λ (v : Told N A). AllByRecursion (IsIn w kept) v.asked) is (each n in_kept).closed in
-    let used : AllByRecursion holds u.uses = subst (λ (v : Told N A). AllByRecursion holds v.uses) is (each n in_kept).used in
+    let closed : AllByRecursion (IsIn w kept) u.asked = rw is at (each n in_kept).closed in
+    let used : AllByRecursion holds u.uses = rw is at (each n in_kept).used in
     let answers : AllByRecursion (λ m. IsAnswered (f m)) u.asked =
-    told_answered w f n (suc w.replies) [] (subst (λ (v : Told N A). IsAnswered v.outcome) level h) in
+    told_answered w f n (suc w.replies) [] (rw level at h) in
     let agree : AllByRecursion (λ m. f m ≡ g m) u.asked =
-    All-both (IsIn w kept) (λ m. IsAnswered (f m)) (λ m. f m ≡ g m) (λ m inside answer. sym (ap (λ (v : Told N A). v.outcome) (ih m inside answer)))
+    All-both (IsIn w kept) (λ m. IsAnswered (f m)) (λ m. f m ≡ g m) (λ m inside answer. sym (ap (λ v. v.outcome) (ih m inside answer)))
     u.asked closed answers in
-    eval-free (changed w follow added) k before n e ∙ told_change w follow added holds local f g n (suc w.replies) [] agree used ∙ sym level
+    eval-free (changed w follow added) k before n e ∙ told_change _ _ _ _ local f g n (suc w.replies) [] agree used ∙ sym level
 
 change : {N A : Type 0} (w : Standing N A) → IsSettled w → (follow : N → List A → Next N A) (added : N → List A → List Use) (holds : Use → Type 0)
     → IsLocal w follow added holds → (kept : List N) (each : (n : N) → IsIn w kept n → Stays w kept holds n) (j k : ℕ) (before : List N) (n : N) → j ≤ k
@@ -98,13 +101,13 @@ change w law follow added holds local kept each zero k before n le in_kept h = a
 change w law follow added holds local kept each (suc j) zero before n le in_kept h = absurd (omega arith)
 change w law follow added holds local kept each (suc j) (suc k) before n le in_kept h =
     by (is_among w.number before n) refl
-    (change-step w law follow added holds local kept each j k before n
-    (λ m inside answer. change w law follow added holds local kept each j k (n ∷ before) m (omega arith) inside answer) in_kept h)
+    (change-step _ law _ _ _ local kept each j k before n
+    (λ m inside answer. change _ law _ _ _ local kept each j k (n ∷ before) m (omega arith) inside answer) in_kept h)
   where
     by : (b : Bool) → is_among w.number before n ≡ b
         → (is_among w.number before n ≡ false → eval (changed w follow added) (suc k) before n ≡ eval w (suc j) before n)
         → eval (changed w follow added) (suc k) before n ≡ eval w (suc j) before n
-    by true e f = absurd (subst (λ t. IsAnswered t.outcome) (eval-open w (suc j) before n e) h)
+    by true e f = absurd (rw (eval-open w (suc j) before n e) at h)
     by false e f = f e
 
 -- what holds of each entry's node holds of each kept node
@@ -116,8 +119,8 @@ member_cases w law P m n rest here more false q h = more h
 pub member : {N A : Type 0} (w : Standing N A) → IsSettled w → (P : N → Type 0) (es : List (Entry N A)) → AllByRecursion (λ e. P e.node) es → (n : N)
     → IsIn w (nodes_of es) n → P n
 member w law P [] h n e = absurd (cc)
-member w law P (x ∷ es) h n e = member_cases w law P x.node n (is_among w.number (nodes_of es) n) h.0 (member w law P es h.1 n)
-    (nat_eq (w.number n) (w.number x.node)) refl e
+member w law P (x ∷ es) h n e = member_cases _ law P x.node n (is_among w.number (nodes_of es) n) h.0 (member w law P es h.1 n)
+    _ refl e
 
 -- ---- what is right is right on the other bytes too, where the uses of all kept nodes hold
 module _ {N A : Type 0} (w : Standing N A) (law : IsSettled w) (follow : N → List A → Next N A) (added : N → List A → List Use)
@@ -138,17 +141,19 @@ module _ {N A : Type 0} (w : Standing N A) (law : IsSettled w) (follow : N → L
   each-answers n h = (kept_is w law kept es right.each n h).answered
 
   same : (n : N) → IsIn w kept n → tells v [] n ≡ tells w [] n
-  same n h = change w law follow added holds local kept each-stays w.nodes w.nodes [] n (omega arith) h (each-answers n h)
+  same n h = change _ law _ _ _ local kept each-stays w.nodes w.nodes [] n (omega arith) h (each-answers n h)
 
   same-tree : (k : ℕ) (n : N) → IsIn w kept n → length (tree w n) < k → tree v n ≡ tree w n
   same-tree zero n h lt = absurd (omega arith)
   same-tree (suc k) n h lt =
-      kept-tree v other_law n (subst (λ (t : Told N A). IsAnswered t.outcome) (sym (same n h)) (each-answers n h))
-      ∙ ap (λ (t : Told N A). flat_map (tree v) t.asked ++ n ∷ []) (same n h)
-      ∙ ap (λ ys. ys ++ n ∷ []) (flat_map_congr (tree v) (tree w) (tells w [] n).asked
-      (All-both (IsIn w kept) (λ m. length (tree w m) < length (tree w n)) (λ m. tree v m ≡ tree w m) (λ m inside less. same-tree k m inside (omega arith))
-      (tells w [] n).asked (each-stays n h).closed (asks-lower w law n (each-answers n h))))
-      ∙ sym (kept-tree w law n (each-answers n h))
+      cc (
+        kept-tree v other_law n (subst (λ t. IsAnswered t.outcome) (sym (same n h)) (each-answers n h)),
+        same n h,
+        flat_map_congr (tree v) (tree w) (tells w [] n).asked (All-both (IsIn w kept) (λ m. length (tree w m) < length (tree w n))
+            (λ m. tree v m ≡ tree w m) (λ m inside less. same-tree k m inside (omega arith)) (tells w [] n).asked (each-stays n h).closed
+            (asks-lower w law n (each-answers n h))),
+        kept-tree w law n (each-answers n h),
+      )
 
   tree-is : (n : N) → IsIn w kept n → tree v n ≡ tree w n
   tree-is n h = same-tree (suc (length (tree w n))) n h (omega arith)
@@ -157,29 +162,30 @@ module _ {N A : Type 0} (w : Standing N A) (law : IsSettled w) (follow : N → L
   tree-told n h = All-map same (tree w n) (done-kept w law es right [] tt n h)
 
   touched-is : (c : Change) (n : N) → IsIn w kept n → is_touched v c n ≡ is_touched w c n
-  touched-is c n h = ap (list_any (is_hit v c)) (tree-is n h) ∙ any_same (is_hit v c) (is_hit w c) (tree w n)
-      (All-map (λ m e. ap (λ (t : Told N A). list_any (is_use_touched c) t.uses) e) (tree w n) (tree-told n h))
+  touched-is c n h = cc (
+    tree-is n h,
+    any_same (is_hit v c) (is_hit w c) (tree w n)
+        (All-map (λ m e. ap (λ t. list_any (is_use_touched c) t.uses) e) (tree w n) (tree-told n h)),
+  )
 
   made-is : (n : N) → IsIn w kept n → (u : Use) → Any (λ m. Contains (tells w [] m).uses u) (tree w n) → Any (λ m. Contains (tells v [] m).uses u) (tree v n)
   made-is n h u any =
       let IsSame : N → Type 0 = λ m. tells v [] m ≡ tells w [] m in
       let told = All-contains IsSame (tree w n) any.1 (All-from_recursion IsSame (tree w n) (tree-told n h)) (any.0, any.2, any.3) in
-      subst (λ ns. Any (λ m. Contains (tells v [] m).uses u) ns) (sym (tree-is n h))
-      (any.0, any.1, any.2, any.3, subst (λ (t : Told N A). Contains t.uses u) (sym told) any.4)
+      subst (Any (λ m. Contains (tells v [] m).uses u)) (sym (tree-is n h))
+      (any.0, any.1, any.2, any.3, rw told any.4)
 
   still-stands : (e : Entry N A) → IsIn w kept e.node → StandsIn w kept e → StandsIn v kept e
   still-stands e inside is = record {
-    outcome = ap (λ (t : Told N A). t.outcome) (same e.node inside) ∙ is.outcome;
-    closed = subst (λ (t : Told N A). AllByRecursion (IsIn w kept) t.asked) (sym (same e.node inside)) is.closed;
+    outcome = cc (same e.node inside);
+    closed = rw (same e.node inside) is.closed;
     named = is.named;
     lower = All-both (IsIn w kept) (λ m. length (tree w m) < length (tree w e.node)) (λ m. length (tree v m) < length (tree v e.node))
-        (λ m h lt. (let a = ap length (tree-is m h) in let b = ap length (tree-is e.node inside) in omega arith)) e.asked is.named is.lower;
-    touched = λ c. touched-is c e.node inside ∙ is.touched c ∙ ap (λ b. list_any (is_use_touched c) e.uses || b)
-        (sym (any_same (is_touched v c) (is_touched w c) e.asked (All-map (touched-is c) e.asked is.named)));
-    few = subst (λ (t : Told N A). length e.asked ≤ length t.asked) (sym (same e.node inside)) is.few;
+        (λ m h lt. (omega (arith, ap length (tree-is m h), ap length (tree-is e.node inside)))) e.asked is.named is.lower;
+    touched = λ c. cc (touched-is c e.node inside, is.touched c, any_same (is_touched v c) (is_touched w c) e.asked (All-map (touched-is c) e.asked is.named));
+    few = rw (same e.node inside) is.few;
     once = is.once;
-    bytes = λ from to. subst (λ (t : Told N A). Contains e.uses (Bytes from to) ↔ Contains t.uses (Bytes from to)) (sym (same e.node inside))
-        (is.bytes from to);
+    bytes = λ from to. rw (same e.node inside) (is.bytes from to);
     made = All-map (made-is e.node inside) e.uses is.made;
   }
 
@@ -211,13 +217,12 @@ told_can w P can f n (suc j) replies = step_can P f (w.added n replies) (λ a. t
 
 pub eval_can : {N A : Type 0} (w : Standing N A) (P : Use → Type 0) → ((n : N) (replies : List A) → AllByRecursion P (w.added n replies))
     → (k : ℕ) (opened : List N) (n : N) → AllByRecursion P (eval w k opened n).uses
-eval_can {N} {A} w P can zero opened n = let Q : Told N A → Type 0 = λ t. AllByRecursion P t.uses in subst Q (sym (eval-zero w opened n)) tt
+eval_can {N} {A} w P can zero opened n = rw (eval-zero w opened n) tt
 eval_can {N} {A} w P can (suc k) opened n = by (is_among w.number opened n) refl
   where
     by : (b : Bool) → is_among w.number opened n ≡ b → AllByRecursion P (eval w (suc k) opened n).uses
-    by true e = subst (λ (t : Told N A). AllByRecursion P t.uses) (sym (eval-open w (suc k) opened n e)) tt
-    by false e = subst (λ (t : Told N A). AllByRecursion P t.uses) (sym (eval-free w k opened n e))
-        (told_can w P can (asking w k (n ∷ opened)) n (suc w.replies) [])
+    by true e = subst (λ t. AllByRecursion P t.uses) (sym (eval-open w (suc k) opened n e)) tt
+    by false e = rw (eval-free w k opened n e) (told_can w P can (asking w k (n ∷ opened)) n (suc w.replies) [])
 
 -- a use that isn't touched doesn't pass the test
 use_untouched : (c : Change) (u : Use) → (Touches c u → ⊥) → is_use_touched c u ≡ false
@@ -261,7 +266,7 @@ module _ {N A : Type 0} (meaning : Meaning N A) (law : IsLawful meaning) (c : Ch
 
   pub untouched-stays : IsRight (on meaning after) es
   untouched-stays =
-      stays-right was settled (meaning.follow after) (meaning.added after) (law_on meaning law after) (AgreeOn before after)
-      (record { steps = law.same_step before after; adds = law.same_uses before after }) es right
+      stays-right _ settled _ _ (law_on meaning law after) _
+      (record { steps = law.same_step before after; adds = law.same_uses before after }) _ right
       (All-both (λ (e : Entry N A). IsIn was (nodes_of es) e.node) (StandsIn was (nodes_of es))
       (λ (e : Entry N A). AllByRecursion (AgreeOn before after) (tells was [] e.node).uses) uses-hold es (self_in was es) right.each)

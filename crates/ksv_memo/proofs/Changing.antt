@@ -47,9 +47,8 @@ module _ {N V F : Type 0} where
 
   get_other : (ps : List (N × Slot V F)) (p : N × Slot V F) (j : ℕ) → j ≢ length ps → slice_get (ps ++ p ∷ []) j ≡ slice_get ps j
   get_other [] p zero h = absurd (h refl)
-  get_other [] p (suc j) h = refl
-  get_other (q ∷ ps) p zero h = refl
   get_other (q ∷ ps) p (suc j) h = get_other ps p j (λ e. h (ap suc e))
+  get_other _ _ _ _ = refl
 
   pub none_past : (ps : List (N × Slot V F)) → slice_get ps (length ps) ≡ None
   none_past [] = refl
@@ -57,27 +56,25 @@ module _ {N V F : Type 0} where
 
   pub appended : (ps qs : List (N × Slot V F)) (n : N) (s : Slot V F) → qs ≡ ps ++ (n, s) ∷ [] → ChangesAt ps qs (length ps) n s
   appended ps qs n s is = record {
-    here = ap (λ xs. slice_get xs (length ps)) is ∙ get_past ps (n, s);
-    other = λ j h. ap (λ xs. slice_get xs j) is ∙ get_other ps (n, s) j h;
+    here = cc (get_past ps (n, s));
+    other = λ j h. cc (get_other ps (n, s) j h);
     before = λ m used e. let none : node_at ps (length ps) ≡ None = ap (option_map (λ p. p.0)) (none_past ps) in absurd (cc);
   }
 
   set_here : (ps : List (N × Slot V F)) (i : ℕ) (n : N) (t s : Slot V F) → slice_get ps i ≡ Some (n, t) → slice_get (with_slot ps i s) i ≡ Some (n, s)
   set_here [] i n t s e = absurd (cc)
-  set_here (p ∷ ps) zero n t s e = let same : p ≡ (n, t) = cc in ap (λ (q : N × Slot V F). Some (q.0, s)) same
+  set_here (p ∷ ps) zero n t s e = let same : p ≡ (n, t) = cc in ap (λ q. Some (q.0, s)) same
   set_here (p ∷ ps) (suc i) n t s e = set_here ps i n t s e
 
-  set_other : (ps : List (N × Slot V F)) (i j : ℕ) (s : Slot V F) → j ≢ i → slice_get (with_slot ps i s) j ≡ slice_get ps j
-  set_other [] i j s h = refl
+  pub set_other : (ps : List (N × Slot V F)) (i j : ℕ) (s : Slot V F) → j ≢ i → slice_get (with_slot ps i s) j ≡ slice_get ps j
   set_other (p ∷ ps) zero zero s h = absurd (h refl)
-  set_other (p ∷ ps) zero (suc j) s h = refl
-  set_other (p ∷ ps) (suc i) zero s h = refl
   set_other (p ∷ ps) (suc i) (suc j) s h = set_other ps i j s (λ e. h (ap suc e))
+  set_other _ _ _ _ _ = refl
 
   pub set_at : (ps qs : List (N × Slot V F)) (i : ℕ) (n : N) (t s : Slot V F) → slice_get ps i ≡ Some (n, t) → qs ≡ with_slot ps i s → ChangesAt ps qs i n s
   set_at ps qs i n t s there is = record {
-    here = ap (λ xs. slice_get xs i) is ∙ set_here ps i n t s there;
-    other = λ j h. ap (λ xs. slice_get xs j) is ∙ set_other ps i j s h;
+    here = cc (set_here ps i n t s there);
+    other = λ j h. cc (set_other ps i j s h);
     before = λ m used e. let was : node_at ps i ≡ Some n = node_there ps i n t there in let same : m ≡ n = cc in same;
   }
 
@@ -87,17 +84,15 @@ module _ {N V F : Type 0} where
   pair_here (q ∷ ps) (suc i) p lt = pair_here ps i p (omega arith)
 
   pair_other : (ps : List (N × Slot V F)) (i j : ℕ) (p : N × Slot V F) → j ≢ i → slice_get (slice_set ps i p) j ≡ slice_get ps j
-  pair_other [] i j p h = refl
   pair_other (q ∷ ps) zero zero p h = absurd (h refl)
-  pair_other (q ∷ ps) zero (suc j) p h = refl
-  pair_other (q ∷ ps) (suc i) zero p h = refl
   pair_other (q ∷ ps) (suc i) (suc j) p h = pair_other ps i j p (λ e. h (ap suc e))
+  pair_other _ _ _ _ _ = refl
 
   -- a slot with nothing in it is another node's
   pub given : (ps qs : List (N × Slot V F)) (i : ℕ) (n : N) (s : Slot V F) → IsVacant ps i → qs ≡ slice_set ps i (n, s) → ChangesAt ps qs i n s
   given ps qs i n s vacant is = record {
-    here = ap (λ xs. slice_get xs i) is ∙ pair_here ps i (n, s) (slice_get_within ps i (vacant.0, emptied) vacant.1);
-    other = λ j h. ap (λ xs. slice_get xs j) is ∙ pair_other ps i j (n, s) h;
+    here = cc (pair_here ps i (n, s) (slice_get_within ps i (vacant.0, emptied) vacant.1));
+    other = λ j h. cc (pair_other ps i j (n, s) h);
     before = λ m used e. absurd (unused used);
   }
     where
@@ -110,16 +105,15 @@ module _ {N V F : Type 0} where
       unused (inr waits) = let now : Some emptied ≡ Some opened = sym slot ∙ waits in cc
 
   length_set : (ps : List (N × Slot V F)) (i : ℕ) (s : Slot V F) → length (with_slot ps i s) ≡ length ps
-  length_set [] i s = refl
-  length_set (p ∷ ps) zero s = refl
   length_set (p ∷ ps) (suc i) s = ap suc (length_set ps i s)
+  length_set _ _ _ = refl
 
   pub set_count : (ps : List (N × Slot V F)) (i : ℕ) (s : Slot V F) (qs : List (N × Slot V F)) → qs ≡ with_slot ps i s → length qs ≡ length ps
   set_count ps i s qs is = ap length is ∙ length_set ps i s
 
   module _ (ps qs : List (N × Slot V F)) (i : ℕ) (n : N) (s : Slot V F) (changes : ChangesAt ps qs i n s) where
     other_slot : (j : ℕ) → j ≢ i → slice_get (slots_of qs) j ≡ slice_get (slots_of ps) j
-    other_slot j h = slice_get-map (λ p. p.1) qs j ∙ ap (option_map (λ p. p.1)) (changes.other j h) ∙ sym (slice_get-map (λ p. p.1) ps j)
+    other_slot j h = cc (slice_get-map (λ p. p.1) qs j, changes.other j h, slice_get-map (λ p. p.1) ps j)
 
     other_answer : (j : ℕ) → j ≢ i → answer_at (slots_of qs) j ≡ answer_at (slots_of ps) j
     other_answer j h = ap answer_of (other_slot j h)
@@ -127,18 +121,15 @@ module _ {N V F : Type 0} where
     -- where the slot kept nothing, all that is kept stays
     pub keeps : answer_at (slots_of ps) i ≡ None → Keeps ps qs
     keeps none = record {
-      nodes = λ j m used e. by_node j m used e (same_or j i);
-      answers = λ j a e. by_answer j a e (same_or j i);
+      nodes = λ j m used e. elim (same_or j i) [
+        | inl same ↦ cc (node_there qs i n s changes.here, changes.before m (subst (IsUsed ps) same used) (ap (node_at ps) (sym same) ∙ e))
+        | inr apart ↦ cc (changes.other j apart)
+      ];
+      answers = λ j a e. elim (same_or j i) [
+        | inl same ↦ let here : answer_at (slots_of ps) i ≡ Some a = cc in absurd (cc)
+        | inr apart ↦ other_answer j apart ∙ e
+      ];
     }
-      where
-        by_node : (j : ℕ) (m : N) → IsUsed ps j → node_at ps j ≡ Some m → (j ≡ i) ⊎ (j ≢ i) → node_at qs j ≡ Some m
-        by_node j m used e (inl same) = ap (node_at qs) same ∙ node_there qs i n s changes.here
-            ∙ ap (λ x. Some x) (sym (changes.before m (subst (IsUsed ps) same used) (ap (node_at ps) (sym same) ∙ e)))
-        by_node j m used e (inr apart) = ap (option_map (λ p. p.0)) (changes.other j apart) ∙ e
-
-        by_answer : (j : ℕ) (a : Result V F) → answer_at (slots_of ps) j ≡ Some a → (j ≡ i) ⊎ (j ≢ i) → answer_at (slots_of qs) j ≡ Some a
-        by_answer j a e (inl same) = let here : answer_at (slots_of ps) i ≡ Some a = ap (answer_at (slots_of ps)) (sym same) ∙ e in absurd (cc)
-        by_answer j a e (inr apart) = other_answer j apart ∙ e
 
   -- ---- the links
   module _ (ps qs : List (N × Slot V F)) (i : ℕ) (n : N) (s : Slot V F) (changes : ChangesAt ps qs i n s) (none : answer_at (slots_of ps) i ≡ None) where
@@ -157,8 +148,14 @@ module _ {N V F : Type 0} where
     -- they stay, where the slot keeps nothing now either
     pub links-stay : answer_in s ≡ None → (l : Linked) → AreLinked ps l → length qs ≤ length l.kept → AreLinked qs l
     links-stay empty l h le = record {
-      kept = λ j. by j (same_or j i);
-      asked = λ j k. All-map (stays_kept ps qs stays) (row l.asked j) (h.asked j (was j k (same_or j i)));
+      kept = λ j. elim (same_or j i) [
+        | inl same ↦ cc (h.kept i, now)
+        | inr apart ↦ cc (h.kept j, other_answer ps qs i n s changes j apart)
+      ];
+      asked = λ j k. All-map (stays_kept ps qs stays) (row l.asked j) (h.asked j (elim (same_or j i) [
+        | inl same ↦ let no : is_some (answer_at (slots_of qs) j) ≡ false = cc now in absurd (cc)
+        | inr apart ↦ cc (other_answer ps qs i n s changes j apart)
+      ]));
       idle = h.idle;
       slots = le;
     }
@@ -166,18 +163,9 @@ module _ {N V F : Type 0} where
         now : answer_at (slots_of qs) i ≡ None
         now = answer_there qs i n s changes.here ∙ empty
 
-        by : (j : ℕ) → (j ≡ i) ⊎ (j ≢ i) → is_kept l.kept j ≡ is_some (answer_at (slots_of qs) j)
-        by j (inl same) = ap (is_kept l.kept) same ∙ h.kept i ∙ ap is_some none ∙ sym (ap (λ k. is_some (answer_at (slots_of qs) k)) same ∙ ap is_some now)
-        by j (inr apart) = h.kept j ∙ ap is_some (sym (other_answer ps qs i n s changes j apart))
-
-        was : (j : ℕ) → IsKept qs j → (j ≡ i) ⊎ (j ≢ i) → IsKept ps j
-        was j k (inl same) = let no : is_some (answer_at (slots_of qs) j) ≡ false = ap (λ x. is_some (answer_at (slots_of qs) x)) same
-            ∙ ap is_some now in absurd (cc)
-        was j k (inr apart) = ap is_some (sym (other_answer ps qs i n s changes j apart)) ∙ k
-
     same_at : (l : Linked) → AreLinked ps l → answer_in s ≡ None → (j : ℕ) → (j ≡ i) ⊎ (j ≢ i) → entry_at qs l j ≡ entry_at ps l j
-    same_at l h empty j (inl same) = no_entry_at qs l j (ap (answer_at (slots_of qs)) same ∙ answer_there qs i n s changes.here ∙ empty)
-        ∙ sym (no_entry_at ps l j (ap (answer_at (slots_of ps)) same ∙ none))
+    same_at l h empty j (inl same) = no_entry_at qs l j (cc (answer_there qs i n s changes.here))
+        ∙ sym (no_entry_at ps l j (cc))
     same_at l h empty j (inr apart) = other_entry l l h j apart refl refl
 
     -- the same nodes are kept
@@ -195,33 +183,29 @@ module _ {N V F : Type 0} where
       where
         nothing : (is : List ℕ) → AllByRecursion (λ j. entry_at qs l j ≡ None) is → entries_at qs l is ≡ []
         nothing [] k = refl
-        nothing (j ∷ is) k = ap (λ o. with_first o (entries_at qs l is)) k.0 ∙ nothing is k.1
+        nothing (j ∷ is) k = cc (nothing is k.1)
 
     -- a slot more is kept
     pub links-keep : (a : Result V F) → answer_in s ≡ Some a → (l m : Linked) (slots : List ℕ) (once : List Use) → AreLinked ps l
         → AllByRecursion (IsKept ps) slots → i < length l.kept → i < length l.asked → length qs ≤ length l.kept → LinksKeep l m i slots once → AreLinked qs m
     links-keep a is l m slots once h all lt in_asked le k = record {
-      kept = λ j. by j (same_or j i);
-      asked = λ j q. rows j q (same_or j i);
+      kept = λ j. elim (same_or j i) [
+        | inl same ↦ cc (get_or-set_same l.kept i true false lt, here)
+        | inr apart ↦ cc (get_or-set_other l.kept i j true false apart, h.kept j, other_answer ps qs i n s changes j apart)
+      ];
+      asked = λ j q. elim (same_or j i) [
+        | inl same ↦ subst (AllByRecursion (IsKept qs))
+            (sym (ap (row m.asked) same ∙ ap (λ rs. row rs i) k.asked ∙ get_or-set_same l.asked i slots [] in_asked))
+            (All-map (stays_kept ps qs stays) slots all)
+        | inr apart ↦ subst (AllByRecursion (IsKept qs)) (sym (ap (λ rs. row rs j) k.asked ∙ get_or-set_other l.asked i j slots [] apart))
+            (All-map (stays_kept ps qs stays) (row l.asked j) (h.asked j (cc (other_answer ps qs i n s changes j apart))))
+      ];
       idle = k.waits ∙ h.idle;
-      slots = (let e = ap length k.kept in let f = length-set l.kept i true in omega arith);
+      slots = omega (arith, ap length k.kept, length-set l.kept i true);
     }
       where
         here : answer_at (slots_of qs) i ≡ Some a
         here = answer_there qs i n s changes.here ∙ is
-
-        by : (j : ℕ) → (j ≡ i) ⊎ (j ≢ i) → is_kept m.kept j ≡ is_some (answer_at (slots_of qs) j)
-        by j (inl same) = ap (is_kept m.kept) same ∙ ap (λ ks. is_kept ks i) k.kept ∙ get_or-set_same l.kept i true false lt
-            ∙ sym (ap (λ x. is_some (answer_at (slots_of qs) x)) same ∙ ap is_some here)
-        by j (inr apart) = ap (λ ks. is_kept ks j) k.kept ∙ get_or-set_other l.kept i j true false apart ∙ h.kept j
-            ∙ ap is_some (sym (other_answer ps qs i n s changes j apart))
-
-        rows : (j : ℕ) → IsKept qs j → (j ≡ i) ⊎ (j ≢ i) → AllByRecursion (IsKept qs) (row m.asked j)
-        rows j q (inl same) = subst (AllByRecursion (IsKept qs))
-            (sym (ap (row m.asked) same ∙ ap (λ rs. row rs i) k.asked ∙ get_or-set_same l.asked i slots [] in_asked))
-            (All-map (stays_kept ps qs stays) slots all)
-        rows j q (inr apart) = subst (AllByRecursion (IsKept qs)) (sym (ap (λ rs. row rs j) k.asked ∙ get_or-set_other l.asked i j slots [] apart))
-            (All-map (stays_kept ps qs stays) (row l.asked j) (h.asked j (ap is_some (sym (other_answer ps qs i n s changes j apart)) ∙ q)))
 
     -- the kept nodes are one more, in its place
     pub entries-keep : (a : Result V F) → answer_in s ≡ Some a → (l m : Linked) (slots : List ℕ) (once : List Use) → AreLinked ps l
@@ -264,11 +248,10 @@ module _ {N V F : Type 0} where
 
   module _ (ps qs : List (N × Slot V F)) (i : ℕ) (n : N) (s : Slot V F) (changes : ChangesAt ps qs i n s) (none : answer_at (slots_of ps) i ≡ None) where
     open_or : (j : ℕ) → IsOpen qs j → (j ≡ i) ⊎ IsOpen ps j
-    open_or j h = by (same_or j i)
-      where
-        by : (j ≡ i) ⊎ (j ≢ i) → (j ≡ i) ⊎ IsOpen ps j
-        by (inl same) = inl same
-        by (inr apart) = inr (sym (other_slot ps qs i n s changes j apart) ∙ h)
+    open_or j h = elim (same_or j i) [
+      | inl same ↦ inl same
+      | inr apart ↦ inr (sym (other_slot ps qs i n s changes j apart) ∙ h)
+    ]
 
     other_node : (j : ℕ) → j ≢ i → node_at qs j ≡ node_at ps j
     other_node j apart = ap (option_map (λ p. p.0)) (changes.other j apart)
@@ -281,10 +264,10 @@ module _ {N V F : Type 0} where
     frames-push is free old new h framed =
         let fs : List (Frame N) = reverse old.frames.items in
         let f : Frame N = framed.frame in
-        let now : reverse new.frames.items ≡ f ∷ fs = ap reverse framed.frames ∙ reverse-append old.frames.items (f ∷ []) in
+        let now : reverse new.frames.items ≡ f ∷ fs = cc (reverse-append old.frames.items (f ∷ [])) in
         let slot : f.slot ≡ i = framed.is_new.slot in
-        let here : IsOpen qs f.slot = ap (λ j. slice_get (slots_of qs) j) slot ∙ slot_there qs i n s changes.here ∙ ap (λ x. Some x) is in
-        let named : node_at qs f.slot ≡ Some f.node = ap (node_at qs) slot ∙ node_there qs i n s changes.here ∙ ap (λ x. Some x) (sym framed.is_new.node) in
+        let here : IsOpen qs f.slot = cc (slot, slot_there qs i n s changes.here) in
+        let named : node_at qs f.slot ≡ Some f.node = cc (slot, node_there qs i n s changes.here) in
         let apart : (j : ℕ) → IsOpen ps j → j ≢ i = λ j o same. free (subst (IsOpen ps) same o) in
         let member : (j : ℕ) → IsOpen qs j → IsOneOf (map (λ f. f.slot) (f ∷ fs)) j = λ j o. by_one fs f slot h.all j (open_or j o) in
         record {
@@ -294,19 +277,16 @@ module _ {N V F : Type 0} where
             All-both (λ (g : Frame N). IsOpen ps g.slot) (λ (g : Frame N). node_at ps g.slot ≡ Some g.node)
                 (λ (g : Frame N). node_at qs g.slot ≡ Some g.node) (λ g o e. other_node g.slot (apart g.slot o) ∙ e) fs h.waits h.nodes,
           );
-          all = λ j o. subst (λ xs. IsOneOf (map (λ (f : Frame N). f.slot) xs) j) (sym now) (member j o);
-          once = subst (λ xs. AllDiffer (map (λ (f : Frame N). f.slot) xs)) (sym now)
-              (map_all (λ (f : Frame N). f.slot) (λ j. f.slot ≢ j) fs (All-map (λ g o same. apart g.slot o (sym same ∙ slot)) fs h.waits), h.once);
+          all = λ j o. rw now (member j o);
+          once = rw now (map_all (λ (f : Frame N). f.slot) (λ j. f.slot ≢ j) fs (All-map (λ g o same. apart g.slot o (sym same ∙ slot)) fs h.waits), h.once);
           asked = subst (AllByRecursion (IsKept qs)) (sym framed.asked) (All-map (stays_kept ps qs (keeps ps qs i n s changes none)) old.asked.items h.asked);
-          nested = subst (λ xs. AreNested xs (length new.asked.items) (length new.uses.items)) (sym now)
-              (let a : f.asked ≤ length new.asked.items =
-              (let e : f.asked ≡ length new.asked.items = framed.is_new.asked ∙ ap length (sym framed.asked) in omega arith) in
+          nested = rw now (let a : f.asked ≤ length new.asked.items =
+              (let e : f.asked ≡ length new.asked.items = cc in omega arith) in
               let u : f.uses ≤ length new.uses.items =
-              (let e : f.uses ≡ length new.uses.items = framed.is_new.uses ∙ ap length (sym framed.uses) in omega arith) in (
+              (let e : f.uses ≡ length new.uses.items = cc in omega arith) in (
                 a,
                 u,
-                subst (λ k. AreNested fs k f.uses) (sym framed.is_new.asked)
-                    (subst (AreNested fs (length old.asked.items)) (sym framed.is_new.uses) h.nested),
+                rw framed.is_new.asked (subst (AreNested fs (length old.asked.items)) (sym framed.is_new.uses) h.nested),
               ));
         }
       where
@@ -319,12 +299,12 @@ module _ {N V F : Type 0} where
     opens-push old new h framed =
         let fs : List (Frame N) = reverse old.frames.items in
         let f : Frame N = framed.frame in
-        let now : reverse new.frames.items ≡ f ∷ fs = ap reverse framed.frames ∙ reverse-append old.frames.items (f ∷ []) in
-        let node : node_at qs f.slot ≡ Some n = ap (node_at qs) framed.is_new.slot ∙ node_there qs i n s changes.here in
-        let no_asks : drop f.asked old.asked.items ≡ [] = ap (λ k. drop k old.asked.items) framed.is_new.asked ∙ drop-length old.asked.items in
-        let no_uses : drop f.uses old.uses.items ≡ [] = ap (λ k. drop k old.uses.items) framed.is_new.uses ∙ drop-length old.uses.items in
-        let all_asks : take f.asked old.asked.items ≡ old.asked.items = ap (λ k. take k old.asked.items) framed.is_new.asked ∙ take-length old.asked.items in
-        let each_use : take f.uses old.uses.items ≡ old.uses.items = ap (λ k. take k old.uses.items) framed.is_new.uses ∙ take-length old.uses.items in
+        let now : reverse new.frames.items ≡ f ∷ fs = cc (reverse-append old.frames.items (f ∷ [])) in
+        let node : node_at qs f.slot ≡ Some n = cc (node_there qs i n s changes.here) in
+        let no_asks : drop f.asked old.asked.items ≡ [] = cc (drop-length old.asked.items) in
+        let no_uses : drop f.uses old.uses.items ≡ [] = cc (drop-length old.uses.items) in
+        let all_asks : take f.asked old.asked.items ≡ old.asked.items = cc (take-length old.asked.items) in
+        let each_use : take f.uses old.uses.items ≡ old.uses.items = cc (take-length old.uses.items) in
         (λ j. opens_in qs (now j) (framed.asked j) (framed.uses j))
         ∙ (λ j. open_before (node j) (answers_at (slots_of qs) (no_asks j)) (nodes_at qs (no_asks j)) (no_uses j) (opens_in qs fs (all_asks j) (each_use j)))
         ∙ ap (λ st. newly n ∷ st) (same_opens ps qs (keeps ps qs i n s changes none) fs old.asked.items old.uses.items h.waits h.asked)
@@ -333,19 +313,19 @@ module _ {N V F : Type 0} where
     pub frames-pop : (s ≡ opened → ⊥) → (f : Frame N) → f.slot ≡ i → (old new : Frames N) → AreFrames ps old → Popped f old new → AreFrames qs new
     frames-pop closed f slot old new h popped =
         let fs : List (Frame N) = reverse new.frames.items in
-        let was : reverse old.frames.items ≡ f ∷ fs = ap reverse popped.frames ∙ reverse-append new.frames.items (f ∷ []) in
+        let was : reverse old.frames.items ≡ f ∷ fs = cc (reverse-append new.frames.items (f ∷ [])) in
         let waits : AllByRecursion (λ f. IsOpen ps f.slot) (f ∷ fs) = subst (AllByRecursion (λ f. IsOpen ps f.slot)) was h.waits in
         let nodes : AllByRecursion (λ f. node_at ps f.slot ≡ Some f.node) (f ∷ fs) =
         subst (AllByRecursion (λ f. node_at ps f.slot ≡ Some f.node)) was h.nodes in
-        let once : AllDiffer (map (λ f. f.slot) (f ∷ fs)) = subst (λ xs. AllDiffer (map (λ (f : Frame N). f.slot) xs)) was h.once in
+        let once : AllDiffer (map (λ f. f.slot) (f ∷ fs)) = rw was at h.once in
         let all : (j : ℕ) → IsOpen ps j → IsOneOf (map (λ f. f.slot) (f ∷ fs)) j =
-        λ j o. subst (λ xs. IsOneOf (map (λ (f : Frame N). f.slot) xs) j) was (h.all j o) in
+        λ j o. rw was at (h.all j o) in
         let nested : AreNested (f ∷ fs) (length old.asked.items) (length old.uses.items) =
-        subst (λ xs. AreNested xs (length old.asked.items) (length old.uses.items)) was h.nested in
-        let asked : length new.asked.items ≡ f.asked = ap length popped.asked ∙ length-take-le f.asked old.asked.items nested.0 in
-        let uses : length new.uses.items ≡ f.uses = ap length popped.uses ∙ length-take-le f.uses old.uses.items nested.1 in
+        rw was at h.nested in
+        let asked : length new.asked.items ≡ f.asked = cc (length-take-le f.asked old.asked.items nested.0) in
+        let uses : length new.uses.items ≡ f.uses = cc (length-take-le f.uses old.uses.items nested.1) in
         let not_here : (j : ℕ) → IsOpen qs j → j ≢ i = λ j o same. closed
-        (some_same s opened (sym (slot_there qs i n s changes.here) ∙ ap (λ k. slice_get (slots_of qs) k) (sym same) ∙ o)) in
+        (some_same s opened (cc (slot_there qs i n s changes.here))) in
         record {
           waits = All-both (λ (g : Frame N). IsOpen ps g.slot) (λ (g : Frame N). f.slot ≢ g.slot) (λ (g : Frame N). IsOpen qs g.slot)
               (λ g o apart. stays_open g.slot (λ same. apart (slot ∙ sym same)) o) fs waits.1 (all_map (λ (g : Frame N). g.slot) (λ j. f.slot ≢ j) fs once.0);
@@ -356,7 +336,7 @@ module _ {N V F : Type 0} where
           once = once.1;
           asked = subst (AllByRecursion (IsKept qs)) (sym popped.asked)
               (All-take (IsKept qs) f.asked old.asked.items (All-map (stays_kept ps qs (keeps ps qs i n s changes none)) old.asked.items h.asked));
-          nested = subst (λ k. AreNested fs k (length new.uses.items)) (sym asked) (subst (AreNested fs f.asked) (sym uses) nested.2);
+          nested = rw asked (subst (AreNested fs f.asked) (sym uses) nested.2);
         }
       where
         some_same : (a b : Slot V F) → Some a ≡ Some b → a ≡ b
@@ -376,7 +356,7 @@ module _ {N V F : Type 0} where
         → opens_of qs new ≡ opens_in ps (reverse new.frames.items) (take f.asked old.asked.items) (take f.uses old.uses.items)
     opens-pop f old new h popped =
         let fs : List (Frame N) = reverse new.frames.items in
-        let was : reverse old.frames.items ≡ f ∷ fs = ap reverse popped.frames ∙ reverse-append new.frames.items (f ∷ []) in
+        let was : reverse old.frames.items ≡ f ∷ fs = cc (reverse-append new.frames.items (f ∷ [])) in
         let nodes : AllByRecursion (λ f. IsOpen ps f.slot) (f ∷ fs) = subst (AllByRecursion (λ f. IsOpen ps f.slot)) was h.waits in
         (λ j. opens_in qs fs (popped.asked j) (popped.uses j))
         ∙ same_opens ps qs (keeps ps qs i n s changes none) fs (take f.asked old.asked.items) (take f.uses old.uses.items) nodes.1
@@ -387,15 +367,14 @@ module _ {N V F : Type 0} where
   pub frames-hear : (ps : List (N × Slot V F)) (j : ℕ) → IsKept ps j → (old new : Frames N) → AreFrames ps old → Heard j old new → AreFrames ps new
   frames-hear ps j kept old new h heard_it =
       let now : reverse new.frames.items ≡ reverse old.frames.items = ap reverse heard_it.frames in
-      let more : length new.asked.items ≡ length old.asked.items + 1 = ap length heard_it.asked ∙ length-append old.asked.items (j ∷ []) in
+      let more : length new.asked.items ≡ length old.asked.items + 1 = cc (length-append old.asked.items (j ∷ [])) in
       record {
         waits = subst (AllByRecursion (λ f. IsOpen ps f.slot)) (sym now) h.waits;
         nodes = subst (AllByRecursion (λ f. node_at ps f.slot ≡ Some f.node)) (sym now) h.nodes;
-        all = λ k o. subst (λ xs. IsOneOf (map (λ (f : Frame N). f.slot) xs) k) (sym now) (h.all k o);
-        once = subst (λ xs. AllDiffer (map (λ (f : Frame N). f.slot) xs)) (sym now) h.once;
+        all = λ k o. rw now (h.all k o);
+        once = rw now h.once;
         asked = subst (AllByRecursion (IsKept ps)) (sym heard_it.asked) (All-++ (IsKept ps) old.asked.items (j ∷ []) h.asked (kept, tt));
-        nested = subst (λ xs. AreNested xs (length new.asked.items) (length new.uses.items)) (sym now)
-            (grown (reverse old.frames.items) _ _ _ _ (omega arith)
+        nested = rw now (grown (reverse old.frames.items) _ _ _ _ (omega arith)
             (let same : length new.uses.items ≡ length old.uses.items = ap length heard_it.uses in omega arith) h.nested);
       }
 
@@ -403,7 +382,7 @@ module _ {N V F : Type 0} where
       → (old new : Frames N) → AreFrames ps old → Heard j old new → opens_of ps new ≡ heard m a (opens_of ps old)
   opens-hear ps j m a node answer old new h heard_it =
       (λ k. opens_in ps (reverse (heard_it.frames k)) (heard_it.asked k) (heard_it.uses k))
-      ∙ by (reverse old.frames.items) old.asked.items old.uses.items (frames_nodes ps old h) h.nested
+      ∙ by (reverse old.frames.items) old.asked.items old.uses.items (frames_nodes _ _ h) h.nested
     where
       of_node : (o : Option N) → is_some o ≡ true → (replies : List (Result V F)) (asked : List N) (uses : List Use) (rest : List (Open N (Result V F)))
           → open_before o (replies ++ a ∷ []) (asked ++ m ∷ []) uses rest ≡ heard m a (open_before o replies asked uses rest)

@@ -1,7 +1,7 @@
 -- Slots that are to be taken are emptied, one upon another.
 use Rattle.ksv_memo.proofs.Common.{◌≡◌, ◌≢◌, ◌⊎◌, inl, inr, ℕ, zero, suc, ◌+◌, ◌*◌, ◌≤◌, List, [], ◌∷◌, ◌++◌, length, None, Contains, refl, sym, ◌∙◌, ap, subst}
 use Rattle.ksv_memo.proofs.Common.{arith, append_assoc, slice_get, append-nil, sum_by-cons, row, pages_in, Linked, Slot, answer_of, answer_at, slots_of}
-use Rattle.ksv_memo.proofs.Common.{node_at, IsOpen, with_slot}
+use Rattle.ksv_memo.proofs.Common.{slice_get-map, node_at, IsOpen, with_slot}
 use Rattle.std.specs.List.{AllPairs}
 use Rattle.std.proofs.lemmas.List.{get_or-set_other}
 use Rattle.std.proofs.lemmas.List.Elements.{Contains-append_left, Contains-append_right, Contains-push}
@@ -9,7 +9,7 @@ use Rattle.ksv_memo_links.specs.Links.{Takes, IsDone}
 use Rattle.ksv_memo_links.proofs.Members.{none_in, first_or_later, not_later}
 use Rattle.ksv_memo_rules.specs.declared.replies.Slot.TheVariants.{Empty as emptied}
 use Rattle.ksv_memo.specs.Emptying.{IsTaken, IsEmptied}
-use Rattle.ksv_memo.proofs.Changing.{set_count}
+use Rattle.ksv_memo.proofs.Changing.{set_count, set_other}
 use Rattle.ksv_memo.proofs.Laying.{same_or}
 
 module _ {N V F : Type 0} where
@@ -21,21 +21,15 @@ module _ {N V F : Type 0} where
   set-node (p ∷ ps) (suc i) (suc j) s = set-node ps i j s
 
   set-slot : (ps : List (N × Slot V F)) (i j : ℕ) (s : Slot V F) → j ≢ i → slice_get (slots_of (with_slot ps i s)) j ≡ slice_get (slots_of ps) j
-  set-slot [] i j s h = refl
-  set-slot (p ∷ ps) zero zero s h = absurd (h refl)
-  set-slot (p ∷ ps) zero (suc j) s h = refl
-  set-slot (p ∷ ps) (suc i) zero s h = refl
-  set-slot (p ∷ ps) (suc i) (suc j) s h = set-slot ps i j s (λ e. h (ap suc e))
+  set-slot ps i j s h = cc (slice_get-map (λ p. p.1) (with_slot ps i s) j, set_other ps i j s h, slice_get-map (λ p. p.1) ps j)
 
   set-empty : (ps : List (N × Slot V F)) (i : ℕ) → answer_at (slots_of (with_slot ps i emptied)) i ≡ None
-  set-empty [] i = refl
-  set-empty (p ∷ ps) zero = refl
   set-empty (p ∷ ps) (suc i) = set-empty ps i
+  set-empty _ _ = refl
 
   set-closed : (ps : List (N × Slot V F)) (i : ℕ) → IsOpen (with_slot ps i emptied) i → ⊥
-  set-closed [] i o = cc
-  set-closed (p ∷ ps) zero o = cc
   set-closed (p ∷ ps) (suc i) o = set-closed ps i o
+  set-closed _ _ o = cc
 
   pub taken-none : (ps : List (N × Slot V F)) (l : Linked) (from : ℕ) → IsTaken ps ps l l [] from from
   taken-none ps l from = record {
@@ -56,61 +50,60 @@ module _ {N V F : Type 0} where
       → IsTaken ps qs l m taken count from → Takes m n slot → rs ≡ with_slot qs slot emptied → more ≤ count + 1 → IsTaken ps rs l n (slot ∷ taken) more from
   taken-more ps qs rs l m n taken slot from count more apart h t is le = record {
     split = split;
-    nodes = λ i. ap (λ xs. node_at xs i) is ∙ set-node qs slot i emptied ∙ h.nodes i;
-    out = λ i c. out i (same_or i slot) (first_or_later slot taken i c);
+    nodes = λ i. cc (set-node qs slot i emptied, h.nodes i);
+    out = λ i c. elim (same_or i slot) [
+      | inl e ↦ cc (set-empty qs slot)
+      | inr ne ↦ elim (first_or_later slot taken i c) [
+        | inl e ↦ absurd (ne (sym e))
+        | inr c ↦ other i ne ∙ h.out i c
+      ]
+    ];
     same = λ i c. other i (apart_from i c) ∙ h.same i (λ k. c (Contains-append_right (slot ∷ []) taken i k));
-    asked = λ i c. ap (λ rows. row rows i) t.asked ∙ get_or-set_other m.asked slot i [] [] (apart_from i c)
-        ∙ h.asked i (λ k. c (Contains-append_right (slot ∷ []) taken i k));
-    uses = λ i c. ap (λ rows. row rows i) t.uses ∙ get_or-set_other m.uses slot i [] [] (apart_from i c)
-        ∙ h.uses i (λ k. c (Contains-append_right (slot ∷ []) taken i k));
+    asked = λ i c. cc (get_or-set_other m.asked slot i [] [] (apart_from i c), h.asked i (λ k. c (Contains-append_right (slot ∷ []) taken i k)));
+    uses = λ i c. cc (get_or-set_other m.uses slot i [] [] (apart_from i c), h.uses i (λ k. c (Contains-append_right (slot ∷ []) taken i k)));
     kept = t.kept ∙ h.kept;
     slots = set_count qs slot emptied rs is ∙ h.slots;
-    opens = λ i o. open_at i o (same_or i slot);
+    opens = λ i o. elim (same_or i slot) [
+      | inl e ↦ absurd (set-closed qs slot (subst (IsOpen (with_slot qs slot emptied)) e (rw is at o)))
+      | inr ne ↦ h.opens i (cc (set-slot qs slot i emptied ne))
+    ];
     most =
-        let a = ap length (h.asked slot new) in
-        let b = ap (λ us. length (pages_in us)) (h.uses slot new) in
-        let c = sum_by-cons (λ s. 4 * length (row l.asked s) + 4 * length (pages_in (row l.uses s))) slot taken in
-        let d = h.most in let e = t.most in
-        omega arith;
-    least = let a = h.least in let b = t.least in omega arith;
+        omega (
+          arith,
+          ap length (h.asked slot new),
+          ap (λ us. length (pages_in us)) (h.uses slot new),
+          sum_by-cons (λ s. 4 * length (row l.asked s) + 4 * length (pages_in (row l.uses s))) slot taken,
+        );
+    least = omega arith;
   }
     where
       split : l.waits ≡ n.waits ++ slot ∷ taken
-      split = h.split ∙ ap (λ ws. ws ++ taken) t.waits ∙ append_assoc n.waits (slot ∷ []) taken
+      split = cc (append_assoc n.waits (slot ∷ []) taken)
 
       new : Contains taken slot → ⊥
-      new c = not_later n.waits taken slot (subst (λ ws. AllPairs (λ (a b : ℕ). a ≢ b) ws) split apart) c
+      new c = not_later n.waits taken slot (subst (AllPairs (λ (a b : ℕ). a ≢ b)) split apart) c
 
       other : (i : ℕ) → i ≢ slot → answer_at (slots_of rs) i ≡ answer_at (slots_of qs) i
-      other i ne = ap (λ xs. answer_at (slots_of xs) i) is ∙ ap answer_of (set-slot qs slot i emptied ne)
-
-      open_at : (i : ℕ) → IsOpen rs i → (i ≡ slot) ⊎ (i ≢ slot) → IsOpen ps i
-      open_at i o (inl e) = absurd (set-closed qs slot (subst (λ k. IsOpen (with_slot qs slot emptied) k) e (subst (λ xs. IsOpen xs i) is o)))
-      open_at i o (inr ne) = h.opens i (sym (ap (λ xs. slice_get (slots_of xs) i) is ∙ set-slot qs slot i emptied ne) ∙ o)
+      other i ne = cc (set-slot qs slot i emptied ne)
 
       apart_from : (i : ℕ) → (Contains (slot ∷ taken) i → ⊥) → i ≢ slot
       apart_from i c e = c (subst (Contains (slot ∷ taken)) (sym e) (Contains-append_left (slot ∷ []) taken slot (Contains-push [] slot)))
 
-      out : (i : ℕ) → (i ≡ slot) ⊎ (i ≢ slot) → (slot ≡ i) ⊎ Contains taken i → answer_at (slots_of rs) i ≡ None
-      out i (inl e) c = ap (λ xs. answer_at (slots_of xs) i) is ∙ ap (λ k. answer_at (slots_of (with_slot qs slot emptied)) k) e ∙ set-empty qs slot
-      out i (inr ne) (inl e) = absurd (ne (sym e))
-      out i (inr ne) (inr c) = other i ne ∙ h.out i c
-
   pub taken-all : (ps qs : List (N × Slot V F)) (l m n : Linked) (taken : List ℕ) (from count : ℕ) → IsTaken ps qs l m taken count from → IsDone m n
       → IsEmptied ps qs l n from count
   taken-all ps qs l m n taken from count h d = record {
-    taken = subst (λ ws. IsTaken ps qs l n ws count (from + 1)) whole (record {
-      split = h.split ∙ ap (λ ws. ws ++ taken) (d.waits ∙ sym d.done);
+    taken = rw (← whole) (record {
+      split = cc;
       nodes = h.nodes;
       out = h.out;
       same = h.same;
-      asked = λ i c. ap (λ rows. row rows i) d.asked ∙ h.asked i c;
-      uses = λ i c. ap (λ rows. row rows i) d.uses ∙ h.uses i c;
+      asked = λ i c. cc (h.asked i c);
+      uses = λ i c. cc (h.uses i c);
       kept = d.kept ∙ h.kept;
       slots = h.slots;
       opens = h.opens;
-      most = let a = h.most in let b = d.most in omega arith;
-      least = let a = h.least in let b = d.least in omega arith;
+      most = omega arith;
+      least = omega arith;
     });
     done = d.done;
   }

@@ -14,12 +14,12 @@ use Rattle.ksv_memo.specs.Behind.{EndsBy}
 use Rattle.ksv_memo.specs.Resting.{left_reach}
 use Rattle.ksv_memo.specs.Sweep.{entries_with}
 use Rattle.ksv_memo.proofs.Change.{eval_can}
+use Rattle.ksv_memo.proofs.Forgetting.{stay-all, by_mark, stays-free}
 
 -- ---- on the bytes on which it is right
 can-end : (bytes : List ℕ) (u : Use) → CanUse bytes u → EndsBy (length bytes) u
-can-end bytes (Bytes f t) h = h
-can-end bytes (Reach t) h = h
 can-end bytes Size h = tt
+can-end _ _ h = h
 
 pub right-ends : {N A : Type 0} (meaning : Meaning N A) → IsLawful meaning → (bytes : List ℕ) (es : List (Entry N A)) → IsRight (on meaning bytes) es
     → AllEndBy (length bytes) es
@@ -35,7 +35,7 @@ numbers-few a (suc n) g c = by (first_or_later a (numbers_from (a + 1) n) g c) (
   where
     by : (a ≡ g) ⊎ Contains (numbers_from (a + 1) n) g → (Contains (numbers_from (a + 1) n) g → g < a + 1 + n) → g < a + suc n
     by (inl e) later = omega arith
-    by (inr k) later = let h = later k in omega arith
+    by (inr k) later = omega (arith, later k)
 
 use-pages : (place : ℕ) (u : Use) (g : ℕ) → EndsBy place u → Contains (pages_of u) g → g < pages_to place
 use-pages place (Bytes f t) g h c = let lt = h.0 in let le = h.1 in let n = numbers-few (f / 64) (pages_end f t - f / 64) g c in omega arith
@@ -52,26 +52,25 @@ all-pages place (u ∷ us) h g c = by (Contains-append_cases (pages_of u) (pages
 
 farthest-by : (place : ℕ) (us : List Use) → AllByRecursion (EndsBy place) us → farthest us ≤ place
 farthest-by place [] h = omega arith
-farthest-by place (Bytes f t ∷ us) h = let r = farthest-by place us h.1 in omega arith
-farthest-by place (Reach t ∷ us) h = let r = farthest-by place us h.1 in let le : t ≤ place = h.0 in omega arith
-farthest-by place (Size ∷ us) h = let r = farthest-by place us h.1 in omega arith
+farthest-by place (Bytes f t ∷ us) h = omega (arith, farthest-by place us h.1)
+farthest-by place (Reach t ∷ us) h = let le : t ≤ place = h.0 in omega (arith, farthest-by place us h.1)
+farthest-by place (Size ∷ us) h = omega (arith, farthest-by place us h.1)
 
 one-in : (x y : ℕ) → Contains (x ∷ []) y → x ≡ y
-one-in x y c = by (first_or_later x [] y c)
-  where
-    by : (x ≡ y) ⊎ Contains [] y → x ≡ y
-    by (inl e) = e
-    by (inr k) = absurd (none_in y k)
+one-in x y c = elim (first_or_later x [] y c) [
+  | inl e ↦ e
+  | inr k ↦ absurd (none_in y k)
+]
 
 end-by : (place f : ℕ) → f ≤ place → (l : ℕ) → Contains (end_at f) l → l ≤ pages_to place
 end-by place zero le l c = absurd (none_in l c)
-end-by place (suc f) le l c = let e = one-in (f / 64 + 1) l c in omega arith
+end-by place (suc f) le l c = omega (arith, one-in (f / 64 + 1) l c)
 
 all-ends : (place : ℕ) (us : List Use) → AllByRecursion (EndsBy place) us → (l : ℕ) → Contains (ends_in us) l → l ≤ pages_to place
 all-ends place us h l = by (list_any is_size us)
   where
     by : (b : Bool) → Contains (cond b (0 ∷ []) (end_at (farthest us))) l → l ≤ pages_to place
-    by true c = let e = one-in 0 l c in omega arith
+    by true c = omega (arith, one-in 0 l c)
     by false c = end-by place (farthest us) (farthest-by place us h) l c
 
 pub ends-within : {N A : Type 0} (place : ℕ) (es : List (Entry N A)) → AllEndBy place es → AllByRecursion (λ e. AreWithin (pages_to place) e.uses) es
@@ -83,7 +82,7 @@ untouched-insert reach at n (Bytes f t) h e = by (cases_lt at t)
   where
     by : (at < t) ⊎ (t ≤ at) → EndsBy (min reach at) (Bytes f t)
     by (inl lt) = let yes = (Decides-ltb at t).1 lt in absurd (cc)
-    by (inr le) = let l = h.1 in (h.0, omega arith)
+    by (inr le) = (h.0, omega arith)
 untouched-insert reach at n (Reach t) h e = by (cases_lt at t)
   where
     by : (at < t) ⊎ (t ≤ at) → t ≤ min reach at
@@ -105,33 +104,28 @@ untouched-ends Append reach u h e = h
 -- the marks of entries that all end by the reach
 ends-left : {N A : Type 0} (change : Change) (reach : ℕ) (all ks : List (Mark N A)) → AllByRecursion (IsMarked change all) ks → AllEndBy reach (entries_with ks)
     → AllEndBy (left_reach change reach) (entries_left ks)
-ends-left change reach all [] marked h = tt
-ends-left {N} {A} change reach all (k ∷ ks) marked h = by k.goes refl (ends-left change reach all ks marked.1 h.1)
-  where
-    by : (b : Bool) → k.goes ≡ b → AllEndBy (left_reach change reach) (entries_left ks)
-        → AllEndBy (left_reach change reach) (entries_with (cond (not b) (k ∷ filter (λ k. not k.goes) ks) (filter (λ k. not k.goes) ks)))
-    by true e rest = rest
-    by false e rest =
-        let free = none_pass (is_use_touched change) k.entry.uses
-        (or_parts (list_any (is_use_touched change) k.entry.uses) (list_any (λ b. b) marked.0.asked) (sym marked.0.goes ∙ e)).0 in (
-          All-both (EndsBy reach) (λ u. is_use_touched change u ≡ false) (EndsBy (left_reach change reach)) (untouched-ends change reach) k.entry.uses h.0 free,
-          rest,
-        )
+ends-left {N} {A} change reach all ks marked h = stay-all (λ (e : Entry N A). AllByRecursion (EndsBy (left_reach change reach)) e.uses) ks
+    (All-both (IsMarked change all) (λ k. AllByRecursion (EndsBy reach) k.entry.uses)
+    (λ k. k.goes ≡ false → AllByRecursion (EndsBy (left_reach change reach)) k.entry.uses)
+    (λ k m ends e. All-both (EndsBy reach) (λ u. is_use_touched change u ≡ false) (EndsBy (left_reach change reach)) (untouched-ends change reach) k.entry.uses
+    ends (stays-free k m e)) ks marked (by_mark (λ (e : Entry N A). AllByRecursion (EndsBy reach) e.uses) ks h))
 
 pub left-ends : {N A : Type 0} (change : Change) (pages reach : ℕ) (es all : List (Entry N A)) (looked : ℕ) → Sweeps change pages es all looked
     → AllEndBy reach es → AllEndBy (left_reach change reach) all
 left-ends {N} {A} change pages reach es all looked sweeps h =
-    let P : List (Entry N A) → Type 0 = λ xs. AllEndBy reach xs in
-    let Q : List (Entry N A) → Type 0 = λ xs. AllEndBy (left_reach change reach) xs in
-    subst Q (sym sweeps.stays) (ends-left change reach sweeps.marks sweeps.marks sweeps.marked (subst P (sym sweeps.entries) h))
+    rw sweeps.stays (ends-left change reach sweeps.marks sweeps.marks sweeps.marked (rw sweeps.entries h))
 
 -- and the reach is within the file again
 pub reach-fits : (change : Change) (before after : List ℕ) (reach : ℕ) → Makes change before after → reach ≤ length before
     → left_reach change reach ≤ length after
-reach-fits (Overwrite at n) before after reach made le = let e = ap length made.3 in let n1 = made.1 in let k =
-    made.2 in omega (arith, length-append {A = ℕ}, length-take {A = ℕ}, length-drop {A = ℕ})
-reach-fits (Insert at n) before after reach made le = let e = ap length made.3 in let n1 = made.1 in let k =
-    made.2 in omega (arith, length-append {A = ℕ}, length-take {A = ℕ}, length-drop {A = ℕ})
-reach-fits (Delete at n) before after reach made le = let e = ap length made.1 in let k =
-    made.0 in omega (arith, length-append {A = ℕ}, length-take {A = ℕ}, length-drop {A = ℕ})
-reach-fits Append before after reach made le = let e = ap length made.1 in omega (arith, length-append {A = ℕ})
+reach-fits (Overwrite at n) before after reach made le = omega (
+  arith,
+  ap length made.3,
+  made.2,
+  length-append {A = ℕ},
+  length-take {A = ℕ},
+  length-drop {A = ℕ},
+)
+reach-fits (Insert at n) before after reach made le = omega (arith, ap length made.3, made.2, length-append {A = ℕ}, length-take {A = ℕ}, length-drop {A = ℕ})
+reach-fits (Delete at n) before after reach made le = omega (arith, ap length made.1, made.0, length-append {A = ℕ}, length-take {A = ℕ}, length-drop {A = ℕ})
+reach-fits Append before after reach made le = omega (arith, ap length made.1, length-append {A = ℕ})

@@ -5,7 +5,7 @@ use Rattle.ksv_memo.proofs.Common.{slots_of, node_at, IsKept}
 module _ {N V F : Type 0} (ps : List (N × Slot V F)) where
   -- the slot at a place
   pub slot_there : (i : ℕ) (n : N) (s : Slot V F) → slice_get ps i ≡ Some (n, s) → slice_get (slots_of ps) i ≡ Some s
-  slot_there i n s e = slice_get-map (λ p. p.1) ps i ∙ ap (option_map (λ p. p.1)) e
+  slot_there i n s e = cc (slice_get-map (λ p. p.1) ps i)
 
   pub node_there : (i : ℕ) (n : N) (s : Slot V F) → slice_get ps i ≡ Some (n, s) → node_at ps i ≡ Some n
   node_there i n s e = ap (option_map (λ p. p.0)) e

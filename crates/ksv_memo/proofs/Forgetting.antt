@@ -42,15 +42,24 @@ pub touched_decides : {N A : Type 0} (w : Standing N A) (change : Change) (n : N
 touched_decides w change n = any_decides (is_hit w change) (λ m. Any (Touches change) (tells w [] m).uses)
     (λ m. any_decides (is_use_touched change) (Touches change) (use_touched change) (tells w [] m).uses) (tree w n)
 
--- what holds of all marked entries holds of those that stay
-pub All-entries_left : {N A : Type 0} (P : Entry N A → Type 0) (ks : List (Mark N A)) → AllByRecursion P (entries_in ks) → AllByRecursion P (entries_left ks)
-All-entries_left P [] h = tt
-All-entries_left {N} {A} P (k ∷ ks) h = by k.goes (All-entries_left P ks h.1)
+-- what holds of each entry, should it stay, holds of those that stay
+pub stay-all : {N A : Type 0} (P : Entry N A → Type 0) (ks : List (Mark N A)) → AllByRecursion (λ k. k.goes ≡ false → P k.entry) ks
+    → AllByRecursion P (entries_left ks)
+stay-all P [] h = tt
+stay-all {N} {A} P (k ∷ ks) h = by k.goes refl (stay-all P ks h.1)
   where
-    by : (b : Bool) → AllByRecursion P (entries_left ks)
+    by : (b : Bool) → k.goes ≡ b → AllByRecursion P (entries_left ks)
         → AllByRecursion P (entries_in (cond (not b) (k ∷ filter (λ k. not k.goes) ks) (filter (λ k. not k.goes) ks)))
-    by true rest = rest
-    by false rest = (h.0, rest)
+    by true e rest = rest
+    by false e rest = (h.0 e, rest)
+
+-- what holds of all entries, by their marks
+pub by_mark : {N A : Type 0} (P : Entry N A → Type 0) (ks : List (Mark N A)) → AllByRecursion P (entries_in ks) → AllByRecursion (λ k. P k.entry) ks
+by_mark P [] h = tt
+by_mark P (k ∷ ks) h = (h.0, by_mark P ks h.1)
+
+pub All-entries_left : {N A : Type 0} (P : Entry N A → Type 0) (ks : List (Mark N A)) → AllByRecursion P (entries_in ks) → AllByRecursion P (entries_left ks)
+All-entries_left P ks h = stay-all P ks (All-map (λ k p e. p) ks (by_mark P ks h))
 
 module _ {N A : Type 0} (w : Standing N A) where
   numbers-entries_left : (P : ℕ → Type 0) (ks : List (Mark N A)) → AllByRecursion P (map w.number (nodes_of (entries_in ks)))
@@ -76,21 +85,15 @@ module _ {N A : Type 0} (w : Standing N A) where
           (IsDistinct-head nat_eq (w.number k.entry.node) (map w.number (nodes_of (entries_in ks))) h)) rest
 
 -- what stays has no touched use
+pub stays-free : {N A : Type 0} {change : Change} {all : List (Mark N A)} (k : Mark N A) → IsMarked change all k → k.goes ≡ false
+    → AllByRecursion (λ u. is_use_touched change u ≡ false) k.entry.uses
+stays-free {change = change} k m e = none_pass (is_use_touched change) k.entry.uses
+    (or_parts (list_any (is_use_touched change) k.entry.uses) (list_any (λ b. b) m.asked) (sym m.goes ∙ e)).0
+
 free-entries_left : {N A : Type 0} (change : Change) (before ks : List (Mark N A)) → AllByRecursion (IsMarked change before) ks
     → AllByRecursion (λ e. AllByRecursion (λ used. Touches change used → ⊥) e.uses) (entries_left ks)
-free-entries_left change before [] h = tt
-free-entries_left {N} {A} change before (k ∷ ks) h = by k.goes refl (free-entries_left change before ks h.1)
-  where
-    by : (b : Bool) → k.goes ≡ b → AllByRecursion (λ e. AllByRecursion (λ used. Touches change used → ⊥) e.uses) (entries_left ks)
-        → AllByRecursion (λ e. AllByRecursion (λ used. Touches change used → ⊥) e.uses)
-        (entries_in (cond (not b) (k ∷ filter (λ k. not k.goes) ks) (filter (λ k. not k.goes) ks)))
-    by true e rest = rest
-    by false e rest = (
-      All-map (untouched_use change) k.entry.uses
-          (none_pass (is_use_touched change) k.entry.uses
-          (or_parts (list_any (is_use_touched change) k.entry.uses) (list_any (λ b. b) h.0.asked) (sym h.0.goes ∙ e)).0),
-      rest,
-    )
+free-entries_left change before ks h = stay-all (λ e. AllByRecursion (λ used. Touches change used → ⊥) e.uses) ks
+    (All-map (λ k m e. All-map (untouched_use change) k.entry.uses (stays-free k m e)) ks h)
 
 module _ {N A : Type 0} (w : Standing N A) where
   -- the mark of an entry says whether its node is touched
@@ -134,60 +137,23 @@ module _ {N A : Type 0} (w : Standing N A) where
 -- ---- what goes has an ask or meets a page
 write-over : (change : Change) → IsWrite change → IsOverwrite change
 write-over (Overwrite at n) h = tt
-write-over (Insert at n) h = h
-write-over (Delete at n) h = h
-write-over Append h = h
+write-over _ h = absurd h
 
 pages-some : (change : Change) → IsWrite change → 1 ≤ pages_met change
 pages-some (Overwrite at n) h = omega arith
-pages-some (Insert at n) h = absurd h
-pages-some (Delete at n) h = absurd h
-pages-some Append h = absurd h
-
-some-page : (change : Change) (us : List Use) → IsOverwrite change → list_any (is_use_touched change) us ≡ true → 1 ≤ length (pages_in us)
-some-page (Overwrite at n) us h e = let m = uses-meet at n us e in let lt = m.there.1 in omega arith
-some-page (Insert at n) us h e = absurd h
-some-page (Delete at n) us h e = absurd h
-some-page Append us h e = absurd h
+pages-some _ h = absurd h
 
 some-ask : {N A : Type 0} (all : List (Mark N A)) (ms : List N) (bs : List Bool) → AllSay all ms bs → list_any (λ b. b) bs ≡ true → 1 ≤ length ms
 some-ask all [] [] h e = absurd (cc)
 some-ask all [] (b ∷ bs) h e = absurd h
 some-ask all (m ∷ ms) bs h e = omega arith
 
-one-near : {N A : Type 0} (change : Change) (all : List (Mark N A)) (k : Mark N A) → IsOverwrite change → IsMarked change all k → k.goes ≡ true
-    → 1 ≤ length k.entry.asked + length (pages_in k.entry.uses)
-one-near change all k over mark goes = by (list_any (is_use_touched change) k.entry.uses) refl (list_any (λ b. b) mark.asked) refl
-  where
-    by : (a : Bool) → list_any (is_use_touched change) k.entry.uses ≡ a → (b : Bool) → list_any (λ b. b) mark.asked ≡ b
-        → 1 ≤ length k.entry.asked + length (pages_in k.entry.uses)
-    by true e b f = let p = some-page change k.entry.uses over e in omega arith
-    by false e true f = let p = some-ask all k.entry.asked mark.asked mark.say f in omega arith
-    by false e false f = let no : true ≡ (false || false) = sym goes ∙ mark.goes ∙ (λ i. e i || f i) in absurd (cc)
-
-gone-few : {N A : Type 0} (change : Change) (all ks : List (Mark N A)) → IsOverwrite change → AllByRecursion (IsMarked change all) ks
-    → length (entries_gone ks) ≤ sum_by (λ e. length e.asked) (entries_gone ks) + sum_by (λ e. length (pages_in e.uses)) (entries_gone ks)
-gone-few change all [] over h = omega arith
-gone-few {N} {A} change all (k ∷ ks) over h = by k.goes refl (gone-few change all ks over h.1)
-  where
-    by : (b : Bool) → k.goes ≡ b → length (entries_gone ks) ≤ sum_by (λ e. length e.asked) (entries_gone ks)
-        + sum_by (λ e. length (pages_in e.uses)) (entries_gone ks)
-        → length (entries_in (cond b (k ∷ filter (λ k. k.goes) ks) (filter (λ k. k.goes) ks)))
-        ≤ sum_by (λ e. length e.asked) (entries_in (cond b (k ∷ filter (λ k. k.goes) ks) (filter (λ k. k.goes) ks)))
-        + sum_by (λ e. length (pages_in e.uses)) (entries_in (cond b (k ∷ filter (λ k. k.goes) ks) (filter (λ k. k.goes) ks)))
-    by false e rest = rest
-    by true e rest =
-        let one = one-near change all k over h.0 e in
-        let a = sum_by-cons (λ (e : Entry N A). length e.asked) k.entry (entries_gone ks) in
-        let b = sum_by-cons (λ (e : Entry N A). length (pages_in e.uses)) k.entry (entries_gone ks) in
-        omega arith
-
 -- ---- what goes by another edit has an ask, or meets a page, or uses the size, or reaches after the place
 count-some : (p : ℕ → Bool) (xs : List ℕ) (k x : ℕ) → k < length xs → get_or xs k x ≡ x → p x ≡ true → 1 ≤ count_by p xs
 count-some p [] k x lt is e = absurd (omega arith)
 count-some p (y ∷ ys) zero x lt is e =
     let s : count_by p (y ∷ ys) ≡ cond (p y) 1 0 + count_by p ys = sum_by-cons (λ z. cond (p z) 1 0) y ys in
-    let one : cond {A = ℕ} (p y) 1 0 ≡ 1 = ap (λ (b : Bool). cond {A = ℕ} b 1 0) (ap p is ∙ e) in
+    let one : cond {A = ℕ} (p y) 1 0 ≡ 1 = ap (λ b. cond {A = ℕ} b 1 0) (ap p is ∙ e) in
     omega arith
 count-some p (y ∷ ys) (suc k) x lt is e =
     let s : count_by p (y ∷ ys) ≡ cond (p y) 1 0 + count_by p ys = sum_by-cons (λ z. cond (p z) 1 0) y ys in
@@ -195,35 +161,43 @@ count-some p (y ∷ ys) (suc k) x lt is e =
     omega arith
 
 some-past : (at : ℕ) (us : List Use) → EndsPast at us → 1 ≤ length (pages_in us) + count_by (λ l. nat_eq l 0 || nat_lt (first_page at) l) (ends_in us)
-some-past at us (inl (g, c, le)) = let lt = c.1 in omega arith
+some-past at us (inl (g, c, le)) = omega arith
 some-past at us (inr (l, c, inl z)) =
-    let n = count-some (λ l. nat_eq l 0 || nat_lt (first_page at) l) (ends_in us) c.0 l c.1 c.2 (ap (λ b. b || nat_lt (first_page at) l) (eq-eqb l 0 z)) in
-    omega arith
+    omega (arith, count-some (λ l. nat_eq l 0 || nat_lt (first_page at) l) (ends_in us) c.0 l c.1 c.2 (ap (λ b. b || nat_lt (first_page at) l) (eq-eqb l 0 z)))
 some-past at us (inr (l, c, inr lt)) =
-    let n = count-some (λ l. nat_eq l 0 || nat_lt (first_page at) l) (ends_in us) c.0 l c.1 c.2
-    (or_right (nat_eq l 0) (nat_lt (first_page at) l) ((Decides-ltb (first_page at) l).1 lt)) in omega arith
+    omega (
+      arith,
+      count-some (λ l. nat_eq l 0 || nat_lt (first_page at) l) (ends_in us) c.0 l c.1 c.2
+          (or_right (nat_eq l 0) (nat_lt (first_page at) l) ((Decides-ltb (first_page at) l).1 lt)),
+    )
 
-some-behind : (change : Change) (us : List Use) → IsMove change → list_any (is_use_touched change) us ≡ true → 1 ≤ length (pages_in us) + ended_by change us
-some-behind (Overwrite at n) us h e = absurd h
-some-behind (Insert at n) us h e = some-past at us (insert-past at n us e)
-some-behind (Delete at n) us h e = some-past at us (delete-past at n us e)
-some-behind Append us h e = let c = append-ends us e in let n = count-some (λ l. nat_eq l 0) (ends_in us) c.0 0 c.1 c.2 refl in omega arith
+some-behind : (change : Change) (us : List Use) → list_any (is_use_touched change) us ≡ true → 1 ≤ length (pages_in us) + ended_by change us
+some-behind (Overwrite at n) us e = omega (arith, uses-meet at n us e)
+some-behind (Insert at n) us e = some-past at us (insert-past at n us e)
+some-behind (Delete at n) us e = some-past at us (delete-past at n us e)
+some-behind Append us e = let c = append-ends us e in omega (arith, count-some (λ l. nat_eq l 0) (ends_in us) c.0 0 c.1 c.2 refl)
 
-one-behind : {N A : Type 0} (change : Change) (all : List (Mark N A)) (k : Mark N A) → IsMove change → IsMarked change all k → k.goes ≡ true
+-- an overwrite counts no end
+none-ended : {N A : Type 0} (change : Change) (es : List (Entry N A)) → IsOverwrite change → sum_by (λ e. ended_by change e.uses) es ≡ 0
+none-ended change [] over = refl
+none-ended {N} {A} (Overwrite at n) (e ∷ es) over = omega (arith, sum_by-cons (λ (x : Entry N A). 0) e es, none-ended (Overwrite at n) es over)
+none-ended _ (e ∷ es) over = absurd over
+
+one-behind : {N A : Type 0} (change : Change) (all : List (Mark N A)) (k : Mark N A) → IsMarked change all k → k.goes ≡ true
     → 1 ≤ length k.entry.asked + length (pages_in k.entry.uses) + ended_by change k.entry.uses
-one-behind change all k moves mark goes = by (list_any (is_use_touched change) k.entry.uses) refl (list_any (λ b. b) mark.asked) refl
+one-behind change all k mark goes = by (list_any (is_use_touched change) k.entry.uses) refl (list_any (λ b. b) mark.asked) refl
   where
     by : (a : Bool) → list_any (is_use_touched change) k.entry.uses ≡ a → (b : Bool) → list_any (λ b. b) mark.asked ≡ b
         → 1 ≤ length k.entry.asked + length (pages_in k.entry.uses) + ended_by change k.entry.uses
-    by true e b f = let p = some-behind change k.entry.uses moves e in omega arith
-    by false e true f = let p = some-ask all k.entry.asked mark.asked mark.say f in omega arith
+    by true e b f = omega (arith, some-behind change k.entry.uses e)
+    by false e true f = omega (arith, some-ask all k.entry.asked mark.asked mark.say f)
     by false e false f = let no : true ≡ (false || false) = sym goes ∙ mark.goes ∙ (λ i. e i || f i) in absurd (cc)
 
-gone-behind : {N A : Type 0} (change : Change) (all ks : List (Mark N A)) → IsMove change → AllByRecursion (IsMarked change all) ks
+gone-behind : {N A : Type 0} (change : Change) (all ks : List (Mark N A)) → AllByRecursion (IsMarked change all) ks
     → length (entries_gone ks) ≤ sum_by (λ e. length e.asked) (entries_gone ks) + sum_by (λ e. length (pages_in e.uses)) (entries_gone ks)
     + sum_by (λ e. ended_by change e.uses) (entries_gone ks)
-gone-behind change all [] moves h = omega arith
-gone-behind {N} {A} change all (k ∷ ks) moves h = by k.goes refl (gone-behind change all ks moves h.1)
+gone-behind change all [] h = omega arith
+gone-behind {N} {A} change all (k ∷ ks) h = by k.goes refl (gone-behind change all ks h.1)
   where
     P : List (Entry N A) → Type 0
     P es = length es ≤ sum_by (λ e. length e.asked) es + sum_by (λ e. length (pages_in e.uses)) es + sum_by (λ e. ended_by change e.uses) es
@@ -231,11 +205,13 @@ gone-behind {N} {A} change all (k ∷ ks) moves h = by k.goes refl (gone-behind 
     by : (b : Bool) → k.goes ≡ b → P (entries_gone ks) → P (entries_in (cond b (k ∷ filter (λ k. k.goes) ks) (filter (λ k. k.goes) ks)))
     by false e rest = rest
     by true e rest =
-        let one = one-behind change all k moves h.0 e in
-        let a = sum_by-cons (λ (e : Entry N A). length e.asked) k.entry (entries_gone ks) in
-        let b = sum_by-cons (λ (e : Entry N A). length (pages_in e.uses)) k.entry (entries_gone ks) in
-        let d = sum_by-cons (λ (e : Entry N A). ended_by change e.uses) k.entry (entries_gone ks) in
-        omega arith
+        omega (
+          arith,
+          one-behind change all k h.0 e,
+          sum_by-cons (λ (e : Entry N A). length e.asked) k.entry (entries_gone ks),
+          sum_by-cons (λ (e : Entry N A). length (pages_in e.uses)) k.entry (entries_gone ks),
+          sum_by-cons (λ (e : Entry N A). ended_by change e.uses) k.entry (entries_gone ks),
+        )
 
 -- a sum over what goes is no more than over all
 gone-less : {N A : Type 0} (p : Entry N A → ℕ) (ks : List (Mark N A)) → sum_by p (entries_gone ks) ≤ sum_by p (entries_in ks)
@@ -244,55 +220,44 @@ gone-less {N} {A} p (k ∷ ks) = by k.goes (gone-less p ks)
   where
     by : (b : Bool) → sum_by p (entries_gone ks) ≤ sum_by p (entries_in ks)
         → sum_by p (entries_in (cond b (k ∷ filter (λ k. k.goes) ks) (filter (λ k. k.goes) ks))) ≤ sum_by p (entries_in (k ∷ ks))
-    by false rest = let a = sum_by-cons p k.entry (entries_in ks) in omega arith
-    by true rest = let a = sum_by-cons p k.entry (entries_in ks) in let b = sum_by-cons p k.entry (entries_gone ks) in omega arith
+    by false rest = omega (arith, sum_by-cons p k.entry (entries_in ks))
+    by true rest = omega (arith, sum_by-cons p k.entry (entries_in ks), sum_by-cons p k.entry (entries_gone ks))
 
 module _ {N A : Type 0} (w : Standing N A) (law : IsSettled w) where
   -- ---- what is left of a list, as a set
   among_cases : (p : N → Bool) (m n : N) (ns : List N) → is_among w.number (filter p ns) n ≡ (is_among w.number ns n && p n) → (a : Bool)
       → nat_eq (w.number n) (w.number m) ≡ a → (b : Bool) → p m ≡ b
       → is_among w.number (cond b (m ∷ filter p ns) (filter p ns)) n ≡ ((a || is_among w.number ns n) && p n)
-  among_cases p m n ns rest true e true f = ap (λ x. x || is_among w.number (filter p ns) n) e
-      ∙ sym (ap p (law.own_number n m (eqb_true (w.number n) (w.number m) e)) ∙ f)
-  among_cases p m n ns rest true e false f = let fails : p n ≡ false = ap p (law.own_number n m (eqb_true (w.number n) (w.number m) e)) ∙ f in rest
-      ∙ ap (λ x. is_among w.number ns n && x) fails ∙ and-false (is_among w.number ns n) ∙ sym fails
-  among_cases p m n ns rest false e true f = ap (λ x. x || is_among w.number (filter p ns) n) e ∙ rest
+  among_cases p m n ns rest true e true f = cc (law.own_number n m (eqb_true (w.number n) (w.number m) e))
+  among_cases p m n ns rest true e false f = let fails : p n ≡ false = ap p (law.own_number n m (eqb_true (w.number n) (w.number m) e)) ∙ f in
+      cc (and-false (is_among w.number ns n))
+  among_cases p m n ns rest false e true f = cc
   among_cases p m n ns rest false e false f = rest
 
   among-filter : (p : N → Bool) (ns : List N) (n : N) → is_among w.number (filter p ns) n ≡ (is_among w.number ns n && p n)
   among-filter p [] n = refl
-  among-filter p (m ∷ ns) n = among_cases p m n ns (among-filter p ns n) (nat_eq (w.number n) (w.number m)) refl (p m) refl
+  among-filter p (m ∷ ns) n = among_cases p m n ns (among-filter p ns n) _ refl _ refl
 
   pub left-decides : (change : Change) (ns : List N) (n : N)
       → Decides (is_among w.number (left_after w change ns) n) ((is_among w.number ns n ≡ true) × (IsTouched w change n → ⊥))
   left-decides change ns n =
-      let P : Bool → Type 0 = λ b. Decides b ((is_among w.number ns n ≡ true) × (IsTouched w change n → ⊥)) in
-      subst P (sym (among-filter (λ m. not (is_touched w change m)) ns n))
-      (Decides-and (is_among w.number ns n) (not (is_touched w change n)) (λ e. e, λ e. e)
+      rw (among-filter (λ m. not (is_touched w change m)) ns n) (Decides-and (is_among w.number ns n) (not (is_touched w change n)) (λ e. e, λ e. e)
       (Decides-not (is_touched w change n) (touched_decides w change n)))
 
   -- lists with the same members have the same members left
   pub left_after-same : (change : Change) (ns ms : List N) → ((x : N) → is_among w.number ns x ≡ is_among w.number ms x) → (x : N)
       → is_among w.number (left_after w change ns) x ≡ is_among w.number (left_after w change ms) x
-  left_after-same change ns ms same x = among-filter (λ m. not (is_touched w change m)) ns x ∙ ap (λ b. b && not (is_touched w change x)) (same x)
-      ∙ sym (among-filter (λ m. not (is_touched w change m)) ms x)
+  left_after-same change ns ms same x = cc (among-filter (λ m. not (is_touched w change m)) ns x, same x, among-filter (λ m. not (is_touched w change m)) ms x)
 
   -- ---- the marks
   said : (change : Change) (all : List (Mark N A)) (n : ℕ) → ((k : Mark N A) → IsOneOf all k → length (tree w k.entry.node) < n → IsTold w change k)
       → (ms : List N) → AllByRecursion (λ m. length (tree w m) < n) ms → (bs : List Bool) → AllSay all ms bs
       → list_any (λ b. b) bs ≡ list_any (is_touched w change) ms
   said change all n told [] few [] h = refl
-  said change all n told [] few (b ∷ bs) h = absurd h
-  said change all n told (m ∷ ms) few [] h = absurd h
-  said change all n told (m ∷ ms) few (b ∷ bs) h =
-      let short : length (tree w h.0.mark.entry.node) < n = subst (λ x. length (tree w x) < n) (sym h.0.node) few.0 in
-      let here : b ≡ is_touched w change m = sym h.0.goes ∙ told h.0.mark h.0.there short ∙ ap (is_touched w change) h.0.node in
-      ap (λ c. c || list_any (λ b. b) bs) here ∙ ap (λ c. is_touched w change m || c) (said change all n told ms few.1 bs h.1)
-
-  entry_right : (kept : List N) (ks : List (Mark N A)) → AllByRecursion (StandsIn w kept) (entries_in ks)
-      → AllByRecursion (λ k. StandsIn w kept k.entry) ks
-  entry_right kept [] h = tt
-  entry_right kept (k ∷ ks) h = (h.0, entry_right kept ks h.1)
+  said change all n told (m ∷ ms) few (b ∷ bs) h = let short : length (tree w h.0.mark.entry.node) < n = rw h.0.node few.0 in
+      let here : b ≡ is_touched w change m = cc (told h.0.mark h.0.there short) in
+      cc (said change all n told ms few.1 bs h.1)
+  said _ _ _ _ _ _ _ h = absurd h
 
   -- each mark says whether the node is touched, by the length of its tree
   mark-told : (change : Change) (kept : List N) (all : List (Mark N A)) → AllByRecursion (IsMarked change all) all
@@ -303,10 +268,7 @@ module _ {N A : Type 0} (w : Standing N A) (law : IsSettled w) where
       let is : StandsIn w kept k.entry = one_of-all (λ (x : Mark N A). StandsIn w kept x.entry) all right k m in
       let few : AllByRecursion (λ x. length (tree w x) < n) k.entry.asked =
       All-map (λ x le. (let short : length (tree w x) < n = omega arith in short)) k.entry.asked is.lower in
-      mark.goes
-      ∙ ap (λ b. list_any (is_use_touched change) k.entry.uses || b)
-      (said change all n (mark-told change kept all marked right n) k.entry.asked few mark.asked mark.say)
-      ∙ sym (is.touched change)
+      cc (said change all n (mark-told change kept all marked right n) k.entry.asked few mark.asked mark.say, is.touched change)
 
   marks-told : (change : Change) (kept : List N) (ks : List (Mark N A)) → AllByRecursion (IsMarked change ks) ks
       → AllByRecursion (StandsIn w kept) (entries_in ks) → AllByRecursion (IsTold w change) ks
@@ -315,7 +277,7 @@ module _ {N A : Type 0} (w : Standing N A) (law : IsSettled w) where
       each : (xs : List (Mark N A)) → ((k : Mark N A) → IsOneOf xs k → IsOneOf ks k) → AllByRecursion (IsTold w change) xs
       each [] inside = tt
       each (k ∷ xs) inside = (
-        mark-told change kept ks marked (entry_right kept ks right) (suc (length (tree w k.entry.node))) k (inside k (inl refl)) (omega arith),
+        mark-told change kept ks marked (by_mark (StandsIn w kept) ks right) (suc (length (tree w k.entry.node))) k (inside k (inl refl)) (omega arith),
         each xs
             (λ x m. inside x (inr m)),
       )
@@ -324,14 +286,7 @@ module _ {N A : Type 0} (w : Standing N A) (law : IsSettled w) where
   -- an entry that stays isn't touched
   free : (change : Change) (ks : List (Mark N A)) → AllByRecursion (IsTold w change) ks
       → AllByRecursion (λ (e : Entry N A). is_touched w change e.node ≡ false) (entries_left ks)
-  free change [] told = tt
-  free change (k ∷ ks) told = by k.goes refl (free change ks told.1)
-    where
-      by : (b : Bool) → k.goes ≡ b → AllByRecursion (λ (e : Entry N A). is_touched w change e.node ≡ false) (entries_left ks)
-          → AllByRecursion (λ (e : Entry N A). is_touched w change e.node ≡ false)
-          (entries_in (cond (not b) (k ∷ filter (λ k. not k.goes) ks) (filter (λ k. not k.goes) ks)))
-      by true e rest = rest
-      by false e rest = (sym told.0 ∙ e, rest)
+  free change ks told = stay-all (λ (e : Entry N A). is_touched w change e.node ≡ false) ks (All-map (λ k t e. sym t ∙ e) ks told)
 
   module _ (change : Change) (ks : List (Mark N A)) (right : IsRight w (entries_in ks)) (told : AllByRecursion (IsTold w change) ks) where
     -- what isn't touched is left
@@ -357,13 +312,13 @@ module _ {N A : Type 0} (w : Standing N A) (law : IsSettled w) where
     right-entries_left : IsRight w (entries_left ks)
     right-entries_left = record {
       each = All-both (StandsIn w (nodes_of (entries_in ks))) (λ (e : Entry N A). is_touched w change e.node ≡ false) (StandsIn w (nodes_of (entries_left ks)))
-          still (entries_left ks) (All-entries_left (StandsIn w (nodes_of (entries_in ks))) ks right.each) (free change ks told);
+          still _ (All-entries_left (StandsIn w (nodes_of (entries_in ks))) ks right.each) (free change ks told);
       once = distinct-entries_left w ks right.once;
     }
 
   module _ (change : Change) (pages : ℕ) (es all : List (Entry N A)) (looked : ℕ) (right : IsRight w es) (sweeps : Sweeps change pages es all looked) where
     right_marks : IsRight w (entries_in sweeps.marks)
-    right_marks = let R : List (Entry N A) → Type 0 = λ xs. IsRight w xs in subst R (sym sweeps.entries) right
+    right_marks = rw sweeps.entries right
 
     told : AllByRecursion (IsTold w change) sweeps.marks
     told = marks-told change (nodes_of (entries_in sweeps.marks)) sweeps.marks sweeps.marked right_marks.each
@@ -371,41 +326,36 @@ module _ {N A : Type 0} (w : Standing N A) (law : IsSettled w) where
     -- those nodes stay that have no touched use in their tree, and no others
     pub forgets : IsRight w all × AreExactly w (nodes_of all) (left_after w change (nodes_of es))
     forgets =
-        let R : List (Entry N A) → Type 0 = λ xs. IsRight w xs in
-        let stays : IsRight w all = subst R (sym sweeps.stays) (right-entries_left change sweeps.marks right_marks told) in
-        let same : nodes_of all ≡ left_after w change (nodes_of es) = ap nodes_of sweeps.stays ∙ left_nodes w change sweeps.marks told
-        ∙ ap (λ xs. left_after w change (nodes_of xs)) sweeps.entries in
+        let stays : IsRight w all = rw sweeps.stays (right-entries_left change sweeps.marks right_marks told) in
+        let same : nodes_of all ≡ left_after w change (nodes_of es) = cc (left_nodes w change sweeps.marks told) in
         (stays, record { once = stays.once; same = λ x. ap (λ ns. is_among w.number ns x) same })
 
     -- and the looks are near
     pub looks-near : IsWrite change → LooksNear w change es looked
     looks-near wrote =
-        let gone : entries_gone sweeps.marks ≡ gone_of w change es = gone_nodes w change sweeps.marks told ∙ ap (gone_of w change) sweeps.entries in
+        let gone : entries_gone sweeps.marks ≡ gone_of w change es = cc (gone_nodes w change sweeps.marks told) in
         let over : IsOverwrite change = write-over change wrote in
         let pages = pages-some change wrote in
-        let few = gone-few change sweeps.marks sweeps.marks over sweeps.marked in
+        let few = gone-behind change sweeps.marks sweeps.marks sweeps.marked in
+        let none = none-ended change (entries_gone sweeps.marks) over in
         let most = sweeps.most over in
         record {
-          least = subst (λ xs. length xs ≤ looked) gone sweeps.least;
-          most = subst (λ xs. looked
-              ≤ 8 * (pages_met change + sum_by (λ e. met_by change e.uses) es + length xs + sum_by (λ e. length e.asked) xs
-              + sum_by (λ e. length (pages_in e.uses)) xs)) gone (omega arith);
+          least = rw gone at sweeps.least;
+          most = rw (← gone) (omega arith);
         }
 
     -- and those of another edit are after its place
     pub looks-behind : (reach : ℕ) → pages ≡ pages_to reach → IsMove change → LooksBehind w change reach es looked
     looks-behind reach is moves =
-        let gone : entries_gone sweeps.marks ≡ gone_of w change es = gone_nodes w change sweeps.marks told ∙ ap (gone_of w change) sweeps.entries in
-        let few = gone-behind change sweeps.marks sweeps.marks moves sweeps.marked in
+        let gone : entries_gone sweeps.marks ≡ gone_of w change es = cc (gone_nodes w change sweeps.marks told) in
+        let few = gone-behind change sweeps.marks sweeps.marks sweeps.marked in
         let less = gone-less (λ e. ended_by change e.uses) sweeps.marks in
-        let all_of = ap (λ xs. sum_by (λ e. ended_by change e.uses) xs) sweeps.entries in
-        let to = ap (λ k. pages_behind change k) is in
+        let all_of = ap (sum_by (λ e. ended_by change e.uses)) sweeps.entries in
+        let to = ap (pages_behind change) is in
         let most = sweeps.behind moves in
         record {
-          least = subst (λ xs. length xs ≤ looked) gone sweeps.least;
-          most = subst (λ xs. looked
-              ≤ 8 * (1 + pages_behind change (pages_to reach) + sum_by (λ e. behind_by change e.uses) es + sum_by (λ e. ended_by change e.uses) es + length xs
-              + sum_by (λ e. length e.asked) xs + sum_by (λ e. length (pages_in e.uses)) xs)) gone (omega arith);
+          least = rw gone at sweeps.least;
+          most = rw (← gone) (omega arith);
         }
 
 -- and it is right for the bytes after the edit
@@ -413,14 +363,11 @@ pub forgets-right : {N A : Type 0} (meaning : Meaning N A) → IsLawful meaning 
     → (pages : ℕ) (es all : List (Entry N A)) (looked : ℕ) → Sweeps change pages es all looked → IsRight (on meaning before) es
     → IsRight (on meaning after) all
 forgets-right {N} {A} meaning law change before after made pages es all looked sweeps right =
-    let P : List (Entry N A) → Type 0 = λ xs. AllByRecursion (λ (e : Entry N A). AllByRecursion (λ used. Touches change used → ⊥) e.uses) xs in
-    untouched-stays meaning law change before after made all (forgets (on meaning before) (law_on meaning law before) change pages es all looked right sweeps).0
-    (subst P (sym sweeps.stays) (free-entries_left change sweeps.marks sweeps.marks sweeps.marked))
+    untouched-stays _ law change before after made _ (forgets _ (law_on meaning law before) _ _ _ _ _ right sweeps).0
+    (rw sweeps.stays (free-entries_left change sweeps.marks sweeps.marks sweeps.marked))
 
 -- it was kept before
 pub forgets-kept : {N A : Type 0} (change : Change) (pages : ℕ) (es all : List (Entry N A)) (looked : ℕ) → Sweeps change pages es all looked
     → AllByRecursion (Contains es) all
 forgets-kept {N} {A} change pages es all looked sweeps =
-    let P : List (Entry N A) → Type 0 = λ xs. AllByRecursion (Contains es) xs in
-    subst P (sym sweeps.stays)
-    (All-entries_left (Contains es) sweeps.marks (subst P (sym sweeps.entries) (recursion_from_All (Contains es) es (All-contains_itself es))))
+    rw sweeps.stays (All-entries_left (Contains es) sweeps.marks (rw sweeps.entries (recursion_from_All (Contains es) es (All-contains_itself es))))

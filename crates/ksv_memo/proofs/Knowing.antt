@@ -17,8 +17,7 @@ pub sum-shift : (f : ℕ → ℕ) (a n : ℕ) → sum_by f (numbers_from (a + 1)
 sum-shift f a zero = refl
 sum-shift f a (suc n) =
     let e : a + 1 ≡ suc a = omega arith in
-    sum_by-cons f (a + 1) (numbers_from (a + 1 + 1) n) ∙ ap (λ k. f k + sum_by f (numbers_from (a + 1 + 1) n)) e
-    ∙ ap (λ k. f (suc a) + k) (sum-shift f (a + 1) n) ∙ sym (sum_by-cons (λ i. f (suc i)) a (numbers_from (a + 1) n))
+    cc (sum_by-cons f (a + 1) (numbers_from (a + 1 + 1) n), sum-shift f (a + 1) n, sum_by-cons (λ i. f (suc i)) a (numbers_from (a + 1) n))
 
 -- the flags that are set are as many as the numbers at which one is
 count_numbers : (ks : List Bool) (n : ℕ) → ((i : ℕ) → n ≤ i → is_kept ks i ≡ false)
@@ -37,9 +36,12 @@ count_numbers (k ∷ ks) zero h =
     sym (c ∙ (λ j. z j + sym rest j))
 count_numbers (k ∷ ks) (suc n) h =
     let e : 0 + 1 ≡ 1 = omega arith in
-    sum_by-cons (λ i. cond (is_kept (k ∷ ks) i) 1 0) 0 (numbers_from (0 + 1) n)
-    ∙ ap (λ x. cond k 1 0 + x) (sum-shift (λ i. cond (is_kept (k ∷ ks) i) 1 0) 0 n ∙ count_numbers ks n (λ i le. h (suc i) (omega arith)))
-    ∙ sym (sum_by-cons (λ (b : Bool). cond b 1 0) k ks)
+    cc (
+      sum_by-cons (λ i. cond (is_kept (k ∷ ks) i) 1 0) 0 (numbers_from (0 + 1) n),
+      sum-shift (λ i. cond (is_kept (k ∷ ks) i) 1 0) 0 n,
+      count_numbers ks n (λ i le. h (suc i) (omega arith)),
+      sum_by-cons (λ (b : Bool). cond b 1 0) k ks,
+    )
 
 module _ {N V F : Type 0} where
   past : (ps : List (N × Slot V F)) (i : ℕ) → length ps ≤ i → answer_at (slots_of ps) i ≡ None
@@ -63,7 +65,7 @@ module _ {N V F : Type 0} where
   module _ (ps : List (N × Slot V F)) (l : Linked) where
     pub find_entry : (is : List ℕ) (i : ℕ) (e : Entry N (Result V F)) → IsOneOf is i → entry_at ps l i ≡ Some e → IsOneOf (entries_at ps l is) e
     find_entry [] i e h at = absurd h
-    find_entry (j ∷ is) i e (inl same) at = in_first (entry_at ps l j) (entries_at ps l is) e (ap (entry_at ps l) same ∙ at)
+    find_entry (j ∷ is) i e (inl same) at = in_first _ (entries_at ps l is) e (cc)
     find_entry (j ∷ is) i e (inr h) at = in_later (entry_at ps l j) (entries_at ps l is) e (find_entry is i e h at)
 
     pub entry_of : (i : ℕ) (m : N) (a : Result V F) → i < length ps → node_at ps i ≡ Some m → answer_at (slots_of ps) i ≡ Some a
@@ -76,9 +78,8 @@ module _ {N V F : Type 0} where
     no_entry_here : (t : N → Bool) (j : ℕ) (o : Option N) (b : Option (Result V F)) → (is_some b ≡ true → (m : N) → o ≡ Some m → t m ≡ false)
         → (es : List (Entry N (Result V F))) → list_any (λ e. t e.node) es ≡ false
         → list_any (λ e. t e.node) (with_first (entry_with o b (nodes_at ps (row l.asked j)) (row l.uses j)) es) ≡ false
-    no_entry_here t j None b each es h = h
-    no_entry_here t j (Some n) None each es h = h
-    no_entry_here t j (Some n) (Some a) each es h = ap (λ b. b || list_any (λ (e : Entry N (Result V F)). t e.node) es) (each refl n refl) ∙ h
+    no_entry_here t j (Some n) (Some a) each es h = cc (each refl n refl)
+    no_entry_here _ _ _ _ _ _ h = h
 
     none_of : (t : N → Bool) → ((j : ℕ) (m : N) → IsKept ps j → node_at ps j ≡ Some m → t m ≡ false) → (is : List ℕ)
         → list_any (λ e. t e.node) (entries_at ps l is) ≡ false
@@ -99,9 +100,11 @@ module _ {N V F : Type 0} where
 
     count_of : (is : List ℕ) → length (entries_at ps l is) ≡ sum_by (λ i. cond (is_some (answer_at (slots_of ps) i)) 1 0) is
     count_of [] = refl
-    count_of (j ∷ is) = count_here j (node_at ps j) (answer_at (slots_of ps) j) (kept_node ps j) (entries_at ps l is)
-        ∙ ap (λ k. cond (is_some (answer_at (slots_of ps) j)) 1 0 + k) (count_of is)
-        ∙ sym (sum_by-cons (λ i. cond (is_some (answer_at (slots_of ps) i)) 1 0) j is)
+    count_of (j ∷ is) = cc (
+      count_here j (node_at ps j) (answer_at (slots_of ps) j) (kept_node ps j) (entries_at ps l is),
+      count_of is,
+      sum_by-cons (λ i. cond (is_some (answer_at (slots_of ps) i)) 1 0) j is,
+    )
 
     pub count_kept : AreLinked ps l → count_by (λ b. b) l.kept ≡ length (entries_of ps l)
     count_kept h =
@@ -116,7 +119,7 @@ module _ {N V F : Type 0} where
         → ((m : N) → o ≡ Some m → t m ≡ false) → list_any (λ p. t p.node) rest ≡ false
         → list_any (λ p. t p.node) (open_before o replies asked uses rest) ≡ false
     no_open_here t None replies asked uses rest each h = h
-    no_open_here t (Some n) replies asked uses rest each h = ap (λ b. b || list_any (λ (p : Open N (Result V F)). t p.node) rest) (each n refl) ∙ h
+    no_open_here t (Some n) replies asked uses rest each h = cc (each n refl)
 
     pub no_open : (t : N → Bool) → ((j : ℕ) (m : N) → IsOpen ps j → node_at ps j ≡ Some m → t m ≡ false)
         → (fs : List (Frame N)) (asked : List ℕ) (uses : List Use) → AllByRecursion (λ f. IsOpen ps f.slot) fs
@@ -143,7 +146,7 @@ module _ {N V F : Type 0} where
     some_open t [] asked uses i m h node pass = absurd h
     some_open t (f ∷ fs) asked uses i m (inl same) node pass =
         some_open_here t (node_at ps f.slot) (answers_at (slots_of ps) (drop f.asked asked)) (nodes_at ps (drop f.asked asked)) (drop f.uses uses)
-        (opens_in ps fs (take f.asked asked) (take f.uses uses)) m (ap (node_at ps) same ∙ node) pass
+        (opens_in ps fs (take f.asked asked) (take f.uses uses)) m (cc) pass
     some_open t (f ∷ fs) asked uses i m (inr h) node pass =
         some_open_later t (node_at ps f.slot) (answers_at (slots_of ps) (drop f.asked asked)) (nodes_at ps (drop f.asked asked)) (drop f.uses uses)
         (opens_in ps fs (take f.asked asked) (take f.uses uses)) (some_open t fs (take f.asked asked) (take f.uses uses) i m h node pass)
@@ -173,7 +176,7 @@ module _ {N V F : Type 0} where
   -- ---- a node that no slot has
   pub none_at : (t : N → Bool) (ps : List (N × Slot V F)) → list_any (λ p. t p.0) ps ≡ false → (j : ℕ) (m : N) → node_at ps j ≡ Some m → t m ≡ false
   none_at t [] h j m e = absurd (cc)
-  none_at t (p ∷ ps) h zero m e = let same : p.0 ≡ m = cc in ap t (sym same) ∙ (or_parts (t p.0) (list_any (λ (q : N × Slot V F). t q.0) ps) h).0
+  none_at t (p ∷ ps) h zero m e = let same : p.0 ≡ m = cc in cc (or_parts (t p.0) (list_any (λ (q : N × Slot V F). t q.0) ps) h).0
   none_at t (p ∷ ps) h (suc j) m e = none_at t ps (or_parts (t p.0) (list_any (λ (q : N × Slot V F). t q.0) ps) h).1 j m e
 
   -- ---- a node has one slot
@@ -188,10 +191,10 @@ module _ {N V F : Type 0} where
   one_slot eq laws (p ∷ ps) h zero zero m k e f same = refl
   one_slot eq laws (p ∷ ps) h zero (suc j) m k e f same = let apart : eq p.0 k ≡ false =
       key_at (λ y. eq p.0 y ≡ false) ps (IsDistinct-head eq p.0 (keys_of ps) h) j k f in let here : p.0 ≡ m = cc in let no : eq m k ≡ false =
-      ap (λ x. eq x k) (sym here) ∙ apart in absurd (cc)
+      cc in absurd (cc)
   one_slot eq laws (p ∷ ps) h (suc i) zero m k e f same = let apart : eq p.0 m ≡ false =
       key_at (λ y. eq p.0 y ≡ false) ps (IsDistinct-head eq p.0 (keys_of ps) h) i m e in let here : p.0 ≡ k = cc in let no : eq m k ≡ false =
-      laws.symm m k ∙ ap (λ x. eq x m) (sym here) ∙ apart in absurd (cc)
+      cc (laws.symm m k) in absurd (cc)
   one_slot eq laws (p ∷ ps) h (suc i) (suc j) m k e f same = ap suc (one_slot eq laws ps (IsDistinct-tail eq p.0 (keys_of ps) h) i j m k e f same)
 
   -- so where a node's slot is that of a number, another slot's node isn't it

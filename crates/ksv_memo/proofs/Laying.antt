@@ -7,19 +7,13 @@ use Rattle.ksv_memo.proofs.Common.{All-++}
 use Rattle.ksv_memo_rules.specs.declared.replies.Slot.TheVariants.{Open as opened}
 
 pub All-take : {X : Type 0} (P : X → Type 0) (k : ℕ) (xs : List X) → AllByRecursion P xs → AllByRecursion P (take k xs)
-All-take P zero xs h = tt
-All-take P (suc k) [] h = tt
 All-take P (suc k) (x ∷ xs) h = (h.0, All-take P k xs h.1)
+All-take _ _ _ _ = tt
 
 pub All-drop : {X : Type 0} (P : X → Type 0) (k : ℕ) (xs : List X) → AllByRecursion P xs → AllByRecursion P (drop k xs)
 All-drop P zero xs h = h
 All-drop P (suc k) [] h = tt
 All-drop P (suc k) (x ∷ xs) h = All-drop P k xs h.1
-
-pub get_append : {X : Type 0} (xs ys : List X) (i : ℕ) (x : X) → slice_get xs i ≡ Some x → slice_get (xs ++ ys) i ≡ Some x
-get_append [] ys i x e = absurd (cc)
-get_append (y ∷ xs) ys zero x e = e
-get_append (y ∷ xs) ys (suc i) x e = get_append xs ys i x e
 
 pub some-of : {X : Type 0} (o : Option X) → is_some o ≡ true → (x : X) × (o ≡ Some x)
 some-of None e = absurd (cc)
@@ -31,29 +25,6 @@ one_of-all P [] h x m = absurd m
 one_of-all P (y ∷ xs) h x (inl e) = subst P e h.0
 one_of-all P (y ∷ xs) h x (inr m) = one_of-all P xs h.1 x m
 
-pub one_of-left : {X : Type 0} (xs ys : List X) (x : X) → IsOneOf xs x → IsOneOf (xs ++ ys) x
-one_of-left [] ys x m = absurd m
-one_of-left (y ∷ xs) ys x (inl e) = inl e
-one_of-left (y ∷ xs) ys x (inr m) = inr (one_of-left xs ys x m)
-
-pub one_of-right : {X : Type 0} (xs ys : List X) (x : X) → IsOneOf ys x → IsOneOf (xs ++ ys) x
-one_of-right [] ys x m = m
-one_of-right (y ∷ xs) ys x m = inr (one_of-right xs ys x m)
-
-pub one_of-push : {X : Type 0} (xs : List X) (y x : X) → IsOneOf (xs ++ y ∷ []) x → IsOneOf xs x ⊎ (y ≡ x)
-one_of-push [] y x (inl e) = inr e
-one_of-push [] y x (inr m) = absurd m
-one_of-push (z ∷ xs) y x (inl e) = inl (inl e)
-one_of-push (z ∷ xs) y x (inr m) = by (one_of-push xs y x m)
-  where
-    by : IsOneOf xs x ⊎ (y ≡ x) → IsOneOf (z ∷ xs) x ⊎ (y ≡ x)
-    by (inl k) = inl (inr k)
-    by (inr e) = inr e
-
-pub AllDiffer-push : (xs : List ℕ) (y : ℕ) → AllDiffer xs → AllByRecursion (λ x. x ≢ y) xs → AllDiffer (xs ++ y ∷ [])
-AllDiffer-push [] y h k = (tt, tt)
-AllDiffer-push (x ∷ xs) y h k = (All-++ (λ j. x ≢ j) xs (y ∷ []) h.0 (k.0, tt), AllDiffer-push xs y h.1 k.1)
-
 pub same_or : (j i : ℕ) → (j ≡ i) ⊎ (j ≢ i)
 same_or j i = by (nat_eq j i) refl
   where
@@ -63,8 +34,7 @@ same_or j i = by (nat_eq j i) refl
 
 pub answers_at-append : {V F : Type 0} (ss : List (Slot V F)) (is js : List ℕ) → answers_at ss (is ++ js) ≡ answers_at ss is ++ answers_at ss js
 answers_at-append {V} {F} ss [] js = refl
-answers_at-append {V} {F} ss (i ∷ is) js = ap (with_first (answer_at ss i)) (answers_at-append ss is js)
-    ∙ first-append (answer_at ss i) (answers_at ss is) (answers_at ss js)
+answers_at-append {V} {F} ss (i ∷ is) js = cc (answers_at-append ss is js, first-append (answer_at ss i) (answers_at ss is) (answers_at ss js))
   where
     first-append : (o : Option (Result V F)) (xs ys : List (Result V F)) → with_first o (xs ++ ys) ≡ with_first o xs ++ ys
     first-append None xs ys = refl
@@ -89,7 +59,7 @@ module _ {N V F : Type 0} where
   slot_node (Some p) e = refl
 
   pub kept_node : (ps : List (N × Slot V F)) (i : ℕ) → IsKept ps i → HasNode ps i
-  kept_node ps i h = slot_node (slice_get ps i) (ap (λ o. is_some (answer_of o)) (sym (slice_get-map (λ p. p.1) ps i)) ∙ h)
+  kept_node ps i h = slot_node (slice_get ps i) (cc (slice_get-map (λ p. p.1) ps i))
 
   some_node : (o : Option (N × Slot V F)) (s : Slot V F) → option_map (λ p. p.1) o ≡ Some s → is_some (option_map (λ p. p.0) o) ≡ true
   some_node None s e = absurd (cc)
@@ -114,12 +84,11 @@ module _ {N V F : Type 0} where
 
     pub same_nodes : (is : List ℕ) → AllByRecursion (IsKept ps) is → nodes_at qs is ≡ nodes_at ps is
     same_nodes [] h = refl
-    same_nodes (i ∷ is) h = ap (λ o. with_first o (nodes_at qs is)) (same_node i (inl h.0)) ∙ ap (with_first (node_at ps i)) (same_nodes is h.1)
+    same_nodes (i ∷ is) h = cc (same_node i (inl h.0), same_nodes is h.1)
 
     pub same_answers : (is : List ℕ) → AllByRecursion (IsKept ps) is → answers_at (slots_of qs) is ≡ answers_at (slots_of ps) is
     same_answers [] h = refl
-    same_answers (i ∷ is) h = ap (λ o. with_first o (answers_at (slots_of qs) is)) (same_answer i h.0)
-        ∙ ap (with_first (answer_at (slots_of ps) i)) (same_answers is h.1)
+    same_answers (i ∷ is) h = cc (same_answer i h.0, same_answers is h.1)
 
     -- so the entry of a kept node is the same
     pub same_entry : (l m : Linked) (i : ℕ) → IsKept ps i → AllByRecursion (IsKept ps) (row l.asked i) → row m.asked i ≡ row l.asked i
@@ -133,19 +102,17 @@ module _ {N V F : Type 0} where
         → opens_in qs fs asked uses ≡ opens_in ps fs asked uses
     same_opens [] asked uses h k = refl
     same_opens (f ∷ fs) asked uses h k =
-        ap (λ o. open_before o (answers_at (slots_of qs) (drop f.asked asked)) (nodes_at qs (drop f.asked asked)) (drop f.uses uses)
-        (opens_in qs fs (take f.asked asked) (take f.uses uses))) (same_node f.slot (inr h.0))
-        ∙ ap (λ rs. open_before (node_at ps f.slot) rs (nodes_at qs (drop f.asked asked)) (drop f.uses uses)
-        (opens_in qs fs (take f.asked asked) (take f.uses uses))) (same_answers (drop f.asked asked) (All-drop (IsKept ps) f.asked asked k))
-        ∙ ap (λ ns. open_before (node_at ps f.slot) (answers_at (slots_of ps) (drop f.asked asked)) ns (drop f.uses uses)
-        (opens_in qs fs (take f.asked asked) (take f.uses uses))) (same_nodes (drop f.asked asked) (All-drop (IsKept ps) f.asked asked k))
-        ∙ ap (open_before (node_at ps f.slot) (answers_at (slots_of ps) (drop f.asked asked)) (nodes_at ps (drop f.asked asked)) (drop f.uses uses))
-        (same_opens fs (take f.asked asked) (take f.uses uses) h.1 (All-take (IsKept ps) f.asked asked k))
+        cc (
+          same_node f.slot (inr h.0),
+          same_answers (drop f.asked asked) (All-drop (IsKept ps) f.asked asked k),
+          same_nodes (drop f.asked asked) (All-drop (IsKept ps) f.asked asked k),
+          same_opens fs (take f.asked asked) (take f.uses uses) h.1 (All-take (IsKept ps) f.asked asked k),
+        )
 
   -- ---- lists of slots end to end
   pub nodes_at-append : (ps : List (N × Slot V F)) (is js : List ℕ) → nodes_at ps (is ++ js) ≡ nodes_at ps is ++ nodes_at ps js
   nodes_at-append ps [] js = refl
-  nodes_at-append ps (i ∷ is) js = ap (with_first (node_at ps i)) (nodes_at-append ps is js) ∙ first-append (node_at ps i) (nodes_at ps is) (nodes_at ps js)
+  nodes_at-append ps (i ∷ is) js = cc (nodes_at-append ps is js, first-append (node_at ps i) (nodes_at ps is) (nodes_at ps js))
     where
       first-append : (o : Option N) (xs ys : List N) → with_first o (xs ++ ys) ≡ with_first o xs ++ ys
       first-append None xs ys = refl
@@ -163,8 +130,7 @@ module _ {N V F : Type 0} where
 
   pub entries_at-append : (ps : List (N × Slot V F)) (l : Linked) (is js : List ℕ) → entries_at ps l (is ++ js) ≡ entries_at ps l is ++ entries_at ps l js
   entries_at-append ps l [] js = refl
-  entries_at-append ps l (i ∷ is) js = ap (with_first (entry_at ps l i)) (entries_at-append ps l is js)
-      ∙ first-append (entry_at ps l i) (entries_at ps l is) (entries_at ps l js)
+  entries_at-append ps l (i ∷ is) js = cc (entries_at-append ps l is js, first-append (entry_at ps l i) (entries_at ps l is) (entries_at ps l js))
     where
       first-append : (o : Option (Entry N (Result V F))) (xs ys : List (Entry N (Result V F))) → with_first o (xs ++ ys) ≡ with_first o xs ++ ys
       first-append None xs ys = refl
@@ -173,7 +139,7 @@ module _ {N V F : Type 0} where
   pub entries_at-same : (ps qs : List (N × Slot V F)) (l m : Linked) (is : List ℕ) → AllByRecursion (λ i. entry_at qs m i ≡ entry_at ps l i) is
       → entries_at qs m is ≡ entries_at ps l is
   entries_at-same ps qs l m [] h = refl
-  entries_at-same ps qs l m (i ∷ is) h = ap (λ o. with_first o (entries_at qs m is)) h.0 ∙ ap (with_first (entry_at ps l i)) (entries_at-same ps qs l m is h.1)
+  entries_at-same ps qs l m (i ∷ is) h = cc (entries_at-same ps qs l m is h.1)
 
 -- ---- the numbers of slots
 pub All-numbers : (P : ℕ → Type 0) (a n : ℕ) → ((j : ℕ) → a ≤ j → j < a + n → P j) → AllByRecursion P (numbers_from a n)
@@ -181,11 +147,11 @@ All-numbers P a zero h = tt
 All-numbers P a (suc n) h = (h a (omega arith) (omega arith), All-numbers P (a + 1) n (λ j le lt. h j (omega arith) (omega arith)))
 
 pub numbers-split : (a n m : ℕ) → numbers_from a (n + m) ≡ numbers_from a n ++ numbers_from (a + n) m
-numbers-split a zero m = let e : 0 + m ≡ m = omega arith in let f : a ≡ a + 0 = omega arith in ap (numbers_from a) e ∙ ap (λ k. numbers_from k m) f
+numbers-split a zero m = let e : 0 + m ≡ m = omega arith in let f : a ≡ a + 0 = omega arith in cc
 numbers-split a (suc n) m =
     let e : suc n + m ≡ suc (n + m) = omega arith in
     let f : a + 1 + n ≡ a + suc n = omega arith in
-    ap (numbers_from a) e ∙ ap (λ ns. a ∷ ns) (numbers-split (a + 1) n m ∙ ap (λ k. numbers_from (a + 1) n ++ numbers_from k m) f)
+    cc (numbers-split (a + 1) n m)
 
 pub number_in : (a n i : ℕ) → a ≤ i → i < a + n → IsOneOf (numbers_from a n) i
 number_in a zero i le lt = absurd (omega arith)

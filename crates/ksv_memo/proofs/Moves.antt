@@ -40,31 +40,28 @@ pub stepped : {N A : Type 0} (w : Standing N A) → IsSettled w → (es : List (
     → HasCome w es o → HasStepped w es (with_uses o (w.added o.node o.replies)) s
 unfolding with_step
 stepped w law es o (Done a) e h = record {
-  came = λ g agree. h.came g agree ∙ ap (after o.asked o.uses)
-      (told-more w g o.node o.replies h.few
-      ∙ ap (with_step g (w.added o.node o.replies) (λ b. told w g o.node (w.replies - length o.replies) (o.replies ++ b ∷ []))) (sym e))
-      ∙ ended o.asked o.uses (w.added o.node o.replies) a;
+  came = λ g agree. cc (h.came g agree, told-more w g o.node o.replies h.few, ended o.asked o.uses (w.added o.node o.replies) a);
   closed = h.closed;
   few = h.few;
 }
 stepped w law es o (Need m) e h = record {
-  came = λ g agree. h.came g agree ∙ ap (after o.asked o.uses)
-      (told-more w g o.node o.replies h.few
-      ∙ ap (with_step g (w.added o.node o.replies) (λ b. told w g o.node (w.replies - length o.replies) (o.replies ++ b ∷ []))) (sym e))
-      ∙ waited o.asked m o.uses (w.added o.node o.replies)
-      (with_reply (λ b. told w g o.node (w.replies - length o.replies) (o.replies ++ b ∷ [])) (g m));
+  came = λ g agree. cc (
+    h.came g agree,
+    told-more w g o.node o.replies h.few,
+    waited o.asked m o.uses (w.added o.node o.replies) (with_reply (λ b. told w g o.node (w.replies - length o.replies) (o.replies ++ b ∷ [])) (g m)),
+  );
   closed = h.closed;
-  few = let no : w.replies ≤ length o.replies → ⊥ = λ le. not_need m (w.follow o.node o.replies) (sym e) (law.settles o.node o.replies le) in omega arith;
+  few = let no : w.replies ≤ length o.replies → ⊥ = λ le. not_need m _ (sym e) (law.settles o.node o.replies le) in omega arith;
 }
 
 pub value-stepped : {N A : Type 0} (w : Standing N A) (es : List (Entry N A)) (o : Open N A) (st : List (Open N A)) (s : Next N A)
     → s ≡ w.follow o.node o.replies → HasCome w es o → value_at w (with_uses o (w.added o.node o.replies)) st s ≡ value_of w o st
 unfolding with_step
-value-stepped {N} {A} w es o st (Done a) e h = ap (λ (u : Told N A). climbed w st u.outcome)
+value-stepped {N} {A} w es o st (Done a) e h = ap (λ u. climbed w st u.outcome)
     (sym (told-more w (answering w (o.node ∷ nodes_in st)) o.node o.replies h.few
     ∙ ap (with_step (answering w (o.node ∷ nodes_in st)) (w.added o.node o.replies)
     (λ b. told w (answering w (o.node ∷ nodes_in st)) o.node (w.replies - length o.replies) (o.replies ++ b ∷ []))) (sym e)))
-value-stepped {N} {A} w es o st (Need m) e h = ap (λ (u : Told N A). climbed w st u.outcome)
+value-stepped {N} {A} w es o st (Need m) e h = ap (λ u. climbed w st u.outcome)
     (sym (told-more w (answering w (o.node ∷ nodes_in st)) o.node o.replies h.few
     ∙ ap (with_step (answering w (o.node ∷ nodes_in st)) (w.added o.node o.replies)
     (λ b. told w (answering w (o.node ∷ nodes_in st)) o.node (w.replies - length o.replies) (o.replies ++ b ∷ []))) (sym e)))
@@ -82,9 +79,7 @@ pub replied : {N A : Type 0} (w : Standing N A) (es : List (Entry N A)) (o : Ope
     → ((g : N → Outcome N A) → Agrees es g → g m ≡ Answered a) → HasCome w es (with_answer o m a)
 unfolding with_reply
 replied w es o m a h is_in says = record {
-  came = λ g agree. h.came g agree
-      ∙ ap (λ out. after (o.asked ++ m ∷ []) o.uses (with_reply (λ b. told w g o.node (w.replies - length o.replies) (o.replies ++ b ∷ [])) out))
-      (says g agree) ∙ ap (after (o.asked ++ m ∷ []) o.uses) (told-replied w g o.node o.replies a);
+  came = λ g agree. cc (h.came g agree, says g agree, told-replied w g o.node o.replies a);
   closed = All-++ (IsIn w (nodes_of es)) o.asked (m ∷ []) h.closed (is_in, tt);
   few = let lt : length o.replies < w.replies = h.few in simp length-append (omega arith);
 }
@@ -92,7 +87,7 @@ replied w es o m a h is_in says = record {
 pub value-replied : {N A : Type 0} (w : Standing N A) (o : Open N A) (m : N) (a : A) (st : List (Open N A))
     → value_of w (with_answer o m a) st ≡ climbed w (o ∷ st) (Answered a)
 unfolding with_reply
-value-replied {N} {A} w o m a st = ap (λ (u : Told N A). climbed w st u.outcome) (sym (told-replied w (answering w (o.node ∷ nodes_in st)) o.node o.replies a))
+value-replied {N} {A} w o m a st = ap (λ u. climbed w st u.outcome) (sym (told-replied w (answering w (o.node ∷ nodes_in st)) o.node o.replies a))
 
 -- ---- a circle ends the question
 pub climbed-circle : {N A : Type 0} (w : Standing N A) (st : List (Open N A)) (c : N) → climbed w st (Circle c) ≡ Circle c
@@ -102,7 +97,7 @@ climbed-circle w (o ∷ st) c = climbed-circle w st c
 
 pub value-circle : {N A : Type 0} (w : Standing N A) (o : Open N A) (st : List (Open N A)) (m : N) → is_among w.number (o.node ∷ nodes_in st) m ≡ true
     → value_at w o st (Need m) ≡ Circle m
-value-circle {N} {A} w o st m e = ap (λ (u : Told N A). climbed w (o ∷ st) u.outcome) (tells-open w (o.node ∷ nodes_in st) m e) ∙ climbed-circle w (o ∷ st) m
+value-circle {N} {A} w o st m e = cc (tells-open w (o.node ∷ nodes_in st) m e, climbed-circle w (o ∷ st) m)
 
 -- ---- a node is opened
 pub starts : {N A : Type 0} (w : Standing N A) (es : List (Entry N A)) (n : N) → HasCome w es (newly n)
@@ -152,8 +147,7 @@ pub IsWaiting-keep : {N A : Type 0} (w : Standing N A) (es : List (Entry N A)) (
     → IsWaiting w (es ++ e ∷ []) o m
 IsWaiting-keep {N} {A} w es e o m h = record {
   came = λ g agree. h.came g (All-left (λ (x : Entry N A). g x.node ≡ Answered x.answer) es (e ∷ []) agree);
-  closed = let P : List N → Type 0 = λ ns. AllByRecursion (IsIn w ns) o.asked in subst P (sym (nodes_of-append es (e ∷ [])))
-      (All-map (IsIn-append w (nodes_of es) (e.node ∷ [])) o.asked h.closed);
+  closed = rw (nodes_of-append es (e ∷ [])) (All-map (IsIn-append w (nodes_of es) (e.node ∷ [])) o.asked h.closed);
   few = h.few;
 }
 
@@ -167,9 +161,12 @@ apart-keep : {N A : Type 0} (w : Standing N A) (es : List (Entry N A)) (e : Entr
 apart-keep w es e [] h k = tt
 apart-keep w es e (n ∷ ns) h k =
     let other : nat_eq (w.number n) (w.number e.node) ≡ false = nat_eq_equiv.symm (w.number n) (w.number e.node) ∙ k.0 in (
-      ap (λ ms. is_among w.number ms n) (nodes_of-append es (e ∷ [])) ∙ is_among-append w.number (nodes_of es) (e.node ∷ []) n
-          ∙ or_from (is_among w.number (nodes_of es) n) (is_among w.number (e.node ∷ []) n) h.0
-          (or_from (nat_eq (w.number n) (w.number e.node)) false other refl),
+      cc (
+        nodes_of-append es (e ∷ []),
+        is_among-append w.number (nodes_of es) (e.node ∷ []) n,
+        or_from (is_among w.number (nodes_of es) n) (is_among w.number (e.node ∷ []) n) h.0
+            (or_from (nat_eq (w.number n) (w.number e.node)) false other refl),
+      ),
       apart-keep w es e ns h.1 k.1,
     )
 
@@ -199,12 +196,11 @@ rest-stepped {N} {A} w es o st (Done a) e h = ap (told_rest w o.node st)
 rest-stepped {N} {A} w es o st (Need m) e h =
     let t : Told N A = with_reply (λ b. told w (answering w (o.node ∷ nodes_in st)) o.node (w.replies - length o.replies) (o.replies ++ b ∷ []))
     (answering w (o.node ∷ nodes_in st) m) in
-    sym (append_assoc (done w (o.node ∷ nodes_in st) m) (flat_map (done w (o.node ∷ nodes_in st)) t.asked)
-    (if_answered o.node t.outcome ++ climbed_rest w st t.outcome))
-    ∙ ap (told_rest w o.node st)
-    (sym (told-more w (answering w (o.node ∷ nodes_in st)) o.node o.replies h.few
-    ∙ ap (with_step (answering w (o.node ∷ nodes_in st)) (w.added o.node o.replies)
-    (λ b. told w (answering w (o.node ∷ nodes_in st)) o.node (w.replies - length o.replies) (o.replies ++ b ∷ []))) (sym e)))
+    cc (
+      append_assoc (done w (o.node ∷ nodes_in st) m) (flat_map (done w (o.node ∷ nodes_in st)) t.asked)
+          (if_answered o.node t.outcome ++ climbed_rest w st t.outcome),
+      told-more w (answering w (o.node ∷ nodes_in st)) o.node o.replies h.few,
+    )
 
 pub rest-replied : {N A : Type 0} (w : Standing N A) (o : Open N A) (m : N) (a : A) (st : List (Open N A))
     → rest_of w (with_answer o m a) st ≡ climbed_rest w (o ∷ st) (Answered a)
@@ -219,17 +215,19 @@ climbed_rest-circle w (o ∷ st) c = climbed_rest-circle w st c
 pub rest-circle : {N A : Type 0} (w : Standing N A) (o : Open N A) (st : List (Open N A)) (m : N) → is_among w.number (o.node ∷ nodes_in st) m ≡ true
     → rest_at w o st (Need m) ≡ []
 rest-circle {N} {A} w o st m e =
-    ap (λ xs. xs ++ climbed_rest w (o ∷ st) (answering w (o.node ∷ nodes_in st) m)) (completed-open w w.nodes (o.node ∷ nodes_in st) m e)
-    ∙ ap (λ (u : Told N A). climbed_rest w (o ∷ st) u.outcome) (tells-open w (o.node ∷ nodes_in st) m e) ∙ climbed_rest-circle w (o ∷ st) m
+    cc (completed-open w w.nodes (o.node ∷ nodes_in st) m e, tells-open w (o.node ∷ nodes_in st) m e, climbed_rest-circle w (o ∷ st) m)
 
 pub rest-starts : {N A : Type 0} (w : Standing N A) → IsSettled w → (st : List (Open N A)) (m : N) → AreDistinct w (nodes_in st) → IsOut w (nodes_in st) m
     → rest_of w (newly m) st ≡ done w (nodes_in st) m ++ climbed_rest w st (answering w (nodes_in st) m)
 rest-starts {N} {A} w law st m d out =
     let eq : suc w.replies - 0 ≡ suc w.replies = omega arith in
     let t : Told N A = tells w (nodes_in st) m in
-    ap (told_rest w m st) (ap (λ j. told w (answering w (m ∷ nodes_in st)) m j []) eq ∙ sym (tells-free w law (nodes_in st) m d out))
-    ∙ sym (append_assoc (flat_map (done w (m ∷ nodes_in st)) t.asked) (if_answered m t.outcome) (climbed_rest w st t.outcome))
-    ∙ ap (λ xs. xs ++ climbed_rest w st (answering w (nodes_in st) m)) (sym (done-free w law (nodes_in st) m d out))
+    cc (
+      tells-free w law (nodes_in st) m d out,
+      append_assoc (flat_map (done w (m ∷ nodes_in st)) t.asked) (if_answered m t.outcome)
+          (climbed_rest w st t.outcome),
+      done-free w law (nodes_in st) m d out,
+    )
 
 -- ---- what is kept and to be completed stays the same
 pub fresh-out : {N : Type 0} (number : N → ℕ) (kept : List N) (n : N) (ms : List N) → is_among number kept n ≡ false
@@ -249,9 +247,11 @@ fresh-nil number kept = refl
 pub covers-keep : {N A : Type 0} (w : Standing N A) (es : List (Entry N A)) (e : Entry N A) (n : N) (rest : List N) → e.node ≡ n → IsOut w (nodes_of es) n
     → to_keep w (es ++ e ∷ []) rest ≡ to_keep w es (n ∷ rest)
 covers-keep w es e n rest node out =
-    ap (λ ns. ns ++ fresh w.number ns rest) (nodes_of-append es (e ∷ []) ∙ ap (λ m. nodes_of es ++ m ∷ []) node)
-    ∙ append_assoc (nodes_of es) (n ∷ []) (fresh w.number (nodes_of es ++ n ∷ []) rest)
-    ∙ ap (λ r. nodes_of es ++ r) (sym (fresh-out w.number (nodes_of es) n rest out))
+    cc (
+      nodes_of-append es (e ∷ []),
+      append_assoc (nodes_of es) (n ∷ []) (fresh w.number (nodes_of es ++ n ∷ []) rest),
+      fresh-out w.number (nodes_of es) n rest out,
+    )
 
 fresh-drop : {N A : Type 0} (w : Standing N A) (kept ms rest : List N) → AllByRecursion (IsIn w kept) ms
     → fresh w.number kept (ms ++ rest) ≡ fresh w.number kept rest
@@ -275,9 +275,7 @@ pub debt-keep : {N A : Type 0} (w : Standing N A) → IsSettled w
     → (es : List (Entry N A)) (e : Entry N A) (o : Open N A) (st : List (Open N A)) (a : A) (rest : List N) → IsStack w es o.node st → HasEnded w es o a
     → e.node ≡ o.node → debt w es (o.node ∷ rest) ≡ length o.asked + 1 + debt w (es ++ e ∷ []) rest
 debt-keep {N} {A} w law es e o st a rest h ended node =
-    ap (costs w) (fresh-out w.number (nodes_of es) o.node rest h.apart.0)
-    ∙ ap (λ (t : Told N A). length t.asked + 1 + costs w (fresh w.number (nodes_of es ++ o.node ∷ []) rest)) (ended-tells w law es o st a h ended)
-    ∙ ap (λ ns. length o.asked + 1 + costs w (fresh w.number ns rest)) (sym (nodes_of-append es (e ∷ []) ∙ ap (λ m. nodes_of es ++ m ∷ []) node))
+    cc (fresh-out w.number (nodes_of es) o.node rest h.apart.0, ended-tells w law es o st a h ended, nodes_of-append es (e ∷ []))
 
 pub debt-drop : {N A : Type 0} (w : Standing N A) (es : List (Entry N A)) (ms rest : List N) → AllByRecursion (IsIn w (nodes_of es)) ms
     → debt w es rest ≡ debt w es (ms ++ rest)

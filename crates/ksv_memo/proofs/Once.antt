@@ -28,46 +28,45 @@ use_decides Size Size = (λ e. refl, λ e. refl)
 once-seen : {X : Type 0} (once xs : List X) (x : X) → HasEachOnce once xs → Contains once x → HasEachOnce once (xs ++ x ∷ [])
 once-seen {X} once xs x h seen = record {
   distinct = h.distinct;
-  same = λ y. (λ k. Contains-append_left xs (x ∷ []) y ((h.same y).0 k), λ k. by y (Contains-push_cases xs x y k));
+  same = λ y. (
+    λ k. Contains-append_left xs (x ∷ []) y ((h.same y).0 k),
+    λ k. elim (Contains-push_cases xs x y k) [
+      | inl k ↦ (h.same y).1 k
+      | inr e ↦ subst (Contains once) e seen
+    ],
+  );
 }
-  where
-    by : (y : X) → Contains xs y ⊎ (x ≡ y) → Contains once y
-    by y (inl k) = (h.same y).1 k
-    by y (inr e) = subst (Contains once) e seen
 
 -- a new member
 once-new : {X : Type 0} (once xs : List X) (x : X) → HasEachOnce once xs → (Contains once x → ⊥) → HasEachOnce (once ++ x ∷ []) (xs ++ x ∷ [])
 once-new {X} once xs x h unseen = record {
   distinct = all_pairs_push (λ a b. a ≢ b) once x h.distinct (λ k d lt e. unseen (subst (Contains once) e (Contains-get_or once k d lt)));
-  same = λ y. (λ k. there y (Contains-push_cases once x y k), λ k. back y (Contains-push_cases xs x y k));
+  same = λ y. (
+    λ k. elim (Contains-push_cases once x y k) [
+      | inl k ↦ Contains-append_left xs (x ∷ []) y ((h.same y).0 k)
+      | inr e ↦ subst (Contains (xs ++ x ∷ [])) e (Contains-push xs x)
+    ],
+    λ k. elim (Contains-push_cases xs x y k) [
+      | inl k ↦ Contains-append_left once (x ∷ []) y ((h.same y).1 k)
+      | inr e ↦ subst (Contains (once ++ x ∷ [])) e (Contains-push once x)
+    ],
+  );
 }
-  where
-    there : (y : X) → Contains once y ⊎ (x ≡ y) → Contains (xs ++ x ∷ []) y
-    there y (inl k) = Contains-append_left xs (x ∷ []) y ((h.same y).0 k)
-    there y (inr e) = subst (Contains (xs ++ x ∷ [])) e (Contains-push xs x)
-
-    back : (y : X) → Contains xs y ⊎ (x ≡ y) → Contains (once ++ x ∷ []) y
-    back y (inl k) = Contains-append_left once (x ∷ []) y ((h.same y).1 k)
-    back y (inr e) = subst (Contains (once ++ x ∷ [])) e (Contains-push once x)
 
 -- what the test for a member says
 pub member_test : (seen once : List Use) (x : Use) (r : Bool) → seen ≡ once → IsAnyAnswer (λ y b. ghosts.eq y x ≡ b) seen r → Decides r (Contains once x)
 member_test seen once x r same is =
-    let P : List Use → Type 0 = λ xs. Decides r (Contains xs x) in
-    subst P same (Decides-contains seen x r (contains_decides ghosts.eq use_decides seen x r is))
+    rw same at (Decides-contains seen x r (contains_decides ghosts.eq use_decides seen x r is))
 
 -- one more member of a list is looked at
 pub once-keeps : (once now uses : List Use) (i : ℕ) (d : Use) (r : Bool) → i < length uses → HasEachOnce once (take i uses)
     → Decides r (Contains once (get_or uses i d)) → r ≡ true → now ≡ once → HasEachOnce now (take (i + 1) uses)
 once-keeps once now uses i d r lt h says is same =
     let more : take (i + 1) uses ≡ take i uses ++ get_or uses i d ∷ [] = rw add-one (take-suc uses i d lt) in
-    let P : List Use → List Use → Type 0 = λ xs ys. HasEachOnce xs ys in
-    subst (λ xs. P xs (take (i + 1) uses)) (sym same) (subst (P once) (sym more) (once-seen once (take i uses) (get_or uses i d) h (says.0 is)))
+    rw same (rw more (once-seen _ _ (get_or uses i d) h (says.0 is)))
 
 pub once-takes : (once now uses : List Use) (i : ℕ) (d : Use) (r : Bool) → i < length uses → HasEachOnce once (take i uses)
     → Decides r (Contains once (get_or uses i d)) → r ≡ false → now ≡ once ++ get_or uses i d ∷ [] → HasEachOnce now (take (i + 1) uses)
 once-takes once now uses i d r lt h says is same =
     let more : take (i + 1) uses ≡ take i uses ++ get_or uses i d ∷ [] = rw add-one (take-suc uses i d lt) in
-    let P : List Use → List Use → Type 0 = λ xs ys. HasEachOnce xs ys in
-    subst (λ xs. P xs (take (i + 1) uses)) (sym same)
-    (subst (P (once ++ get_or uses i d ∷ [])) (sym more) (once-new once (take i uses) (get_or uses i d) h (λ k. true≢false (sym (says.1 k) ∙ is))))
+    rw same (rw more (once-new _ _ (get_or uses i d) h (λ k. true≢false (sym (says.1 k) ∙ is))))

@@ -25,7 +25,7 @@ unfolding fresh
 fresh-same number ns ms [] h = refl
 fresh-same {N} number ns ms (m ∷ rest) h = by (is_among number ns m) (is_among number ms m) (h m) (fresh-same number ns ms rest h)
     (fresh-same number (ns ++ m ∷ []) (ms ++ m ∷ []) rest
-    (λ x. is_among-append number ns (m ∷ []) x ∙ ap (λ b. b || is_among number (m ∷ []) x) (h x) ∙ sym (is_among-append number ms (m ∷ []) x)))
+    (λ x. cc (is_among-append number ns (m ∷ []) x, h x, is_among-append number ms (m ∷ []) x)))
   where
     by : (a b : Bool) → a ≡ b → fresh number ns rest ≡ fresh number ms rest → fresh number (ns ++ m ∷ []) rest ≡ fresh number (ms ++ m ∷ []) rest
         → cond a (fresh number ns rest) (m ∷ fresh number (ns ++ m ∷ []) rest) ≡ cond b (fresh number ms rest) (m ∷ fresh number (ms ++ m ∷ []) rest)
@@ -56,17 +56,19 @@ module _ {N A : Type 0} (w : Standing N A) (front back : List (Entry N A)) (e : 
 
   pub among-moved : (x : N) → is_among w.number (nodes_of last) x ≡ is_among w.number (nodes_of among) x
   among-moved x =
-      ap (λ ns. is_among w.number ns x) (nodes_of-append (front ++ back) (e ∷ []) ∙ ap (λ ns. ns ++ e.node ∷ []) (nodes_of-append front back))
-      ∙ is_among-append w.number (nodes_of front ++ nodes_of back) (e.node ∷ []) x
-      ∙ ap (λ b. b || is_among w.number (e.node ∷ []) x) (is_among-append w.number (nodes_of front) (nodes_of back) x)
-      ∙ or-turned (is_among w.number (nodes_of front) x) (is_among w.number (nodes_of back) x) (nat_eq (w.number x) (w.number e.node))
-      ∙ sym (is_among-append w.number (nodes_of front) (e.node ∷ nodes_of back) x)
-      ∙ ap (λ ns. is_among w.number ns x) (sym (nodes_of-append front (e ∷ back)))
+      cc (
+        nodes_of-append (front ++ back) (e ∷ []),
+        nodes_of-append front back,
+        is_among-append w.number (nodes_of front ++ nodes_of back) (e.node ∷ []) x,
+        is_among-append w.number (nodes_of front) (nodes_of back) x,
+        or-turned (is_among w.number (nodes_of front) x) (is_among w.number (nodes_of back) x) (nat_eq (w.number x) (w.number e.node)),
+        is_among-append w.number (nodes_of front) (e.node ∷ nodes_of back) x,
+        nodes_of-append front (e ∷ back),
+      )
 
   length-moved : length last ≡ length among
   length-moved =
-      let a = length-append (front ++ back) (e ∷ []) in let b = length-append front back in let c = length-append front (e ∷ back) in
-      omega arith
+      omega (arith, length-append (front ++ back) (e ∷ []), length-append front back, length-append front (e ∷ back))
 
   turned : (xs ys : List ℕ) (n : ℕ) → IsPermutation ((xs ++ ys) ++ n ∷ []) (xs ++ n ∷ ys)
   turned xs ys n =
@@ -78,10 +80,10 @@ module _ {N A : Type 0} (w : Standing N A) (front back : List (Entry N A)) (e : 
   distinct-moved : AreDistinct w (nodes_of last) → AreDistinct w (nodes_of among)
   distinct-moved h =
       let numbers : List (Entry N A) → List ℕ = λ es. map w.number (nodes_of es) in
-      let cut : (xs ys : List (Entry N A)) → numbers (xs ++ ys) ≡ numbers xs ++ numbers ys = λ xs ys. ap (map w.number) (nodes_of-append xs ys)
-      ∙ map-append w.number (nodes_of xs) (nodes_of ys) in
+      let cut : (xs ys : List (Entry N A)) → numbers (xs ++ ys) ≡ numbers xs ++ numbers ys =
+      λ xs ys. cc (nodes_of-append xs ys, map-append w.number (nodes_of xs) (nodes_of ys)) in
       let was : numbers last ≡ (numbers front ++ numbers back) ++ w.number e.node ∷ [] =
-      cut (front ++ back) (e ∷ []) ∙ ap (λ ns. ns ++ w.number e.node ∷ []) (cut front back) in
+      cc (cut (front ++ back) (e ∷ []), cut front back) in
       let now : numbers among ≡ numbers front ++ w.number e.node ∷ numbers back = cut front (e ∷ back) in
       subst (IsDistinct nat_eq) (sym now)
       (IsDistinct-IsPermutation nat_eq nat_eq_equiv.symm ((numbers front ++ numbers back) ++ w.number e.node ∷ [])
@@ -134,13 +136,13 @@ module _ {N A : Type 0} (w : Standing N A) (front back : List (Entry N A)) (e : 
   pub goes-moved : (account : Account N A) (before : List (Entry N A)) (o : Open N A) (st : List (Open N A)) → GoesOn w account before last o st
       → GoesOn w account before among o st
   goes-moved account before o st h = record {
-    stack = stack-moved o.node st h.stack;
+    stack = stack-moved _ _ h.stack;
     came = come-moved o h.came;
     grown = λ x k. sym (among-moved x) ∙ h.grown x k;
     value = h.value;
-    fewer = subst (λ k. k < account.left) (left-calls o st) h.fewer;
+    fewer = rw (left-calls o st) at h.fewer;
     all = λ x. sym (keep-moved (rest_of w o st) x) ∙ h.all x;
-    calls = ap (λ d. d + account.made + 1) (sym (debt-moved (rest_of w o st))) ∙ h.calls;
+    calls = cc (debt-moved (rest_of w o st));
   }
 
   pub finished-moved : (account : Account N A) (out : Outcome N A) → HasFinished w account last out → HasFinished w account among out

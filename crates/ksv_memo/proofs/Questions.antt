@@ -6,16 +6,15 @@ use Rattle.ksv_memo.proofs.Moves.{fresh-out, fresh-in, fresh-nil}
 
 -- a member that is there already adds nothing
 or-again : (a b c : Bool) → (b ≡ true → a ≡ true) → (a || (b || c)) ≡ (a || c)
-or-again true b c h = refl
 or-again false true c h = let no : false ≡ true = h refl in cc
-or-again false false c h = refl
+or-again _ _ _ _ = refl
 
 pub among-again : {N : Type 0} (number : N → ℕ) (kept ms : List N) (m x : N) → is_among number kept m ≡ true
     → is_among number (kept ++ m ∷ ms) x ≡ is_among number (kept ++ ms) x
 among-again number kept ms m x h =
     is_among-append number kept (m ∷ ms) x
     ∙ or-again (is_among number kept x) (nat_eq (number x) (number m)) (is_among number ms x)
-    (λ e. ap (λ n. list_any (nat_eq n) (map number kept)) (eqb_true (number x) (number m) e) ∙ h)
+    (λ e. cc (eqb_true (number x) (number m) e))
     ∙ sym (is_among-append number kept ms x)
 
 -- what is kept and what is fresh are all members
@@ -26,11 +25,9 @@ among-fresh number kept (m ∷ ms) x = by (is_among number kept m) refl (among-f
     by : (b : Bool) → is_among number kept m ≡ b → is_among number (kept ++ fresh number kept ms) x ≡ is_among number (kept ++ ms) x
         → is_among number ((kept ++ m ∷ []) ++ fresh number (kept ++ m ∷ []) ms) x ≡ is_among number ((kept ++ m ∷ []) ++ ms) x
         → is_among number (kept ++ fresh number kept (m ∷ ms)) x ≡ is_among number (kept ++ m ∷ ms) x
-    by true e ih _ = ap (λ ns. is_among number (kept ++ ns) x) (fresh-in number kept m ms e) ∙ ih ∙ sym (among-again number kept ms m x e)
+    by true e ih _ = cc (fresh-in number kept m ms e, among-again number kept ms m x e)
     by false e _ ih =
-        ap (λ ns. is_among number (kept ++ ns) x) (fresh-out number kept m ms e)
-        ∙ ap (λ ns. is_among number ns x) (sym (append_assoc kept (m ∷ []) (fresh number (kept ++ m ∷ []) ms)))
-        ∙ ih ∙ ap (λ ns. is_among number ns x) (append_assoc kept (m ∷ []) ms)
+        cc (fresh-out number kept m ms e, append_assoc kept (m ∷ []) (fresh number (kept ++ m ∷ []) ms), append_assoc kept (m ∷ []) ms)
 
 module _ {N A : Type 0} (w : Standing N A) where
   -- the nodes after a question are the kept ones and the completed ones

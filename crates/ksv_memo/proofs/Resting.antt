@@ -9,19 +9,19 @@ use Rattle.ksv_memo.proofs.Changing.{frames_nodes}
 module _ {N V F : Type 0} (ps qs : List (N × Slot V F)) (opens : (i : ℕ) → IsOpen qs i → IsOpen ps i) (frames none : Frames N) (h : AreFrames ps frames)
     (empty : opens_of ps frames ≡ []) (same : none.frames ≡ frames.frames) where
   nothing : reverse frames.frames.items ≡ []
-  nothing = some-frames ps (reverse frames.frames.items) frames.asked.items frames.uses.items (frames_nodes ps frames h) empty
+  nothing = some-frames ps _ frames.asked.items frames.uses.items (frames_nodes _ _ h) empty
 
   pub no-frames : none.asked.items ≡ [] → AreFrames qs none
   no-frames cleared =
-      let now : reverse none.frames.items ≡ [] = ap (λ v. reverse v.items) same ∙ nothing in
-      let was : (i : ℕ) → IsOpen ps i → ⊥ = λ i o. subst (λ fs. IsOneOf (map (λ (f : Frame N). f.slot) fs) i) nothing (h.all i o) in
+      let now : reverse none.frames.items ≡ [] = cc nothing in
+      let was : (i : ℕ) → IsOpen ps i → ⊥ = λ i o. rw nothing at (h.all i o) in
       record {
         waits = subst (AllByRecursion (λ f. IsOpen qs f.slot)) (sym now) tt;
         nodes = subst (AllByRecursion (λ f. node_at qs f.slot ≡ Some f.node)) (sym now) tt;
         all = λ i o. absurd (was i (opens i o));
-        once = subst (λ fs. AllDiffer (map (λ (f : Frame N). f.slot) fs)) (sym now) tt;
+        once = rw now tt;
         asked = subst (AllByRecursion (IsKept qs)) (sym cleared) tt;
-        nested = subst (λ fs. AreNested fs (length none.asked.items) (length none.uses.items)) (sym now) tt;
+        nested = rw now tt;
       }
 
   pub no-opens : opens_of qs none ≡ []
@@ -32,7 +32,7 @@ module _ {N V F : Type 0} where
   none_linked : (ps : List (N × Slot V F)) (l : Linked) → ps ≡ [] → l.kept ≡ [] → l.waits ≡ [] → AreLinked ps l
   none_linked (p ∷ ps) l empty kept waits = absurd (cc)
   none_linked [] l empty kept waits = record {
-    kept = λ i. ap (λ ks. is_kept ks i) kept ∙ get_or_past [] i false (omega arith);
+    kept = λ i. cc (get_or_past [] i false (omega arith));
     asked = λ i k. absurd (cc);
     idle = waits;
     slots = omega arith;
@@ -45,11 +45,11 @@ module _ {N V F : Type 0} where
         waits = subst (AllByRecursion (λ f. IsOpen ps f.slot)) (sym now) tt;
         nodes = subst (AllByRecursion (λ f. node_at ps f.slot ≡ Some f.node)) (sym now) tt;
         all = λ i o. let out : slice_get (slots_of ps) i ≡ None = ap (λ qs. slice_get (slots_of qs) i) empty in absurd (cc);
-        once = subst (λ fs. AllDiffer (map (λ (f : Frame N). f.slot) fs)) (sym now) tt;
+        once = rw now tt;
         asked = subst (AllByRecursion (IsKept ps)) (sym cleared) tt;
-        nested = subst (λ fs. AreNested fs (length frames.asked.items) (length frames.uses.items)) (sym now) tt;
+        nested = rw now tt;
       }
 
   pub none-laid : (ps : List (N × Slot V F)) (l : Linked) (frames : Frames N) → ps ≡ [] → l.kept ≡ [] → l.waits ≡ [] → frames.frames.items ≡ []
       → frames.asked.items ≡ [] → IsLaidOut ps l frames
-  none-laid ps l frames empty kept waits none cleared = record { kept = none_linked ps l empty kept waits; waits = none_framed ps frames empty none cleared }
+  none-laid ps l frames empty kept waits none cleared = record { kept = none_linked ps l empty kept waits; waits = none_framed _ _ empty none cleared }

@@ -46,7 +46,7 @@ filter-passes p [] x h = absurd h
 filter-passes p (y ∷ xs) x h = by (p y) refl h (filter-passes p xs x)
   where
     by : (b : Bool) → p y ≡ b → IsOneOf (cond b (y ∷ filter p xs) (filter p xs)) x → (IsOneOf (filter p xs) x → p x ≡ true) → p x ≡ true
-    by true e (inl same) later = ap p (sym same) ∙ e
+    by true e (inl same) later = cc
     by true e (inr k) later = later k
     by false e k later = later k
 
@@ -54,7 +54,7 @@ filter-passes p (y ∷ xs) x h = by (p y) refl h (filter-passes p xs x)
 cut : (f : ℕ → ℕ) (vs : List ℕ) (w : ℕ) → IsOneOf vs w
     → (rest : List ℕ) × (sum_by f vs ≡ f w + sum_by f rest) × ((x : ℕ) → x ≢ w → IsOneOf vs x → IsOneOf rest x)
 cut f [] w h = absurd h
-cut f (v ∷ vs) w (inl e) = (vs, sum_by-cons f v vs ∙ ap (λ k. f k + sum_by f vs) e, λ x ne m. later x ne m)
+cut f (v ∷ vs) w (inl e) = (vs, cc (sum_by-cons f v vs), λ x ne m. later x ne m)
   where
     later : (x : ℕ) → x ≢ w → IsOneOf (v ∷ vs) x → IsOneOf vs x
     later x ne (inl q) = absurd (ne (sym q ∙ e))
@@ -63,7 +63,6 @@ cut f (v ∷ vs) w (inr h) =
     let c = cut f vs w h in
     let a = sum_by-cons f v vs in
     let b = sum_by-cons f v c.0 in
-    let d = c.1 in
     (v ∷ c.0, omega arith, λ x ne m. later c.0 c.2 x ne m)
   where
     later : (rest : List ℕ) → ((x : ℕ) → x ≢ w → IsOneOf vs x → IsOneOf rest x) → (x : ℕ) → x ≢ w → IsOneOf (v ∷ vs) x → IsOneOf (v ∷ rest) x
@@ -75,10 +74,7 @@ pub sum-within : (f : ℕ → ℕ) (ws vs : List ℕ) → AllDiffer ws → ((x :
 sum-within f [] vs d h = omega arith
 sum-within f (w ∷ ws) vs d h =
     let c = cut f vs w (h w (inl refl)) in
-    let rest = sum-within f ws c.0 d.1 (λ x m. c.2 x (λ e. one_of-all (λ j. w ≢ j) ws d.0 x m (sym e)) (h x (inr m))) in
-    let a = sum_by-cons f w ws in
-    let b = c.1 in
-    omega arith
+    omega (arith, sum-within f ws c.0 d.1 (λ x m. c.2 x (λ e. one_of-all (λ j. w ≢ j) ws d.0 x m (sym e)) (h x (inr m))), sum_by-cons f w ws)
 
 pub sum-alike : (f g : ℕ → ℕ) (xs : List ℕ) → AllByRecursion (λ x. f x ≡ g x) xs → sum_by f xs ≡ sum_by g xs
 sum-alike f g [] h = refl

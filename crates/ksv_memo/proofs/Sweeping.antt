@@ -29,25 +29,19 @@ each-of P (x ∷ xs) h = (h x (inl refl), each-of P xs (λ y m. h y (inr m)))
 one_of-back : (xs : List ℕ) (x : ℕ) → IsOneOf xs x → Contains xs x
 one_of-back [] x h = absurd h
 one_of-back (y ∷ xs) x (inl e) = (0, (let l : 0 < length (y ∷ xs) = omega arith in l), e)
-one_of-back (y ∷ xs) x (inr h) = let c = one_of-back xs x h in let lt = c.1 in (suc c.0, (let l : suc c.0 < length (y ∷ xs) = omega arith in l), c.2)
+one_of-back (y ∷ xs) x (inr h) = let c = one_of-back xs x h in (suc c.0, (let l : suc c.0 < length (y ∷ xs) = omega arith in l), c.2)
 
 met_none : (change : Change) → met_by change [] ≡ 0
 met_none (Overwrite at n) = refl
-met_none (Insert at n) = refl
-met_none (Delete at n) = refl
-met_none Append = refl
+met_none _ = refl
 
 behind_none : (change : Change) → behind_by change [] ≡ 0
 behind_none (Overwrite at n) = refl
-behind_none (Insert at n) = refl
-behind_none (Delete at n) = refl
-behind_none Append = refl
+behind_none _ = refl
 
 ended_none : (change : Change) → ended_by change [] ≡ 0
 ended_none (Overwrite at n) = refl
-ended_none (Insert at n) = refl
-ended_none (Delete at n) = refl
-ended_none Append = refl
+ended_none _ = refl
 
 -- a sum over rows is no more than one over the numbers of the rows that count
 rows-numbers : (f : List Use → ℕ) (g : ℕ → ℕ) (rows : List (List Use)) (n : ℕ) → f [] ≡ 0 → ((i : ℕ) → f (row rows i) ≤ g i)
@@ -62,9 +56,7 @@ rows-numbers f g (x ∷ rows) (suc n) z h k =
     let c = sum_by-cons f x rows in
     let d = sum_by-cons g 0 (numbers_from (0 + 1) n) in
     let a : f x ≤ g 0 = h 0 in
-    let rest = rows-numbers f (λ i. g (suc i)) rows n z (λ i. h (suc i)) (λ i le. k (suc i) (omega arith)) in
-    let s = sum-shift g 0 n in
-    omega arith
+    omega (arith, rows-numbers f (λ i. g (suc i)) rows n z (λ i. h (suc i)) (λ i le. k (suc i) (omega arith)), sum-shift g 0 n)
 
 module _ {N V F : Type 0} where
   none_after : (ps : List (N × Slot V F)) (i : ℕ) → length ps ≤ i → answer_at (slots_of ps) i ≡ None
@@ -75,16 +67,14 @@ module _ {N V F : Type 0} where
   -- what an entry is
   pub entry_parts : (o : Option N) (b : Option (Result V F)) (asked : List N) (uses : List Use) (e : Entry N (Result V F)) → entry_with o b asked uses ≡ Some e
       → (is_some b ≡ true) × (e.asked ≡ asked) × (e.uses ≡ uses) × (o ≡ Some e.node)
-  entry_parts None b asked uses e is = absurd (cc)
-  entry_parts (Some n) None asked uses e is = absurd (cc)
-  entry_parts (Some n) (Some a) asked uses e is =
-      let same : record { node = n; answer = a; asked = asked; uses = uses } ≡ e = cc in (
-        refl,
-        ap (λ (x : Entry N (Result V F)). x.asked) (sym same),
-        ap (λ (x : Entry N (Result V F)). x.uses) (sym same),
-        ap
-            (λ (x : Entry N (Result V F)). Some x.node) same,
-      )
+  entry_parts (Some n) (Some a) asked uses e is = let same : record { node = n; answer = a; asked = asked; uses = uses } ≡ e = cc in (
+    refl,
+    ap (λ x. x.asked) (sym same),
+    ap (λ x. x.uses) (sym same),
+    ap
+        (λ (x : Entry N (Result V F)). Some x.node) same,
+  )
+  entry_parts _ _ asked uses e is = absurd (cc)
 
   nodes-alike : (ps qs : List (N × Slot V F)) → ((i : ℕ) → node_at qs i ≡ node_at ps i) → (is : List ℕ) → nodes_at qs is ≡ nodes_at ps is
   nodes-alike ps qs h [] = refl
@@ -93,7 +83,7 @@ module _ {N V F : Type 0} where
   past : (ps : List (N × Slot V F)) (i : ℕ) → IsKept ps i → i < length ps
   past [] i h = absurd (cc)
   past (p ∷ ps) zero h = omega arith
-  past (p ∷ ps) (suc i) h = let lt = past ps i h in omega arith
+  past (p ∷ ps) (suc i) h = omega (arith, past ps i h)
 
   -- what holds of the uses of all entries holds of those of each kept slot
   pub kept-within : (pages : ℕ) (ps : List (N × Slot V F)) (l : Linked) → AreLinked ps l → AllByRecursion (λ e. AreWithin pages e.uses) (entries_of ps l)
@@ -110,7 +100,7 @@ module _ {N V F : Type 0} where
 
   -- the slots that go are there
   pub waits-in : (change : Change) (ps : List (N × Slot V F)) (l m : Linked) → AreLinked ps l → Forgets l m change → All (λ s. s < length ps) m.waits
-  waits-in change ps l m h f k d lt = past ps (get_or m.waits k d)
+  waits-in change ps l m h f k d lt = past _ _
       (sym (h.kept (get_or m.waits k d)) ∙ ((f.exact (get_or m.waits k d)).0 (Contains-get_or m.waits k d lt)).was_kept)
 
   module _ (change : Change) (ps qs : List (N × Slot V F)) (l m n : Linked) (from count : ℕ) (h : AreLinked ps l) (f : Forgets l m change)
@@ -133,7 +123,7 @@ module _ {N V F : Type 0} where
 
     pub entries : (is : List ℕ) → entries_with (marks_at is) ≡ entries_at ps l is
     entries [] = refl
-    entries (i ∷ is) = by (entry_at ps l i) ∙ ap (with_first (entry_at ps l i)) (entries is)
+    entries (i ∷ is) = cc (by (entry_at ps l i), entries is)
       where
         by : (o : Option (Entry N (Result V F))) → entries_with (with_first (option_map (mark_of i) o) (marks_at is))
             ≡ with_first o (entries_with (marks_at is))
@@ -148,11 +138,10 @@ module _ {N V F : Type 0} where
     taken i k e = f.went i (h.kept i ∙ k) e
 
     pub out : (i : ℕ) → Contains m.waits i → is_kept m.kept i ≡ false
-    out i c = by (cases_Bool (is_kept m.kept i))
-      where
-        by : (is_kept m.kept i ≡ true) ⊎ (is_kept m.kept i ≡ false) → is_kept m.kept i ≡ false
-        by (inl e) = absurd (((f.kept i).0 e).1 c)
-        by (inr e) = e
+    out i c = elim (cases_Bool (is_kept m.kept i)) [
+      | inl e ↦ absurd (((f.kept i).0 e).1 c)
+      | inr e ↦ e
+    ]
 
     stay : (i : ℕ) → is_kept m.kept i ≡ true → Contains m.waits i → ⊥
     stay i e = ((f.kept i).0 e).1
@@ -187,14 +176,13 @@ module _ {N V F : Type 0} where
         by : (o : Option (Entry N (Result V F))) → entry_at ps l i ≡ o → (a : Option (Result V F)) → answer_at (slots_of ps) i ≡ a
             → (is_kept m.kept i ≡ true) ⊎ (is_kept m.kept i ≡ false)
             → with_first (entry_at qs n i) (entries_left rest) ≡ entries_left (with_first (mark_at i) rest)
-        by o is a at (inl e) = ap (λ x. with_first x (entries_left rest)) (still i e) ∙ stays (entry_at ps l i) (is_kept m.kept i) e
-        by o is None at (inr e) = ap (λ x. with_first x (entries_left rest)) (no_entry_at qs n i (now_none i at)) ∙ gone (entry_at ps l i) (is_kept m.kept i) e
-        by o is (Some r) at (inr e) = ap (λ x. with_first x (entries_left rest)) (no_entry_at qs n i (g.taken.out i (taken i (ap is_some at) e)))
-            ∙ gone (entry_at ps l i) (is_kept m.kept i) e
+        by o is a at (inl e) = cc (still i e, stays (entry_at ps l i) (is_kept m.kept i) e)
+        by o is None at (inr e) = cc (no_entry_at qs n i (now_none i at), gone (entry_at ps l i) (is_kept m.kept i) e)
+        by o is (Some r) at (inr e) = cc (no_entry_at qs n i (g.taken.out i (taken i (ap is_some at) e)), gone (entry_at ps l i) (is_kept m.kept i) e)
 
     pub stays : (is : List ℕ) → entries_at qs n is ≡ entries_left (marks_at is)
     stays [] = refl
-    stays (i ∷ is) = ap (with_first (entry_at qs n i)) (stays is) ∙ left_one i (marks_at is)
+    stays (i ∷ is) = cc (stays is, left_one i (marks_at is))
 
     -- ---- each mark is right
     first_in : (o : Option (Mark N (Result V F))) (ks : List (Mark N (Result V F))) (k : Mark N (Result V F)) → o ≡ Some k → IsOneOf (with_first o ks) k
@@ -207,7 +195,7 @@ module _ {N V F : Type 0} where
 
     find_mark : (is : List ℕ) (i : ℕ) (k : Mark N (Result V F)) → IsOneOf is i → mark_at i ≡ Some k → IsOneOf (marks_at is) k
     find_mark [] i k c e = absurd c
-    find_mark (j ∷ is) i k (inl same) e = first_in (mark_at j) (marks_at is) k (ap mark_at same ∙ e)
+    find_mark (j ∷ is) i k (inl same) e = first_in _ (marks_at is) k (cc)
     find_mark (j ∷ is) i k (inr c) e = later_in (mark_at j) (marks_at is) k (find_mark is i k c e)
 
     say-all : (is : List ℕ) → AllByRecursion (IsKept ps) is → AllSay all_marks (nodes_at ps is) (map goes is)
@@ -225,7 +213,7 @@ module _ {N V F : Type 0} where
           node = refl;
           goes = refl;
         } in
-        subst (λ o. AllSay all_marks (with_first o (nodes_at ps is)) (map goes (i ∷ is))) (sym node.1) (says, say-all is all.1)
+        rw node.1 (says, say-all is all.1)
 
     at_index : (is : List ℕ) (k : ℕ) (j : ℕ) → k < length is → get_or is k 0 ≡ j → goes j ≡ true → list_any goes is ≡ true
     at_index is k j lt e t = list_any-from_Any goes is (k, j, lt, get_or_default is k j 0 lt ∙ e, t)
@@ -247,10 +235,10 @@ module _ {N V F : Type 0} where
         reached : (s : ℕ) → s ≡ i → Reaches l.asked (IsHit change l.kept l.uses) s → is_hit change l.uses i ≡ false → list_any goes (row l.asked i) ≡ false → ⊥
         reached _ e (here s hit) x y = let t = ap (is_hit change l.uses) (sym e) ∙ hit.touched in cc
         reached _ e (through s a lt r) x y =
-            let lt2 : a < length (row l.asked i) = subst (λ q. a < length (row l.asked q)) e lt in
+            let lt2 : a < length (row l.asked i) = rw e at lt in
             let j = get_or (row l.asked i) a 0 in
             let kj = kept_at (row l.asked i) a all lt2 in
-            let r2 = subst (λ q. Reaches l.asked (IsHit change l.kept l.uses) (get_or (row l.asked q) a 0)) e r in
+            let r2 = rw e at r in
             let c : Contains m.waits j = (f.exact j).1 (record { was_kept = h.kept j ∙ kj; reaches = r2 }) in
             let t : goes j ≡ true = ap not (out j c) in
             let yes = at_index (row l.asked i) a j lt2 refl t in cc
@@ -280,7 +268,7 @@ module _ {N V F : Type 0} where
         let p = entry_parts (node_at ps i) (answer_at (slots_of ps) i) (nodes_at ps (row l.asked i)) (row l.uses i) e at in
         record {
           asked = map goes (row l.asked i);
-          say = subst (λ ms. AllSay all_marks ms (map goes (row l.asked i))) (sym p.1) (say-all (row l.asked i) (h.asked i p.0));
+          say = rw p.1 (say-all (row l.asked i) (h.asked i p.0));
           goes = goes-is i p.0 ∙ (λ j. list_any (is_use_touched change) (sym p.2 j) || sym (any-of-map goes (row l.asked i)) j);
         }
 
@@ -312,32 +300,33 @@ module _ {N V F : Type 0} where
         by : (a : Option (Result V F)) → answer_at (slots_of ps) i ≡ a → (is_kept m.kept i ≡ true) ⊎ (is_kept m.kept i ≡ false)
             → is_kept m.kept i ≡ is_some (answer_at (slots_of qs) i)
         by (Some r) e (inl c) = c ∙ sym (still_kept i c (ap is_some e))
-        by (Some r) e (inr c) = c ∙ sym (ap is_some (g.taken.out i (taken i (ap is_some e) c)))
-        by None e (inr c) = c ∙ sym (ap is_some (now_none i e))
+        by (Some r) e (inr c) = cc (g.taken.out i (taken i (ap is_some e) c))
+        by None e (inr c) = cc (now_none i e)
         by None e (inl c) = let yes = sym (h.kept i) ∙ ((f.kept i).0 c).0 in let no : is_some (answer_at (slots_of ps) i) ≡ false = ap is_some e in absurd (cc)
 
     asks_stay : (i : ℕ) → is_kept m.kept i ≡ true → IsKept ps i → (js : List ℕ)
         → ((k : ℕ) → k < length js → (a : ℕ) × (a < length (row l.asked i)) × (get_or (row l.asked i) a 0 ≡ get_or js k 0)) → AllByRecursion (IsKept ps) js
         → AllByRecursion (IsKept qs) js
     asks_stay i e k [] from all = tt
-    asks_stay i e k (j ∷ js) from all = (one (cases_Bool (is_kept m.kept j)), asks_stay i e k js (λ x lt. from (suc x) (omega arith)) all.1)
-      where
-        one : (is_kept m.kept j ≡ true) ⊎ (is_kept m.kept j ≡ false) → IsKept qs j
-        one (inl c) = still_kept j c all.0
-        one (inr c) =
-            let at = from 0 (omega arith) in
+    asks_stay i e k (j ∷ js) from all = (
+      elim (cases_Bool (is_kept m.kept j)) [
+        | inl c ↦ still_kept j c all.0
+        | inr c ↦ let at = from 0 (omega arith) in
             let r = ((f.exact j).0 (taken j all.0 c)).reaches in
             absurd (stay i e ((f.exact i).1
             (record { was_kept = h.kept i ∙ k; reaches = through i at.0 at.1 (subst (Reaches l.asked (IsHit change l.kept l.uses)) (sym at.2) r) })))
+      ],
+      asks_stay i e k js (λ x lt. from (suc x) (omega arith)) all.1,
+    )
 
     pub swept-links : AreLinked qs n
     swept-links = record {
-      kept = λ i. ap (λ ks. is_kept ks i) g.taken.kept ∙ each_kept i;
+      kept = λ i. cc (each_kept i);
       asked = λ i k. (let c = kept_was i k in
-          let same : row n.asked i ≡ row l.asked i = g.taken.asked i (stay i c.0) ∙ ap (λ rows. row rows i) f.asked in
+          let same : row n.asked i ≡ row l.asked i = cc (g.taken.asked i (stay i c.0)) in
           subst (AllByRecursion (IsKept qs)) (sym same) (asks_stay i c.0 c.1 (row l.asked i) (λ x lt. (x, lt, refl)) (h.asked i c.1)));
       idle = g.done;
-      slots = (let a = ap length g.taken.kept in let b = f.slots in let d = g.taken.slots in let e = h.slots in omega arith);
+      slots = omega (arith, ap length g.taken.kept);
     }
 
     -- ---- the looks
@@ -354,7 +343,7 @@ module _ {N V F : Type 0} where
 
         with_mark : (e : Entry N (Result V F)) (b : Bool) → p e ≡ q i
             → sum_by p (entries_gone (record { entry = e; goes = b } ∷ rest)) ≡ cond b (q i) 0 + sum_by p (entries_gone rest)
-        with_mark e true same = sum_by-cons p e (entries_gone rest) ∙ ap (λ x. x + sum_by p (entries_gone rest)) same
+        with_mark e true same = cc (sum_by-cons p e (entries_gone rest))
         with_mark e false same = omega arith
 
         by : sum_by p (entries_gone rest) ≡ sum_by (λ i. cond (is_gone i) (q i) 0) is → (a : Option (Result V F)) → answer_at (slots_of ps) i ≡ a
@@ -410,20 +399,18 @@ module _ {N V F : Type 0} where
         let a : sum_by q m.waits ≡ sum_by (λ i. cond (is_gone i) (q i) 0) m.waits =
         sum-alike q (λ i. cond (is_gone i) (q i) 0) m.waits
         (each-of (λ i. q i ≡ cond (is_gone i) (q i) 0) m.waits (λ i c. (λ j. cond (sym (wait_gone i c) j) (q i) 0))) in
-        let b = sum-within (λ i. cond (is_gone i) (q i) 0) m.waits nums (differ m.waits f.apart) wait_in in
-        let c = gone-sum p q same nums in
-        omega arith
+        omega (arith, sum-within (λ i. cond (is_gone i) (q i) 0) m.waits nums (differ m.waits f.apart) wait_in, gone-sum p q same nums)
 
     ones : (is : List ℕ) → sum_by (λ i. 1) is ≡ length is
     ones [] = refl
-    ones (i ∷ is) = let c = sum_by-cons (λ (j : ℕ). 1) i is in let r = ones is in omega arith
+    ones (i ∷ is) = omega (arith, sum_by-cons (λ (j : ℕ). 1) i is, ones is)
 
     entry-ones : (es : List (Entry N (Result V F))) → sum_by (λ e. 1) es ≡ length es
     entry-ones [] = refl
-    entry-ones (e ∷ es) = let c = sum_by-cons (λ (x : Entry N (Result V F)). 1) e es in let r = entry-ones es in omega arith
+    entry-ones (e ∷ es) = omega (arith, sum_by-cons (λ (x : Entry N (Result V F)). 1) e es, entry-ones es)
 
     pub gone-most : length m.waits ≤ length (entries_gone all_marks)
-    gone-most = let a = waits-sum (λ e. 1) (λ i. 1) (λ i e at. refl) in let b = ones m.waits in let c = entry-ones (entries_gone all_marks) in omega arith
+    gone-most = omega (arith, waits-sum (λ e. 1) (λ i. 1) (λ i e at. refl), ones m.waits, entry-ones (entries_gone all_marks))
 
     gone_wait : (i : ℕ) → IsOneOf (filter is_gone nums) i → IsOneOf m.waits i
     gone_wait i c =
@@ -433,12 +420,15 @@ module _ {N V F : Type 0} where
     pub gone-least : length (entries_gone all_marks) ≤ length m.waits
     gone-least =
         let a : sum_by (λ e. 1) (entries_gone all_marks) ≡ count_by is_gone nums = gone-sum (λ e. 1) (λ i. 1) (λ i e at. refl) nums in
-        let b = length-filter is_gone nums in
-        let c = sum-within (λ i. 1) (filter is_gone nums) m.waits (filter-differ is_gone nums (numbers-differ 0 (length ps))) gone_wait in
-        let d = ones (filter is_gone nums) in
-        let k = ones m.waits in
-        let x = entry-ones (entries_gone all_marks) in
-        omega arith
+        omega (
+          arith,
+          length-filter is_gone nums,
+          sum-within (λ i. 1) (filter is_gone nums) m.waits
+              (filter-differ is_gone nums (numbers-differ 0 (length ps))) gone_wait,
+          ones (filter is_gone nums),
+          ones m.waits,
+          entry-ones (entries_gone all_marks),
+        )
 
     nodes_count : (is : List ℕ) → AllByRecursion (IsKept ps) is → length (nodes_at ps is) ≡ length is
     nodes_count [] all = refl
@@ -455,7 +445,7 @@ module _ {N V F : Type 0} where
     two_sums : (a b : ℕ → ℕ) (ss : List ℕ) → sum_by (λ s. 4 * a s + 4 * b s) ss ≡ 4 * sum_by a ss + 4 * sum_by b ss
     two_sums a b [] = omega arith
     two_sums a b (s ∷ ss) =
-        let x = sum_by-cons (λ s. 4 * a s + 4 * b s) s ss in let y = sum_by-cons a s ss in let z = sum_by-cons b s ss in let r = two_sums a b ss in omega arith
+        omega (arith, sum_by-cons (λ s. 4 * a s + 4 * b s) s ss, sum_by-cons a s ss, sum_by-cons b s ss, two_sums a b ss)
 
     same_parts : parts_of m m.waits ≡ parts_of l m.waits
     same_parts = λ j. sum_by (λ s. 4 * length (row (f.asked j) s) + 4 * length (pages_in (row (f.uses j) s))) m.waits
@@ -464,14 +454,12 @@ module _ {N V F : Type 0} where
     uses-all : (of : List Use → ℕ) → of [] ≡ 0 → ((s : ℕ) → is_kept l.kept s ≡ false → row l.uses s ≡ [])
         → sum_by of l.uses ≤ sum_by (λ e. of e.uses) (entries_of ps l)
     uses-all of none vacant =
-        let a = rows-numbers of (λ i. cond (is_kept l.kept i) (of (row l.uses i)) 0) l.uses (length ps) none (λ i. by i (cases_Bool (is_kept l.kept i)))
+        let a = rows-numbers of (λ i. cond (is_kept l.kept i) (of (row l.uses i)) 0) l.uses (length ps) none (λ i. elim (cases_Bool (is_kept l.kept i)) [
+          | inl e ↦ let k = ap (λ b. cond b (of (row l.uses i)) 0) e in omega arith
+          | inr e ↦ let k = ap of (vacant i e) ∙ none in omega arith
+        ])
         (λ i le. ap of (vacant i (h.kept i ∙ ap is_some (none_after ps i le))) ∙ none) in
-        let b = entry-sum (λ e. of e.uses) (λ i. of (row l.uses i)) (λ i e at. ap of (uses_same i e at)) nums in
-        omega arith
-      where
-        by : (i : ℕ) → (is_kept l.kept i ≡ true) ⊎ (is_kept l.kept i ≡ false) → of (row l.uses i) ≤ cond (is_kept l.kept i) (of (row l.uses i)) 0
-        by i (inl e) = let k = ap (λ b. cond b (of (row l.uses i)) 0) e in omega arith
-        by i (inr e) = let k = ap of (vacant i e) ∙ none in omega arith
+        omega (arith, entry-sum (λ e. of e.uses) (λ i. of (row l.uses i)) (λ i e at. ap of (uses_same i e at)) nums)
 
     pub looks-most : ((s : ℕ) → is_kept l.kept s ≡ false → row l.uses s ≡ [])
         → (IsOverwrite change → m.looks ≤ l.looks + pages_met change + 3 * sum_by (met_by change) l.uses + 1 + 4 * length m.waits
@@ -479,16 +467,16 @@ module _ {N V F : Type 0} where
         → looked ≤ pages_met change + 3 * sum_by (λ e. met_by change e.uses) (entries_of ps l) + 9 * length (entries_gone all_marks)
         + 6 * sum_by (λ e. length e.asked) (entries_gone all_marks) + 4 * sum_by (λ e. length (pages_in e.uses)) (entries_gone all_marks) + 2
     looks-most vacant most looked le over =
-        let a = most over in
-        let b = g.taken.most in
-        let c = uses-all (met_by change) (met_none change) vacant in
-        let d = waits-sum (λ e. length e.asked) (λ i. length (row l.asked i)) asked_count in
-        let e = waits-sum (λ e. length (pages_in e.uses)) (λ i. length (pages_in (row l.uses i)))
-        (λ i e at. ap (λ us. length (pages_in us)) (uses_same i e at)) in
-        let p = same_parts in
-        let q = two_sums (λ s. length (row l.asked s)) (λ s. length (pages_in (row l.uses s))) m.waits in
-        let r = gone-most in
-        omega arith
+        omega (
+          arith,
+          most over,
+          uses-all (met_by change) (met_none change) vacant,
+          waits-sum (λ e. length e.asked) (λ i. length (row l.asked i)) asked_count,
+          waits-sum (λ e. length (pages_in e.uses)) (λ i. length (pages_in (row l.uses i))) (λ i e at. ap (λ us. length (pages_in us)) (uses_same i e at)),
+          same_parts,
+          two_sums (λ s. length (row l.asked s)) (λ s. length (pages_in (row l.uses s))) m.waits,
+          gone-most,
+        )
 
     pub looks-behind : (pages : ℕ) → ((s : ℕ) → is_kept l.kept s ≡ false → row l.uses s ≡ [])
         → (IsMove change → m.looks ≤ l.looks + 2 * pages_behind change pages + 3 * sum_by (behind_by change) l.uses + 3 * sum_by (ended_by change) l.uses + 2
@@ -498,14 +486,15 @@ module _ {N V F : Type 0} where
         + 3 * sum_by (λ e. ended_by change e.uses) (entries_of ps l) + 9 * length (entries_gone all_marks)
         + 6 * sum_by (λ e. length e.asked) (entries_gone all_marks) + 4 * sum_by (λ e. length (pages_in e.uses)) (entries_gone all_marks) + 3
     looks-behind pages vacant most looked le moves =
-        let a = most moves in
-        let b = g.taken.most in
-        let c = uses-all (behind_by change) (behind_none change) vacant in
-        let c2 = uses-all (ended_by change) (ended_none change) vacant in
-        let d = waits-sum (λ e. length e.asked) (λ i. length (row l.asked i)) asked_count in
-        let e = waits-sum (λ e. length (pages_in e.uses)) (λ i. length (pages_in (row l.uses i)))
-        (λ i e at. ap (λ us. length (pages_in us)) (uses_same i e at)) in
-        let p = same_parts in
-        let q = two_sums (λ s. length (row l.asked s)) (λ s. length (pages_in (row l.uses s))) m.waits in
-        let r = gone-most in
-        omega arith
+        omega (
+          arith,
+          most moves,
+          uses-all (behind_by change) (behind_none change) vacant,
+          uses-all (ended_by change) (ended_none change) vacant,
+          waits-sum (λ e. length e.asked) (λ i. length (row l.asked i)) asked_count,
+          waits-sum (λ e. length (pages_in e.uses)) (λ i. length (pages_in (row l.uses i)))
+              (λ i e at. ap (λ us. length (pages_in us)) (uses_same i e at)),
+          same_parts,
+          two_sums (λ s. length (row l.asked s)) (λ s. length (pages_in (row l.uses s))) m.waits,
+          gone-most,
+        )

@@ -16,7 +16,7 @@ use Rattle.ksv_memo.proofs.Knowing.{entry_of, no_entry, no_open, some_open, none
 
 -- a look-up leaves the slots as they were
 pub looked-laid : {N V F : Type 0} (ps qs : List (N × Slot V F)) (l : Linked) (frames : Frames N) → qs ≡ ps → IsLaidOut ps l frames → IsLaidOut qs l frames
-looked-laid ps qs l frames same laid = subst (λ es. IsLaidOut es l frames) (sym same) laid
+looked-laid ps qs l frames same laid = rw same laid
 
 pub looked-view : {N V F : Type 0} (ps qs : List (N × Slot V F)) (l : Linked) (frames : Frames N) (v : Nodes N (Result V F)) → qs ≡ ps
     → record { kept = entries_of ps l; opened = opens_of ps frames } ≡ v → record { kept = entries_of qs l; opened = opens_of qs frames } ≡ v
@@ -38,15 +38,15 @@ module _ {N V F : Type 0} (eq : N → N → Bool) (ps : List (N × Slot V F)) (l
       let e = entry_of ps l i n one.0 (slice_get_within ps i (n, h.0.0) h.0.1) node one.1 in
       record {
         entry = e.0;
-        is = record { there = e.1; passes = ap (eq n) e.2 ∙ itself };
-        node = node ∙ ap (λ x. Some x) (sym e.2);
-        answer = one.1 ∙ ap (λ x. Some x) (sym e.3);
+        is = record { there = e.1; passes = cc };
+        node = cc node;
+        answer = cc;
       }
 
   -- a slot that keeps nothing isn't that of a kept node
   apart_kept : (i : ℕ) (m : N) (s : Slot V F) → slice_get ps i ≡ Some (m, s) → answer_in s ≡ None → (j : ℕ) → IsKept ps j → j ≢ i
-  apart_kept i m s there none j k same = let now : answer_at (slots_of ps) j ≡ None = ap (answer_at (slots_of ps)) same ∙ answer_there ps i m s there
-      ∙ none in let no : is_some (answer_at (slots_of ps) j) ≡ false = ap is_some now in cc
+  apart_kept i m s there none j k same = let now : answer_at (slots_of ps) j ≡ None = cc (answer_there ps i m s there) in
+      let no : is_some (answer_at (slots_of ps) j) ≡ false = ap is_some now in cc
 
   apart_open : (i : ℕ) (m : N) → slice_get ps i ≡ Some (m, emptied) → (j : ℕ) → IsOpen ps j → j ≢ i
   apart_open i m there j o same = let now : Some emptied ≡ Some opened = sym (slot_there ps i m emptied there) ∙ ap (slice_get (slots_of ps)) (sym same)
@@ -82,17 +82,17 @@ module _ {N V F : Type 0} (eq : N → N → Bool) (ps : List (N × Slot V F)) (l
 module _ {N V F : Type 0} (eq : N → N → Bool) (ps : List (N × Slot V F)) (l : Linked) (frames : Frames N) (laid : IsLaidOut ps l frames) (n : N) where
   -- a kept answer is heard
   pub hears : (i : ℕ) → Knows eq ps n (Kept i) → (new : Frames N) → Heard i frames new → IsLaidOut ps l new
-  hears i knows new h = record { kept = laid.kept; waits = frames-hear ps i knows.1 frames new laid.waits h }
+  hears i knows new h = record { kept = laid.kept; waits = frames-hear _ _ knows.1 _ _ laid.waits h }
 
   pub replies : eq n n ≡ true → (i : ℕ) → Knows eq ps n (Kept i) → (new : Frames N) → Heard i frames new
       → Replies eq n (record { kept = entries_of ps l; opened = opens_of ps frames }) (record { kept = entries_of ps l; opened = opens_of ps new })
   replies itself i knows new h =
-      let one = found eq ps l frames laid.kept laid.waits n itself i knows in
+      let one = found eq _ _ _ laid.kept laid.waits n itself _ knows in
       record {
         entry = one.entry;
         is = one.is;
         kept = refl;
-        opened = opens-hear ps i one.entry.node one.entry.answer one.node one.answer frames new laid.waits
+        opened = opens-hear _ _ one.entry.node one.entry.answer one.node one.answer _ _ laid.waits
             h;
       }
 
@@ -101,8 +101,8 @@ module _ {N V F : Type 0} (eq : N → N → Bool) (ps : List (N × Slot V F)) (l
       (new : Frames N) (framed : Framed i m frames new) where
     pub opens-laid : length qs ≤ length l.kept → IsLaidOut qs l new
     opens-laid le = record {
-      kept = links-stay ps qs i m opened changes none refl l laid.kept le;
-      waits = frames-push ps qs i m opened changes none refl free frames new
+      kept = links-stay _ _ _ _ _ changes none refl _ laid.kept le;
+      waits = frames-push _ _ _ _ _ changes none refl free _ _
           laid.waits framed;
     }
 
@@ -114,8 +114,8 @@ module _ {N V F : Type 0} (eq : N → N → Bool) (ps : List (N × Slot V F)) (l
       passes = passes;
       out = out;
       free = apart;
-      kept = entries-stay ps qs i m opened changes none refl l laid.kept more count new_ones;
-      opened = opens-push ps qs i m opened changes none frames new laid.waits framed;
+      kept = entries-stay _ _ _ _ _ changes none refl _ laid.kept more count new_ones;
+      opened = opens-push _ _ _ _ _ changes none _ _ laid.waits framed;
     }
 
   -- a slot with nothing in it
@@ -146,7 +146,7 @@ module _ {N V F : Type 0} (ps : List (N × Slot V F)) (l m : Linked) (h : AreLin
     kept = λ i. g.kept.each i ∙ h.kept i;
     asked = λ i k. subst (AllByRecursion (IsKept ps)) (sym (g.asked.each i)) (h.asked i k);
     idle = g.waits ∙ h.idle;
-    slots = (let a = h.slots in let b = g.kept.more in omega arith);
+    slots = (omega arith);
   }
 
   pub grown-entries : entries_of ps m ≡ entries_of ps l

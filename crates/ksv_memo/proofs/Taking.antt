@@ -37,7 +37,7 @@ module _ {N A : Type 0} (q : Asking N A) where
   entry_says es n e is g agree = ap g (q.exact n e.node is.passes) ∙ one_of-all (λ (x : Entry N A). g x.node ≡ Answered x.answer) es agree e is.there
 
   pub no_entry_out : (es : List (Entry N A)) (n : N) → HasNoEntry q.eq es n → IsOut q.world (nodes_of es) n
-  no_entry_out es n none = sym (any_entry q.world q.law q.eq q.laws q.exact es n) ∙ none
+  no_entry_out es n none = sym (any_entry _ q.law q.eq q.laws q.exact es n) ∙ none
 
   -- ---- the last open node asks
   hears : (es : List (Entry N A)) (st : List (Open N A)) (n : N) (now : Nodes N A) → HasReached q.world es st (Need n)
@@ -47,10 +47,9 @@ module _ {N A : Type 0} (q : Asking N A) where
       let e : Entry N A = r.entry in
       let same : n ≡ e.node = q.exact n e.node r.is.passes in
       let goes : GoesOn q.world (account_at q.world es o st (Need n)) es es (with_answer o e.node e.answer) st =
-      need-replies q.world q.law es o (with_answer o e.node e.answer) st n e.answer reached.0 reached.1 (entry_in es n e r.is) (entry_says es n e r.is)
+      need-replies _ q.law _ _ _ _ _ e.answer reached.0 reached.1 (entry_in es n e r.is) (entry_says es n e r.is)
       (λ i. with_answer o (sym same i) e.answer) in
-      subst (λ ks. GoesOnWith q.world (account_at q.world es o st (Need n)) es ks now.opened) (sym r.kept)
-      (subst (GoesOnWith q.world (account_at q.world es o st (Need n)) es es) (sym r.opened) goes)
+      rw r.kept (subst (GoesOnWith q.world (account_at q.world es o st (Need n)) es es) (sym r.opened) goes)
 
   opens_node : (es : List (Entry N A)) (st : List (Open N A)) (n : N) (now : Nodes N A) → HasReached q.world es st (Need n)
       → Opens q.eq n (record { kept = es; opened = st }) now → AdvancesAt q.world es st (Need n) now None
@@ -58,10 +57,9 @@ module _ {N A : Type 0} (q : Asking N A) where
   opens_node es (o ∷ st) n now reached r =
       let same : n ≡ r.node = q.exact n r.node r.passes in
       let goes : GoesOn q.world (account_at q.world es o st (Need n)) es es (newly r.node) (o ∷ st) =
-      need-opens q.world q.law es o (newly r.node) st (o ∷ st) n reached.0 reached.1 (no_entry_out es n r.out)
-      (sym (waits_among q.world q.law q.eq q.laws q.exact (o ∷ st) n) ∙ r.free) (λ i. newly (sym same i)) refl in
-      subst (λ ks. GoesOnWith q.world (account_at q.world es o st (Need n)) es ks now.opened) (sym r.kept)
-      (subst (GoesOnWith q.world (account_at q.world es o st (Need n)) es es) (sym r.opened) goes)
+      need-opens _ q.law _ _ _ _ _ _ reached.0 reached.1 (no_entry_out es n r.out)
+      (sym (waits_among _ q.law q.eq q.laws q.exact (o ∷ st) n) ∙ r.free) (λ i. newly (sym same i)) refl in
+      rw r.kept (subst (GoesOnWith q.world (account_at q.world es o st (Need n)) es es) (sym r.opened) goes)
 
   pub hears_or_opens : (es : List (Entry N A)) (st : List (Open N A)) (n : N) (now : Nodes N A) → HasReached q.world es st (Need n)
       → Replies q.eq n (record { kept = es; opened = st }) now ⊎ Opens q.eq n (record { kept = es; opened = st }) now
@@ -74,9 +72,8 @@ module _ {N A : Type 0} (q : Asking N A) where
   circles es [] n m now reached r = absurd reached
   circles es (o ∷ st) n m now reached r =
       let ends : HasFinished q.world (account_at q.world es o st (Need n)) es (Circle n) =
-      need-ends q.world q.law es o st n reached.0 (sym (waits_among q.world q.law q.eq q.laws q.exact (o ∷ st) n) ∙ r.waits) in
-      subst (λ ks. HasFinished q.world (account_at q.world es o st (Need n)) ks (Circle m)) (sym r.kept)
-      (subst (λ k. HasFinished q.world (account_at q.world es o st (Need n)) es (Circle k)) (sym r.same) ends)
+      need-ends _ q.law _ o _ n reached.0 (sym (waits_among _ q.law q.eq q.laws q.exact (o ∷ st) n) ∙ r.waits) in
+      rw r.kept (rw r.same ends)
 
   -- ---- the last open node has its answer
   pub closes_on : (es : List (Entry N A)) (st : List (Open N A)) (a : A) (now : Nodes N A) → HasReached q.world es st (Done a)
@@ -85,7 +82,7 @@ module _ {N A : Type 0} (q : Asking N A) where
   closes_on es (o ∷ []) a now reached r more = let lt = (Decides-ltb 1 (length (o ∷ []))).0 more in absurd (omega arith)
   closes_on es (o ∷ p ∷ rest) a now reached r more =
       let goes : GoesOn q.world (account_at q.world es o (p ∷ rest) (Done a)) es now.kept (with_answer p o.node a) rest =
-      finish-goes q.world q.law es now.kept r.0.front r.0.back o p (with_answer p o.node a) (p ∷ rest) rest a r.0.once reached.0 reached.1 r.0.each r.0.was
+      finish-goes _ q.law _ _ r.0.front r.0.back _ p _ _ _ _ _ reached.0 reached.1 r.0.each r.0.was
       r.0.kept refl refl in
       subst (GoesOnWith q.world (account_at q.world es o (p ∷ rest) (Done a)) es now.kept) (sym r.1) goes
 
@@ -94,14 +91,14 @@ module _ {N A : Type 0} (q : Asking N A) where
   closes_last es [] a c now reached r one copy = absurd reached
   closes_last es (o ∷ p ∷ rest) a c now reached r one copy = let yes = (Decides-ltb 1 (length (o ∷ p ∷ rest))).1 (omega arith) in absurd (cc)
   closes_last es (o ∷ []) a c now reached r one copy =
-      finish-ends q.world q.law es now.kept r.0.front r.0.back o [] a c r.0.once reached.0 reached.1 r.0.each r.0.was r.0.kept refl copy
+      finish-ends _ q.law _ _ r.0.front r.0.back _ _ _ _ _ reached.0 reached.1 r.0.each r.0.was r.0.kept refl copy
 
   pub closes_left : (es : List (Entry N A)) (st : List (Open N A)) (a : A) (now : List (Entry N A)) → HasReached q.world es st (Done a) → MayKeep a st es now
       → LeftAt q.world es st (Done a) now
   closes_left es [] a now reached may = absurd reached
-  closes_left es (o ∷ st) a now reached (inl same) = left-same q.world q.law es now _ reached.0.right same
+  closes_left es (o ∷ st) a now reached (inl same) = left-same _ q.law _ _ _ reached.0.right same
   closes_left es (o ∷ st) a now reached (inr keeps) =
-      finish-left q.world q.law es now keeps.front keeps.back o st a keeps.once reached.0 reached.1 keeps.each keeps.was keeps.kept
+      finish-left _ q.law _ _ keeps.front keeps.back _ _ _ _ reached.0 reached.1 keeps.each keeps.was keeps.kept
 
   -- a turn of the question for n, which began with what es has: a call of the rules, which leaves what is kept
   pub record Turn (n : N) (es : List (Entry N A)) (first : Option ℕ) (s : Next N A) : Type 0 where
@@ -132,15 +129,15 @@ module _ {N A : Type 0} (q : Asking N A) where
   called es [] now s runs steps = absurd runs
   called es (o ∷ st) now s runs steps =
       let p : Open N A = with_uses o (q.world.added o.node o.replies) in
-      subst (λ xs. HasReached q.world es xs s) (sym steps.1) (runs.0, turn-steps q.world q.law es es o p s refl refl steps.0 runs.1)
+      rw steps.1 (runs.0, turn-steps _ q.law _ _ _ _ _ refl refl steps.0 runs.1)
 
   advances : (es : List (Entry N A)) (st now : List (Open N A)) (s : Next N A) (t : Nodes N A) (out : Option (Outcome N A)) → IsRunning q.world es st
       → Steps q.world st now s → AdvancesAt q.world es now s t out → AdvancesFrom q.world es st t out
   advances es [] now s t out runs steps h = absurd runs
   advances es (o ∷ st) now s t out runs steps h =
       let at : AdvancesAt q.world es (with_uses o (q.world.added o.node o.replies) ∷ st) s t out =
-      subst (λ xs. AdvancesAt q.world es xs s t out) steps.1 h in
-      subst (λ acc. Advances q.world acc es t out) (turn-account q.world q.law es o st s steps.0 runs.1) at
+      rw steps.1 at h in
+      rw (turn-account _ q.law _ _ st _ steps.0 runs.1) at at
 
   leaves : (es : List (Entry N A)) (st now : List (Open N A)) (s : Next N A) (t : List (Entry N A)) → IsRunning q.world es st → Steps q.world st now s
       → LeftAt q.world es now s t → LeftFrom q.world es st t
@@ -156,15 +153,14 @@ module _ {N A : Type 0} (q : Asking N A) where
   -- what has come of the call
   pub reached : {n : N} {es : List (Entry N A)} {first : Option ℕ} {s : Next N A} (t : Turn n es first s) → HasReached q.world t.now.kept t.now.opened s
   reached {n} {es} {first} {s} t =
-      subst (λ ks. HasReached q.world ks t.now.opened s) (sym t.same)
-      (called t.old.kept t.old.opened t.now.opened s (running es t.old.kept n t.old.opened t.holds) t.steps)
+      rw t.same (called t.old.kept _ _ _ (running es t.old.kept n t.old.opened t.holds) t.steps)
 
   -- what the rest of the turn does
   moves : {n : N} {es : List (Entry N A)} {first : Option ℕ} {s : Next N A} (t : Turn n es first s) (now : Nodes N A) (out : Option (Outcome N A))
       → AdvancesAt q.world t.now.kept t.now.opened s now out → AdvancesFrom q.world t.old.kept t.old.opened now out
   moves {n} {es} {first} {s} t now out rest =
-      advances t.old.kept t.old.opened t.now.opened s now out (running es t.old.kept n t.old.opened t.holds) t.steps
-      (subst (λ ks. AdvancesAt q.world ks t.now.opened s now out) t.same rest)
+      advances t.old.kept _ _ _ now out (running es t.old.kept n t.old.opened t.holds) t.steps
+      (rw t.same at rest)
 
   left_next : (es ks : List (Entry N A)) (n : N) (st : List (Open N A)) (t : List (Entry N A)) → HoldsWith q.world n es ks st → LeftFrom q.world ks st t
       → IsLeft q.world (to_keep q.world es (done q.world [] n)) es t
@@ -177,14 +173,14 @@ module _ {N A : Type 0} (q : Asking N A) where
       → IsLeft q.world (to_keep q.world es (done q.world [] n)) es t
   left_same es ks n [] t h same = absurd h
   left_same es ks n (o ∷ st) t h same =
-      left_next es ks n (o ∷ st) t h (left-same q.world q.law ks t (rest_of q.world o st) h.stack.right same)
+      left_next es ks n (o ∷ st) t h (left-same _ q.law _ _ (rest_of q.world o st) h.stack.right same)
 
   pub left : {n : N} {es : List (Entry N A)} {first : Option ℕ} {s : Next N A} (t : Turn n es first s) (now : List (Entry N A))
       → LeftAt q.world t.now.kept t.now.opened s now → IsLeft q.world (to_keep q.world es (done q.world [] n)) es now
   left {n} {es} {first} {s} t now may =
-      left_next es t.old.kept n t.old.opened now t.holds
-      (leaves t.old.kept t.old.opened t.now.opened s now (running es t.old.kept n t.old.opened t.holds) t.steps
-      (subst (λ ks. LeftAt q.world ks t.now.opened s now) t.same may))
+      left_next _ t.old.kept n t.old.opened _ t.holds
+      (leaves t.old.kept _ _ _ now (running es t.old.kept n t.old.opened t.holds) t.steps
+      (rw t.same at may))
 
   -- it goes on: fewer turns are left, and what must hold between two turns does
   pub goes_on : {n : N} {es : List (Entry N A)} {first : Option ℕ} {s : Next N A} (t : Turn n es first s) (now : Nodes N A) (after : Option ℕ)
@@ -204,7 +200,7 @@ module _ {N A : Type 0} (q : Asking N A) where
           all = λ x. goes.all x ∙ h.all x;
           value = goes.value ∙ h.value;
         };
-        turns = counts-step first t.turns after _ _ _ _ _ c goes.calls counted;
+        turns = counts-step first t.turns _ _ _ _ _ _ c goes.calls counted;
         smaller = goes.fewer;
       }
 
@@ -221,7 +217,7 @@ module _ {N A : Type 0} (q : Asking N A) where
         outcome = ends.value ∙ h.value;
         right = ends.right;
         kept = λ x. ends.all x ∙ h.all x;
-        turns = λ answered. counts-end first t.turns after _ _ _ c (ends.calls answered) counted;
+        turns = λ answered. counts-end first t.turns _ _ _ _ c (ends.calls answered) counted;
       }
 
   -- ---- the first of them
@@ -233,34 +229,33 @@ module _ {N A : Type 0} (q : Asking N A) where
       let is = starts.0.1 in
       let same : now.kept ≡ old.kept = ap (λ v. v.kept) starts.1 in
       record {
-        outcome = ap (λ b. Answered b) (sym starts.0.2) ∙ sym (entry_says old.kept n e is (answering q.world []) (agrees q.world q.law old.kept right [] tt));
+        outcome = cc (entry_says _ _ _ is (answering q.world []) (agrees q.world q.law old.kept right [] tt));
         right = subst (IsRight q.world) (sym same) right;
-        kept = λ x. ap (λ es. is_among q.world.number (nodes_of es) x) same
-            ∙ ap (λ ns. is_among q.world.number ns x) (covers-kept q.world q.law old.kept n right (entry_in old.kept n e is));
-        turns = λ answered. none-owed q.world q.law old.kept n right (entry_in old.kept n e is) turns;
+        kept = λ x. cc (same, covers-kept _ q.law _ n right (entry_in _ _ _ is));
+        turns = λ answered. none-owed _ q.law _ n right (entry_in _ _ _ is) _;
       }
   ends_known n old now (Circle m) turns right none circles =
       let no : list_any (λ o. q.eq n o.node) old.opened ≡ false = ap (list_any (λ o. q.eq n o.node)) none in
       absurd (true≢false (sym circles.waits ∙ no))
 
   pub opens_first : (n : N) (old now : Nodes N A) → old.opened ≡ [] → Opens q.eq n old now → now.opened ≡ newly n ∷ []
-  opens_first n old now none opens = opens.opened ∙ ap (λ st. newly opens.node ∷ st) none ∙ ap (λ m. newly m ∷ []) (sym (q.exact n opens.node opens.passes))
+  opens_first n old now none opens = cc (q.exact n opens.node opens.passes)
 
   pub holds_first : (es ks : List (Entry N A)) (n : N) (st : List (Open N A)) → IsRight q.world es → HasNoEntry q.eq es n → ks ≡ es → st ≡ newly n ∷ []
       → HoldsWith q.world n es ks st
   holds_first es ks n st right none kept opened =
       let holds : Holds q.world n es es (newly n) [] = record {
-        stack = begins q.world q.law es n (newly n) [] refl refl right (no_entry_out es n none);
-        came = comes q.world q.law es n (newly n) refl;
+        stack = begins _ q.law _ n _ _ refl refl right (no_entry_out es n none);
+        came = comes _ q.law _ n _ refl;
         grown = λ x k. k;
-        all = λ x. ap (λ ns. is_among q.world.number ns x) (covers-begins q.world q.law es n (newly n) [] refl refl);
-        value = value-begins q.world q.law n (newly n) [] refl refl;
+        all = λ x. ap (λ ns. is_among q.world.number ns x) (covers-begins _ q.law es n _ _ refl refl);
+        value = value-begins _ q.law n _ _ refl refl;
       } in
-      subst (λ xs. HoldsWith q.world n es xs st) (sym kept) (subst (HoldsWith q.world n es es) (sym opened) holds)
+      rw kept (subst (HoldsWith q.world n es es) (sym opened) holds)
 
   pub counts_first : (es ks : List (Entry N A)) (n : N) (st : List (Open N A)) (turns : Option ℕ) → ks ≡ es → st ≡ newly n ∷ []
       → CountsWith q.world n es turns ks st turns
   counts_first es ks n st turns kept opened =
       let counts : Counts turns turns (debt q.world es (rest_of q.world (newly n) [])) (0 + 0) (debt q.world es (done q.world [] n)) =
-      (0, refl, turns-begin q.world q.law es n (newly n) [] refl refl) in
-      subst (λ xs. CountsWith q.world n es turns xs st turns) (sym kept) (subst (λ xs. CountsWith q.world n es turns es xs turns) (sym opened) counts)
+      (0, refl, turns-begin _ q.law es n _ _ refl refl) in
+      rw kept (rw opened counts)

@@ -33,29 +33,19 @@ parted i j n old new p f is node slot asks used same pushed asked uses =
       uses = uses;
     }
 
--- the last of a list that isn't empty
-pub last-front : {X : Type 0} (xs : List X) (x : X) → slice_get xs (length xs - 1) ≡ Some x → EndsWith x xs
-last-front [] x e = absurd (cc)
-last-front (y ∷ []) x e = let same : y ≡ x = cc in ([], ap (λ z. z ∷ []) same)
-last-front (y ∷ z ∷ ys) x e =
-    let here : length (y ∷ z ∷ ys) - 1 ≡ suc (length ys) = omega arith in
-    let there : length (z ∷ ys) - 1 ≡ length ys = omega arith in
-    let rest = last-front (z ∷ ys) x (ap (slice_get (z ∷ ys)) there ∙ ap (slice_get (y ∷ z ∷ ys)) (sym here) ∙ e) in
-    (y ∷ rest.0, ap (λ zs. y ∷ zs) rest.1)
-
 pub no-items : {N : Type 0} (fs : List (Frame N)) → (length fs == 0) ≡ true → fs ≡ []
 no-items [] e = refl
 no-items (f ∷ fs) e = let none : length (f ∷ fs) ≡ 0 = eqb_true (length (f ∷ fs)) 0 e in absurd (omega arith)
 
 -- the last open node's part of what open nodes asked and used, as the code takes it
 pub keep_part : (k : ℕ) (uses held once : List Use) → held ≡ uses → HasEachOnce once (take (length held - k) (drop k held)) → HasEachOnce once (drop k uses)
-keep_part k uses held once e h = subst (λ us. HasEachOnce once (drop k us)) e (subst (HasEachOnce once) (take_rest held k) h)
+keep_part k uses held once e h = rw e at (subst (HasEachOnce once) (take_rest held k) h)
 
 pub kept_part : (l m : Linked) (slot k : ℕ) (asked held : List ℕ) (given once : List Use) → held ≡ asked → given ≡ once
     → LinksKeep l m slot (take (length held - k) (drop k held)) given → LinksKeep l m slot (drop k asked) once
 kept_part l m slot k asked held given once e f h =
-    subst (λ us. LinksKeep l m slot (drop k asked) us) f
-    (subst (λ xs. LinksKeep l m slot (drop k xs) given) e (subst (λ xs. LinksKeep l m slot xs given) (take_rest held k) h))
+    subst (LinksKeep l m slot (drop k asked)) f
+    (rw e at (rw (take_rest held k) at h))
 
 module _ {N V F : Type 0} (ps : List (N × Slot V F)) where
   open_pair : (n : N) (o : Option (N × Slot V F)) → option_map (λ p. p.0) o ≡ Some n → option_map (λ p. p.1) o ≡ Some opened → o ≡ Some (n, opened)
@@ -84,29 +74,27 @@ module _ {N V F : Type 0} (ps : List (N × Slot V F)) where
 
   pub top : (frames : Frames N) (f : Frame N) → AreFrames ps frames → EndsWith f frames.frames.items → IsTop frames f
   top frames f h ends =
-      let turned : reverse frames.frames.items ≡ f ∷ reverse ends.0 = ap reverse ends.1 ∙ reverse-append ends.0 (f ∷ []) in
+      let turned : reverse frames.frames.items ≡ f ∷ reverse ends.0 = cc (reverse-append ends.0 (f ∷ [])) in
       let waits : AllByRecursion (λ f. IsOpen ps f.slot) (f ∷ reverse ends.0) = subst (AllByRecursion (λ f. IsOpen ps f.slot)) turned h.waits in
       let nested : AreNested (f ∷ reverse ends.0) (length frames.asked.items) (length frames.uses.items) =
-      subst (λ fs. AreNested fs (length frames.asked.items) (length frames.uses.items)) turned h.nested in
+      rw turned at h.nested in
       let nodes : AllByRecursion (λ f. node_at ps f.slot ≡ Some f.node) (f ∷ reverse ends.0) =
       subst (AllByRecursion (λ f. node_at ps f.slot ≡ Some f.node)) turned h.nodes in
-      let pair = open_pair f.node (slice_get ps f.slot) nodes.0 (sym (slice_get-map (λ p. p.1) ps f.slot) ∙ waits.0) in
+      let pair = open_pair f.node _ nodes.0 (sym (slice_get-map (λ p. p.1) ps f.slot) ∙ waits.0) in
       record { front = ends.0; turned = turned; there = pair; asks = nested.0; count = nested.1 }
 
   pub top-opens : (frames : Frames N) (f : Frame N) (t : IsTop frames f) → opens_of ps frames ≡ top_of frames f f.node ∷ below frames f t.front
   top-opens frames f t =
-      ap (λ fs. opens_in ps fs frames.asked.items frames.uses.items) t.turned
-      ∙ ap (λ o. open_before o (answers_at (slots_of ps) (drop f.asked frames.asked.items)) (nodes_at ps (drop f.asked frames.asked.items))
-      (drop f.uses frames.uses.items) (below frames f t.front)) (node_there ps f.slot f.node opened t.there)
+      cc (node_there ps f.slot f.node opened t.there)
 
   -- memory was refused before it was kept
   pub unchanged-laid : (l m : Linked) (frames : Frames N) → IsUnchanged l m → IsLaidOut ps l frames → IsLaidOut ps m frames
   unchanged-laid l m frames same h = record {
     kept = record {
-      kept = λ i. ap (λ ks. is_kept ks i) same.kept ∙ h.kept.kept i;
+      kept = λ i. cc (h.kept.kept i);
       asked = λ i k. subst (AllByRecursion (IsKept ps)) (sym (ap (λ rs. row rs i) same.asked)) (h.kept.asked i k);
       idle = same.waits ∙ h.kept.idle;
-      slots = (let e = ap length same.kept in let le = h.kept.slots in omega arith);
+      slots = omega (arith, ap length same.kept);
     };
     waits = h.waits;
   }
@@ -125,17 +113,16 @@ module _ {N V F : Type 0} (ps : List (N × Slot V F)) where
   called-laid w l old new r runs refused same asked h =
       let now : reverse new.frames.items ≡ reverse old.frames.items = ap (λ v. reverse v.items) same in
       let held : new.asked.items ≡ old.asked.items = ap (λ v. v.items) asked in
-      let count : length old.asked.items ≤ length new.asked.items = (let e = ap length held in omega arith) in
+      let count : length old.asked.items ≤ length new.asked.items = (omega (arith, ap length held)) in
       record {
         kept = h.kept;
         waits = record {
           waits = subst (AllByRecursion (λ f. IsOpen ps f.slot)) (sym now) h.waits.waits;
           nodes = subst (AllByRecursion (λ f. node_at ps f.slot ≡ Some f.node)) (sym now) h.waits.nodes;
-          all = λ k o. subst (λ fs. IsOneOf (map (λ (f : Frame N). f.slot) fs) k) (sym now) (h.waits.all k o);
-          once = subst (λ fs. AllDiffer (map (λ (f : Frame N). f.slot) fs)) (sym now) h.waits.once;
+          all = λ k o. rw now (h.waits.all k o);
+          once = rw now h.waits.once;
           asked = subst (AllByRecursion (IsKept ps)) (sym held) h.waits.asked;
-          nested = subst (λ fs. AreNested fs (length new.asked.items) (length new.uses.items)) (sym now)
-              (grown (reverse old.frames.items) _ _ _ _ count (more_uses w old new r runs refused) h.waits.nested);
+          nested = rw now (grown (reverse old.frames.items) _ _ _ _ count (more_uses w old new r runs refused) h.waits.nested);
         };
       }
 
@@ -147,20 +134,18 @@ module _ {N V F : Type 0} (ps : List (N × Slot V F)) where
   runs w old new f ends slots held rs same is lent (Err e) step uses = tt
   runs w old new f ends slots held rs same is lent (Ok s) step uses =
       let part : rs ≡ replies_of ps f old = lent ∙ ap (answers_at slots) (take_rest held f.asked) ∙ (λ i. answers_at (same i) (drop f.asked (is i))) in
-      record { frame = f; last = ends; step = step ∙ ap (w.follow f.node) part; uses = uses ∙ ap (λ xs. old.uses.items ++ w.added f.node xs) part }
+      record { frame = f; last = ends; step = cc; uses = cc }
 
   pub same-frames : (old new : Frames N) → SameFrames old new → AreFrames ps old → AreFrames ps new
   same-frames old new same h =
       let now : reverse new.frames.items ≡ reverse old.frames.items = ap reverse same.frames in
-      let P : List ℕ → List Use → Type 0 = λ xs us. AreNested (reverse old.frames.items) (length xs) (length us) in
       record {
         waits = subst (AllByRecursion (λ f. IsOpen ps f.slot)) (sym now) h.waits;
         nodes = subst (AllByRecursion (λ f. node_at ps f.slot ≡ Some f.node)) (sym now) h.nodes;
-        all = λ k o. subst (λ fs. IsOneOf (map (λ (f : Frame N). f.slot) fs) k) (sym now) (h.all k o);
-        once = subst (λ fs. AllDiffer (map (λ (f : Frame N). f.slot) fs)) (sym now) h.once;
+        all = λ k o. rw now (h.all k o);
+        once = rw now h.once;
         asked = subst (AllByRecursion (IsKept ps)) (sym same.asked) h.asked;
-        nested = subst (λ fs. AreNested fs (length new.asked.items) (length new.uses.items)) (sym now)
-            (subst (λ us. P new.asked.items us) (sym same.uses) (subst (λ xs. P xs old.uses.items) (sym same.asked) h.nested));
+        nested = rw now (rw same.uses (rw same.asked h.nested));
       }
 
   -- ---- the last open node is taken out, which leaves these slots
@@ -174,8 +159,8 @@ module _ {N V F : Type 0} (ps : List (N × Slot V F)) where
   pub pops : (l : Linked) (frames new : Frames N) (f : Frame N) (qs : List (N × Slot V F)) (s : Slot V F) → IsLaidOut ps l frames
       → EndsWith f frames.frames.items → Popped f frames new → qs ≡ with_slot ps f.slot s → IsPopped l frames new f qs s
   pops l frames new f qs s laid ends popped set =
-      let t = top frames f laid.waits ends in
-      let changes = set_at ps qs f.slot f.node opened s t.there set in
+      let t = top _ _ laid.waits ends in
+      let changes = set_at _ _ _ _ opened _ t.there set in
       record { laid = laid; popped = popped; top = t; changes = changes; count = set_count ps f.slot s qs set }
 
   module _ {l : Linked} {frames new : Frames N} {f : Frame N} {qs : List (N × Slot V F)} {s : Slot V F} (p : IsPopped l frames new f qs s) where
@@ -184,28 +169,27 @@ module _ {N V F : Type 0} (ps : List (N × Slot V F)) where
 
     same_front : reverse new.frames.items ≡ reverse p.top.front
     same_front = tail-same (reverse new.frames.items) (reverse p.top.front)
-        (sym (ap reverse p.popped.frames ∙ reverse-append new.frames.items (f ∷ [])) ∙ p.top.turned)
+        (cc (reverse-append new.frames.items (f ∷ [])))
       where
         tail-same : (xs ys : List (Frame N)) → f ∷ xs ≡ f ∷ ys → xs ≡ ys
         tail-same xs ys e = let same : xs ≡ ys = cc in same
 
     pops-opens : opens_of qs new ≡ below frames f p.top.front
-    pops-opens = opens-pop ps qs f.slot f.node s p.changes top_none f frames new p.laid.waits p.popped
-        ∙ ap (λ fs. opens_in ps fs (take f.asked frames.asked.items) (take f.uses frames.uses.items)) same_front
+    pops-opens = cc (opens-pop _ _ _ _ _ p.changes top_none _ _ _ p.laid.waits p.popped, same_front)
 
   module _ {l : Linked} {frames new : Frames N} {f : Frame N} {qs : List (N × Slot V F)} (p : IsPopped l frames new f qs emptied) where
     pub abandons-laid : IsLaidOut qs l new
     abandons-laid = record {
-      kept = links-stay ps qs f.slot f.node emptied p.changes (top_none p) refl l p.laid.kept (let h = p.laid.kept.slots in let n = p.count in omega arith);
-      waits = frames-pop ps qs f.slot f.node emptied p.changes (top_none p) (λ e. cc) f refl frames new p.laid.waits p.popped;
+      kept = links-stay _ _ _ _ _ p.changes (top_none p) refl _ p.laid.kept (omega arith);
+      waits = frames-pop _ _ _ _ _ p.changes (top_none p) (λ e. cc) _ refl _ _ p.laid.waits p.popped;
     }
 
     pub abandons-kept : entries_of qs l ≡ entries_of ps l
-    abandons-kept = entries-stay ps qs f.slot f.node emptied p.changes (top_none p) refl l p.laid.kept 0
+    abandons-kept = entries-stay _ _ _ _ _ p.changes (top_none p) refl _ p.laid.kept 0
         (let e : length ps ≡ length ps + 0 = omega arith in p.count ∙ e) tt
 
     pub abandons-rest : TakesFirst true (opens_of ps frames) (opens_of qs new)
-    abandons-rest = (top_of frames f f.node, top-opens frames f p.top ∙ ap (λ st. top_of frames f f.node ∷ st) (sym (pops-opens p)))
+    abandons-rest = (top_of frames f f.node, cc (top-opens _ _ p.top, pops-opens p))
 
   -- ---- it is kept with its answer
   pub record IsClosed (l : Linked) (frames new : Frames N) (f : Frame N) (qs : List (N × Slot V F)) (s : Slot V F) (a : Result V F) (all : Linked)
@@ -231,15 +215,15 @@ module _ {N V F : Type 0} (ps : List (N × Slot V F)) where
 
     pub closes-laid : IsLaidOut qs all new
     closes-laid = record {
-      kept = links-keep ps qs f.slot f.node s h.pops.changes (top_none h.pops) a h.is l all (drop f.asked frames.asked.items) h.once h.pops.laid.kept part_kept
-          (let le = h.pops.laid.kept.slots in let lt = slot_in in omega arith) h.in_asked
-          (let le = h.pops.laid.kept.slots in let n = h.pops.count in omega arith) h.kept;
-      waits = frames-pop ps qs f.slot f.node s h.pops.changes (top_none h.pops) not_open f refl frames new h.pops.laid.waits h.pops.popped;
+      kept = links-keep _ _ _ _ _ h.pops.changes (top_none h.pops) a h.is _ _ (drop f.asked frames.asked.items) h.once h.pops.laid.kept part_kept
+          (omega (arith, slot_in)) h.in_asked
+          (omega arith) h.kept;
+      waits = frames-pop _ _ _ _ _ h.pops.changes (top_none h.pops) not_open _ refl _ _ h.pops.laid.waits h.pops.popped;
     }
 
     closes-kept : Keeps (top_of frames f f.node) a (entries_of ps l) (entries_of qs all)
     closes-kept =
-        let p = entries-keep ps qs f.slot f.node s h.pops.changes (top_none h.pops) a h.is l all (drop f.asked frames.asked.items) h.once h.pops.laid.kept
+        let p = entries-keep _ _ _ _ _ h.pops.changes (top_none h.pops) a h.is _ all (drop f.asked frames.asked.items) h.once h.pops.laid.kept
         part_kept h.in_asked h.in_uses slot_in h.pops.count h.kept in
         record { once = h.once; each = h.each; front = p.front; back = p.back; was = p.was; kept = p.now }
 
@@ -248,35 +232,34 @@ module _ {N V F : Type 0} (ps : List (N × Slot V F)) where
         (record { kept = entries_of qs all; opened = opens_of qs new })
     closes-last none =
         let empty : below frames f h.pops.top.front ≡ [] =
-        sym (pops-opens h.pops) ∙ ap (λ fs. opens_in qs (reverse fs) new.asked.items new.uses.items) none in
-        let C : List (Open N (Result V F)) → Type 0 = λ st. Closes a st (record { kept = entries_of ps l; opened = opens_of ps frames })
-        (record { kept = entries_of qs all; opened = opens_of qs new }) in
-        subst C (sym (top-opens frames f h.pops.top ∙ ap (λ st. top_of frames f f.node ∷ st) empty)) (closes-kept, pops-opens h.pops ∙ empty)
+        cc (pops-opens h.pops) in
+        rw (top-opens _ _ h.pops.top ∙ ap (λ st. top_of frames f f.node ∷ st) empty) (closes-kept, pops-opens h.pops ∙ empty)
 
     -- the one below gets its answer
     kept_now : IsKept qs f.slot
     kept_now = ap is_some (answer_there qs f.slot f.node s h.pops.changes.here ∙ h.is)
 
     pub hears-laid : (last : Frames N) → Heard f.slot new last → IsLaidOut qs all last
-    hears-laid last heard = record { kept = closes-laid.kept; waits = frames-hear qs f.slot kept_now new last closes-laid.waits heard }
+    hears-laid last heard = record { kept = closes-laid.kept; waits = frames-hear _ _ kept_now _ _ closes-laid.waits heard }
 
     pub closes-more : (last : Frames N) → Heard f.slot new last
         → Closes a (opens_of ps frames) (record { kept = entries_of ps l; opened = opens_of ps frames })
         (record { kept = entries_of qs all; opened = opens_of qs last })
     closes-more last hears =
         let opens : opens_of qs last ≡ heard f.node a (below frames f h.pops.top.front) =
-        opens-hear qs f.slot f.node a (node_there qs f.slot f.node s h.pops.changes.here) (answer_there qs f.slot f.node s h.pops.changes.here ∙ h.is) new last
-        closes-laid.waits hears ∙ ap (heard f.node a) (pops-opens h.pops) in
-        let C : List (Open N (Result V F)) → Type 0 = λ st. Closes a st (record { kept = entries_of ps l; opened = opens_of ps frames })
-        (record { kept = entries_of qs all; opened = opens_of qs last }) in
-        subst C (sym (top-opens frames f h.pops.top)) (closes-kept, opens)
+        cc (
+          opens-hear _ _ f.node a (node_there qs f.slot f.node s h.pops.changes.here)
+              (answer_there qs f.slot f.node s h.pops.changes.here ∙ h.is) _ _ closes-laid.waits hears,
+          pops-opens h.pops,
+        ) in
+        rw (top-opens _ _ h.pops.top) (closes-kept, opens)
 
     pub may-keep : MayKeep a (opens_of ps frames) (entries_of ps l) (entries_of qs all)
-    may-keep = subst (λ st. MayKeep a st (entries_of ps l) (entries_of qs all)) (sym (top-opens frames f h.pops.top)) (inr closes-kept)
+    may-keep = rw (top-opens _ _ h.pops.top) (inr closes-kept)
 
   -- ---- what keeping it requires
   pub keep-in : (l : Linked) (frames : Frames N) (f : Frame N) → AreLinked ps l → IsTop frames f → f.slot < length l.kept
-  keep-in l frames f h t = let lt = slice_get_within ps f.slot (f.node, opened) t.there in let le = h.slots in omega arith
+  keep-in l frames f h t = omega (arith, slice_get_within ps f.slot (f.node, opened) t.there)
 
   pub keep-out : (l : Linked) (frames : Frames N) (f : Frame N) → AreLinked ps l → IsTop frames f → is_kept l.kept f.slot ≡ false
   keep-out l frames f h t = h.kept f.slot ∙ ap is_some (answer_there ps f.slot f.node opened t.there)

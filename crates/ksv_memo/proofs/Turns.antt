@@ -24,21 +24,19 @@ module _ {N A : Type 0} (w : Standing N A) (law : IsSettled w) (eq : N → N →
       by : (x : Bool) → eq a b ≡ x → (y : Bool) → nat_eq (w.number a) (w.number b) ≡ y → x ≡ y
       by true e true f = refl
       by false e false f = refl
-      by true e false f = let same : w.number a ≡ w.number b = ap (λ z. w.number z) (exact a b e) in let yes : nat_eq (w.number a) (w.number b) ≡ true =
+      by true e false f = let same : w.number a ≡ w.number b = ap w.number (exact a b e) in let yes : nat_eq (w.number a) (w.number b) ≡ true =
           eq-eqb (w.number a) (w.number b) same in cc
       by false e true f = let same : a ≡ b = law.own_number a b (eqb_true (w.number a) (w.number b) f) in let yes : eq a a ≡ true =
           laws.refl a in let moved : eq a b ≡ eq a a = ap (eq a) (sym same) in cc
 
   any_waits : (st : List (Open N A)) (n : N) → list_any (λ o. eq n o.node) st ≡ is_among w.number (nodes_in st) n
   any_waits [] n = refl
-  any_waits (o ∷ st) n = ap (λ b. b || list_any (λ o. eq n o.node) st) (eq_number n o.node)
-      ∙ ap (λ b. nat_eq (w.number n) (w.number o.node) || b) (any_waits st n)
+  any_waits (o ∷ st) n = cc (eq_number n o.node, any_waits st n)
 
   -- a node that is kept has an entry
   pub any_entry : (es : List (Entry N A)) (n : N) → list_any (λ e. eq n e.node) es ≡ is_among w.number (nodes_of es) n
   any_entry [] n = refl
-  any_entry (e ∷ es) n = ap (λ b. b || list_any (λ e. eq n e.node) es) (eq_number n e.node)
-      ∙ ap (λ b. nat_eq (w.number n) (w.number e.node) || b) (any_entry es n)
+  any_entry (e ∷ es) n = cc (eq_number n e.node, any_entry es n)
 
   -- the test of the table says whether a node is open
   pub waits_among : (st : List (Open N A)) (n : N) → list_any (λ o. eq n o.node) st ≡ is_among w.number (nodes_in st) n
@@ -58,8 +56,8 @@ calls-replied w es o m a st few = same_product _ _ (calls_of w (with_answer o m 
 calls-kept : {N A : Type 0} (w : Standing N A) (es : List (Entry N A)) (e : Entry N A) (o p : Open N A) (m : N) (a : A) (st : List (Open N A))
     → length o.replies ≤ w.replies → length p.replies < w.replies → calls_left w (es ++ e ∷ []) (with_answer p m a) st < calls_left w es o (p ∷ st)
 calls-kept w es e o p m a st le few =
-    same_product ((w.nodes - (length (es ++ e ∷ []) + length (with_answer p m a ∷ st))) * (w.replies + 2))
-    ((w.nodes - (length es + length (o ∷ p ∷ st))) * (w.replies + 2))
+    same_product _
+    _
     (calls_of w (with_answer p m a ∷ st)) (calls_of w (o ∷ p ∷ st))
     (ap (λ k. (w.nodes - k) * (w.replies + 2)) (simp length-append (omega arith)))
     (simp length-append (omega arith))
@@ -72,7 +70,7 @@ calls-opened w es o m st le =
     let x : ℕ = calls_of w (newly m ∷ o ∷ st) in
     let y : ℕ = calls_of w (o ∷ st) in
     let more : x < y + (w.replies + 2) = omega arith in
-    subst (λ z. k * (w.replies + 2) + x < z * (w.replies + 2) + y) (sym eq) (fewer k w.replies x y more)
+    rw eq (fewer k w.replies x y more)
 
 kept_last : {N A : Type 0} (w : Standing N A) (es : List (Entry N A)) (e : Entry N A) → IsIn w (nodes_of (es ++ e ∷ [])) e.node
 kept_last {N} {A} w es e = (All-right (λ (x : Entry N A). IsIn w (nodes_of (es ++ e ∷ [])) x.node) es (e ∷ []) (self_in w (es ++ e ∷ []))).0
@@ -101,23 +99,23 @@ module _ {N A : Type 0} (w : Standing N A) (law : IsSettled w) where
       → GoesOn w (account_at w es o (p ∷ st) (Done a)) es (es ++ kept_of o a once ∷ []) (with_answer p o.node a) st
   goes-kept es o p st a once h ended each =
       let e : Entry N A = kept_of o a once in
-      let right : IsRight w (es ++ e ∷ []) = keeps w law es o (p ∷ st) a once h ended each in
-      let waits : IsWaiting w (es ++ e ∷ []) p o.node = IsWaiting-keep w es e p o.node h.chain.0 in
+      let right : IsRight w (es ++ e ∷ []) = keeps _ law _ _ _ _ _ h ended each in
+      let waits : IsWaiting w (es ++ e ∷ []) p o.node = IsWaiting-keep _ _ e _ _ h.chain.0 in
       let says : (g : N → Outcome N A) → Agrees (es ++ e ∷ []) g
       → g o.node ≡ Answered a = λ g agree. (All-right (λ (x : Entry N A). g x.node ≡ Answered x.answer) es (e ∷ []) agree).0 in
       let left_over : debt w (es ++ e ∷ []) (rest_of w (with_answer p o.node a) st) ≡ debt w (es ++ e ∷ []) (climbed_rest w (p ∷ st) (Answered a)) =
       ap (debt w (es ++ e ∷ [])) (rest-replied w p o.node a st) in
       let paid : debt w es (rest_at w o (p ∷ st) (Done a)) ≡ length o.asked + 1 + debt w (es ++ e ∷ []) (climbed_rest w (p ∷ st) (Answered a)) =
-      debt-keep w law es e o (p ∷ st) a (climbed_rest w (p ∷ st) (Answered a)) h ended refl in
+      debt-keep _ law _ e _ _ _ (climbed_rest w (p ∷ st) (Answered a)) h ended refl in
       record {
         stack = closes w es o p st e h refl right;
-        came = replied w (es ++ e ∷ []) p o.node a waits (kept_last w es e) says;
-        grown = λ x k. ap (λ ns. is_among w.number ns x) (nodes_of-append es (e ∷ [])) ∙ IsIn-append w (nodes_of es) (e.node ∷ []) x k;
+        came = replied _ _ _ _ a waits (kept_last w es e) says;
+        grown = λ x k. cc (nodes_of-append es (e ∷ []), IsIn-append w (nodes_of es) (e.node ∷ []) x k);
         value = value-replied w p o.node a st;
         fewer = calls-kept w es e o p o.node a st ended.few h.chain.0.few;
         all = λ x. ap (λ ns. is_among w.number ns x)
-            (ap (to_keep w (es ++ e ∷ [])) (rest-replied w p o.node a st) ∙ covers-keep w es e o.node (climbed_rest w (p ∷ st) (Answered a)) refl h.apart.0);
-        calls = calls-paid _ _ (debt w (es ++ e ∷ []) (climbed_rest w (p ∷ st) (Answered a))) (length o.asked) (length p.asked) (made st) _ left_over paid
+            (cc (rest-replied w p o.node a st, covers-keep w es e _ (climbed_rest w (p ∷ st) (Answered a)) refl h.apart.0));
+        calls = calls-paid _ _ _ (length o.asked) (length p.asked) (made st) _ left_over paid
             (length-append p.asked (o.node ∷ []));
       }
 
@@ -126,7 +124,7 @@ module _ {N A : Type 0} (w : Standing N A) (law : IsSettled w) where
       → q ≡ with_answer p o.node a
       → GoesOn w (account_at w es o st (Done a)) es all q rest
   finish-goes es all front back o p q st rest a once h ended each was more popped is =
-      let stack : IsStack w es o.node (p ∷ rest) = subst (λ below. IsStack w es o.node below) popped h in
+      let stack : IsStack w es o.node (p ∷ rest) = subst (IsStack w es o.node) popped h in
       let P : List (Open N A) → List (Entry N A) → Open N A → Type 0 = λ below xs r. GoesOn w (account_at w es o below (Done a)) es xs r rest in
       let goes = subst (λ xs. P (p ∷ rest) (xs ++ kept_of o a once ∷ []) (with_answer p o.node a)) was (goes-kept es o p rest a once stack ended each) in
       let moved : P (p ∷ rest) (front ++ kept_of o a once ∷ back) (with_answer p o.node a) =
@@ -144,8 +142,8 @@ module _ {N A : Type 0} (w : Standing N A) (law : IsSettled w) where
       let now : length o.asked + 0 + 1 ≡ debt w es (o.node ∷ []) = omega arith in
       record {
         value = refl;
-        right = keeps w law es o [] a once h ended each;
-        all = λ x. ap (λ ns. is_among w.number ns x) (to_keep-nil w (es ++ e ∷ []) ∙ covers-keep w es e o.node [] refl h.apart.0);
+        right = keeps _ law _ _ _ _ _ h ended each;
+        all = λ x. ap (λ ns. is_among w.number ns x) (to_keep-nil w (es ++ e ∷ []) ∙ covers-keep w es e _ [] refl h.apart.0);
         calls = λ _. now;
       }
 
@@ -153,11 +151,11 @@ module _ {N A : Type 0} (w : Standing N A) (law : IsSettled w) where
       → IsStack w es o.node st → HasEnded w es o a → HasEachOnce once o.uses → es ≡ front ++ back → all ≡ front ++ kept_of o a once ∷ back → st ≡ [] → b ≡ a
       → HasFinished w (account_at w es o st (Done a)) all (Answered b)
   finish-ends es all front back o st a b once h ended each was more none copy =
-      let stack : IsStack w es o.node [] = subst (λ below. IsStack w es o.node below) none h in
+      let stack : IsStack w es o.node [] = subst (IsStack w es o.node) none h in
       let P : List (Open N A) → List (Entry N A) → A → Type 0 = λ below xs x. HasFinished w (account_at w es o below (Done a)) xs (Answered x) in
-      let ends = subst (λ xs. P [] (xs ++ kept_of o a once ∷ []) a) was (ends-kept es o a once stack ended each) in
+      let ends = subst (λ xs. P [] (xs ++ kept_of o a once ∷ []) a) was (ends-kept _ _ _ _ stack ended each) in
       let moved : P [] (front ++ kept_of o a once ∷ back) a =
-      finished-moved w front back (kept_of o a once) (account_at w es o [] (Done a)) (Answered a) ends in
+      finished-moved _ front back (kept_of o a once) _ _ ends in
       subst (λ below. P below all b) (sym none) (subst (λ xs. P [] xs b) (sym more) (subst (P [] (front ++ kept_of o a once ∷ back)) (sym copy) moved))
 
   -- memory is refused once a node is kept, or before
@@ -169,40 +167,42 @@ module _ {N A : Type 0} (w : Standing N A) (law : IsSettled w) where
       let rest : List N = climbed_rest w st (Answered a) in
       let P : List (Entry N A) → Type 0 = λ xs. IsLeft w (to_keep w es (o.node ∷ rest)) es xs in
       let here : P (es ++ e ∷ []) = record {
-        right = keeps w law es o st a once h ended each;
-        grown = λ x k. ap (λ ns. is_among w.number ns x) (nodes_of-append es (e ∷ [])) ∙ IsIn-append w (nodes_of es) (e.node ∷ []) x k;
-        within = λ x k. ap (λ ns. is_among w.number ns x) (sym (covers-keep w es e o.node rest refl h.apart.0))
-            ∙ IsIn-append w (nodes_of (es ++ e ∷ [])) (fresh w.number (nodes_of (es ++ e ∷ [])) rest) x k;
+        right = keeps _ law _ _ _ _ _ h ended each;
+        grown = λ x k. cc (nodes_of-append es (e ∷ []), IsIn-append w (nodes_of es) (e.node ∷ []) x k);
+        within = λ x k. cc (
+          covers-keep w es e _ rest refl h.apart.0,
+          IsIn-append w (nodes_of (es ++ e ∷ [])) (fresh w.number (nodes_of (es ++ e ∷ [])) rest) x k,
+        );
       } in
-      subst P (sym more) (left-moved w front back e (to_keep w es (o.node ∷ rest)) es (subst (λ xs. P (xs ++ e ∷ [])) was here))
+      subst P (sym more) (left-moved _ front back e _ _ (rw (← was) here))
 
   pub left-same : (es all : List (Entry N A)) (rest : List N) → IsRight w es → all ≡ es → IsLeft w (to_keep w es rest) es all
   left-same es all rest right same =
-      let P : List (Entry N A) → Type 0 = λ xs. IsLeft w (to_keep w es rest) es xs in
-      subst P (sym same) (record { right = right; grown = λ x k. k; within = λ x k. IsIn-append w (nodes_of es) (fresh w.number (nodes_of es) rest) x k })
+      rw same (record { right = right; grown = λ x k. k; within = λ x k. IsIn-append w (nodes_of es) (fresh w.number (nodes_of es) rest) x k })
 
   -- a kept answer is replied
   pub need-replies : (es : List (Entry N A)) (o q : Open N A) (st : List (Open N A)) (m : N) (a : A)
       → IsStack w es o.node st → IsWaiting w es o m → IsIn w (nodes_of es) m → ((g : N → Outcome N A) → Agrees es g → g m ≡ Answered a) → q ≡ with_answer o m a
       → GoesOn w (account_at w es o st (Need m)) es es q st
   need-replies es o q st m a h waits is_in says is =
-      let P : Open N A → Type 0 = λ r. GoesOn w (account_at w es o st (Need m)) es es r st in
       let told_so : Answered a ≡ answering w (o.node ∷ nodes_in st) m =
       sym (says (answering w (o.node ∷ nodes_in st)) (agrees w law es h.right (o.node ∷ nodes_in st) h.apart)) in
       let inside : AllByRecursion (IsIn w (nodes_of es)) (done w (o.node ∷ nodes_in st) m) =
       done-kept w law es h.right (o.node ∷ nodes_in st) h.apart m is_in in
       let same_debt : debt w es (rest_of w (with_answer o m a) st) ≡ debt w es (rest_at w o st (Need m)) =
-      ap (debt w es) (rest-replied w o m a st ∙ ap (climbed_rest w (o ∷ st)) told_so)
-      ∙ debt-drop w es (done w (o.node ∷ nodes_in st) m) (climbed_rest w (o ∷ st) (answering w (o.node ∷ nodes_in st) m)) inside in
-      subst P (sym is) (record {
+      cc (rest-replied w o m a st, debt-drop w es (done w (o.node ∷ nodes_in st) m) (climbed_rest w (o ∷ st) (answering w (o.node ∷ nodes_in st) m)) inside) in
+      rw is (record {
         stack = h;
         came = replied w es o m a waits is_in says;
         grown = λ x k. k;
-        value = value-replied w o m a st ∙ ap (climbed w (o ∷ st)) told_so;
+        value = cc (value-replied w o m a st);
         fewer = calls-replied w es o m a st waits.few;
         all = λ x. ap (λ ns. is_among w.number ns x)
-            (ap (to_keep w es) (rest-replied w o m a st ∙ ap (climbed_rest w (o ∷ st)) told_so)
-            ∙ covers-drop w es (done w (o.node ∷ nodes_in st) m) (climbed_rest w (o ∷ st) (answering w (o.node ∷ nodes_in st) m)) inside);
+            (cc (
+              rest-replied w o m a st,
+              covers-drop w es (done w (o.node ∷ nodes_in st) m)
+                  (climbed_rest w (o ∷ st) (answering w (o.node ∷ nodes_in st) m)) inside,
+            ));
         calls = calls-more _ _ (length o.asked) (made st) _ same_debt (length-append o.asked (m ∷ []));
       })
 
@@ -212,15 +212,14 @@ module _ {N A : Type 0} (w : Standing N A) (law : IsSettled w) where
       → GoesOn w (account_at w es o st (Need m)) es es q above
   need-opens es o q st above m h waits out free is over =
       let stack : IsStack w es m (o ∷ st) = opens w es o st m h waits out free in
-      let P : List (Open N A) → Open N A → Type 0 = λ up r. GoesOn w (account_at w es o st (Need m)) es es r up in
       let same_debt : debt w es (rest_of w (newly m) (o ∷ st)) ≡ debt w es (rest_at w o st (Need m)) =
       ap (debt w es) (rest-starts w law (o ∷ st) m h.distinct free) in
-      subst (λ up. P up q) (sym over) (subst (P (o ∷ st)) (sym is) (record {
+      rw over (rw is (record {
         stack = stack;
         came = starts w es m;
         grown = λ x k. k;
         value = value-starts w law o st m h.distinct free;
-        fewer = calls-opened w es o m st (room w law es m (o ∷ st) stack);
+        fewer = calls-opened w es o m st (room _ law _ _ _ stack);
         all = λ x. ap (λ ns. is_among w.number (to_keep w es ns) x) (rest-starts w law (o ∷ st) m h.distinct free);
         calls = calls-open _ _ (length o.asked) (made st) same_debt;
       }))
@@ -248,29 +247,25 @@ module _ {N A : Type 0} (w : Standing N A) (law : IsSettled w) where
 
   pub turn-steps : (es now : List (Entry N A)) (o p : Open N A) (s : Next N A) → now ≡ es → p ≡ with_uses o (w.added o.node o.replies)
       → s ≡ w.follow o.node o.replies → HasCome w es o → HasStepped w now p s
-  turn-steps es now o p s same view is h = let P : List (Entry N A) → Open N A
-      → Type 0 = λ xs q. HasStepped w xs q s in subst (λ xs. P xs p) (sym same) (subst (P es) (sym view) (stepped w law es o s is h))
+  turn-steps es now o p s same view is h = rw same (rw view (stepped w law es o s is h))
 
   -- ---- a question begins
   pub begins : (es : List (Entry N A)) (n : N) (o : Open N A) (st : List (Open N A)) → o ≡ newly n → st ≡ [] → IsRight w es → IsOut w (nodes_of es) n
       → IsStack w es o.node st
   begins es n o st e f right out = let P : N → List (Open N A)
-      → Type 0 = λ m below. IsStack w es m below in subst (λ below. P o.node below) (sym f)
-      (subst (λ (q : Open N A). P q.node []) (sym e)
-      (record { right = right; chain = tt; distinct = AreDistinct-cons w n [] refl (AreDistinct-none w); apart = (out, tt) }))
+      → Type 0 = λ m below. IsStack w es m below in subst (P o.node) (sym f)
+      (rw e (record { right = right; chain = tt; distinct = AreDistinct-cons w n [] refl (AreDistinct-none w); apart = (out, tt) }))
 
   pub comes : (es : List (Entry N A)) (n : N) (o : Open N A) → o ≡ newly n → HasCome w es o
-  comes es n o e = let P : Open N A → Type 0 = λ q. HasCome w es q in subst P (sym e) (starts w es n)
+  comes es n o e = rw e (starts w es n)
 
   pub value-begins : (n : N) (o : Open N A) (st : List (Open N A)) → o ≡ newly n → st ≡ [] → value_of w o st ≡ (tells w [] n).outcome
   value-begins n o st e f =
       let eq : suc w.replies - 0 ≡ suc w.replies = omega arith in
-      ap (λ q. value_of w q st) e ∙ ap (λ below. value_of w (newly n) below) f
-      ∙ ap (λ (u : Told N A). u.outcome) (ap (λ j. told w (answering w (n ∷ [])) n j []) eq ∙ sym (tells-free w law [] n (AreDistinct-none w) refl))
+      cc (tells-free w law [] n (AreDistinct-none w) refl)
 
   rest-begins : (n : N) (o : Open N A) (st : List (Open N A)) → o ≡ newly n → st ≡ [] → rest_of w o st ≡ done w [] n
-  rest-begins n o st e f = ap (λ q. rest_of w q st) e ∙ ap (λ below. rest_of w (newly n) below) f ∙ rest-starts w law [] n (AreDistinct-none w) refl
-      ∙ append-nil (done w [] n)
+  rest-begins n o st e f = cc (rest-starts w law [] n (AreDistinct-none w) refl, append-nil (done w [] n))
 
   pub covers-begins : (es : List (Entry N A)) (n : N) (o : Open N A) (st : List (Open N A)) → o ≡ newly n → st ≡ []
       → to_keep w es (rest_of w o st) ≡ to_keep w es (done w [] n)
@@ -280,29 +275,30 @@ module _ {N A : Type 0} (w : Standing N A) (law : IsSettled w) where
       → 0 + debt w es (rest_of w o st) ≡ debt w es (done w [] n) + (length o.asked + made st)
   turns-begin es n o st e f =
       let owed : debt w es (rest_of w o st) ≡ debt w es (done w [] n) = ap (debt w es) (rest-begins n o st e f) in
-      let none : length o.asked ≡ 0 = ap (λ (q : Open N A). length q.asked) e in
+      let none : length o.asked ≡ 0 = ap (λ q. length q.asked) e in
       let below : made st ≡ 0 = ap made f in
       omega arith
 
   -- ---- a kept node is asked
   pub covers-kept : (es : List (Entry N A)) (n : N) → IsRight w es → IsIn w (nodes_of es) n → nodes_of es ≡ to_keep w es (done w [] n)
-  covers-kept es n right is_in = to_keep-nil w es ∙ covers-drop w es (done w [] n) [] (done-kept w law es right [] tt n is_in)
-      ∙ ap (to_keep w es) (append-nil (done w [] n))
+  covers-kept es n right is_in = cc (to_keep-nil w es, covers-drop w es (done w [] n) [] (done-kept w law es right [] tt n is_in), append-nil (done w [] n))
 
   pub none-owed : (es : List (Entry N A)) (n : N) → IsRight w es → IsIn w (nodes_of es) n → (turns : Option ℕ) → turns ≡ counted (debt w es (done w [] n)) turns
   none-owed es n right is_in turns =
-      let none : 0 ≡ debt w es (done w [] n) = sym (ap (costs w) (fresh-nil w.number (nodes_of es)))
-      ∙ debt-drop w es (done w [] n) [] (done-kept w law es right [] tt n is_in) ∙ ap (debt w es) (append-nil (done w [] n)) in
+      let none : 0 ≡ debt w es (done w [] n) = cc (
+        fresh-nil w.number (nodes_of es),
+        debt-drop w es (done w [] n) [] (done-kept w law es right [] tt n is_in),
+        append-nil (done w [] n),
+      ) in
       ap (λ k. counted k turns) none
 
 pub counts-end : (before now new : Option ℕ) (owed so_far total : ℕ) → Counts before now owed so_far total → so_far + 1 ≡ owed → new ≡ counted 1 now
     → new ≡ counted total before
-counts-end before now new owed so_far total h e f = let last : suc h.0 ≡ total = counts-last h.0 owed so_far total h.2 e in f ∙ ap (counted 1) h.1
-    ∙ ap (λ k. counted k before) last
+counts-end before now new owed so_far total h e f = let last : suc h.0 ≡ total = counts-last h.0 _ so_far _ h.2 e in cc
 
 pub counts-step : (before now new : Option ℕ) (owed owed' so_far so_far' total : ℕ) → Counts before now owed so_far total → owed' + so_far + 1 ≡ owed + so_far'
     → new ≡ counted 1 now → Counts before new owed' so_far' total
-counts-step before now new owed owed' so_far so_far' total h e f = (suc h.0, f ∙ ap (counted 1) h.1, counts-next h.0 owed owed' so_far so_far' total h.2 e)
+counts-step before now new owed owed' so_far so_far' total h e f = (suc h.0, cc, counts-next h.0 owed owed' so_far so_far' total h.2 e)
 
 pub on_err_always : {T E P : Type 0} (r : Result T E) → P → OnErr r P
 on_err_always (Ok x) h = tt

@@ -33,8 +33,8 @@ same-hop {a} {b} {l} {p} {n} h s (suc i) le =
 
 pub same-chain : {a b : List Entry} {l p n : ℕ} → IsChain a l p n → IsSameFor a b l → IsChain b l p n
 same-chain {a} {b} {p} {n} h s = record {
-  some = λ i lt. (omega (arith, hops i (omega arith), h.some i lt));
-  inside = λ i lt. (omega (arith, hops i (omega arith), h.inside i lt));
+  some = λ i lt. omega (arith, hops i (omega arith), h.some i lt);
+  inside = λ i lt. omega (arith, hops i (omega arith), h.inside i lt);
   of = λ i lt. cc (hops i (omega arith), s.named (hop a p i) (h.some i lt) (h.of i lt));
   back = λ i lt. cc (hops i (omega arith), s.before (hop a p i) (h.some i lt) (h.of i lt), h.back i lt, prev i (omega arith));
   ends = hops n (omega arith) ∙ h.ends;

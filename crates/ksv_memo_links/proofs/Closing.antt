@@ -152,7 +152,7 @@ append-touched p q pages e h = record {
   more = h.more;
   hits = λ s hit. sized-hit p q s e h hit;
   near = λ o. absurd o;
-  behind = λ o. (omega (arith, sized-near p q e h));
+  behind = λ o. omega (arith, sized-near p q e h);
 }
 
 user-reached : (p q r : Parts) (s i asked : ℕ) → IsListed p.asks.lists p.asks.named → i < length (row p.asks.named s) → get_or (row p.asks.named s) i 0 ≡ asked

@@ -13,7 +13,7 @@ swapped {X} {Y} f [] ys = sym (zeros ys)
   where
     zeros : (ys : List Y) → sum_by (λ (y : Y). 0) ys ≡ 0
     zeros [] = refl
-    zeros (y ∷ ys) = sum_by-cons (λ (y : Y). 0) y ys ∙ (omega (arith, zeros ys))
+    zeros (y ∷ ys) = sum_by-cons (λ (y : Y). 0) y ys ∙ omega (arith, zeros ys)
 swapped {X} {Y} f (x ∷ xs) ys = cc (sum_by-cons (λ x. sum_by (f x) ys) x xs, swapped f xs ys, both ys)
   where
     both : (ys : List Y) → sum_by (f x) ys + sum_by (λ y. sum_by (λ x. f x y) xs) ys ≡ sum_by (λ y. sum_by (λ x. f x y) (x ∷ xs)) ys

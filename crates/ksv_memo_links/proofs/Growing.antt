@@ -31,11 +31,11 @@ module _ {a : List Entry} {B : List Block} {f : List ℕ} (n : ℕ) (h : IsChain
 
   pub same-named : HasSameRows (named_of a B) (named_of a more)
   same-named = record {
-    more = (omega (
+    more = omega (
       arith,
       ap length (map-append (λ (b : Block). lists_in a b.begin b.count) B (replicate n no_block)),
       length-append (named_of a B) (named_of a (replicate n no_block)),
-    ));
+    );
     each = λ s. cc (named-row a more s, same-blocks s, named-row a B s);
   }
 
@@ -54,7 +54,7 @@ module _ {a : List Entry} {B : List Block} {f : List ℕ} (n : ℕ) (h : IsChain
     inside = λ s p v. h.inside s p (live-as B (sym (same-blocks s)) v);
     owner = λ s p v. h.owner s p (live-as B (sym (same-blocks s)) v);
     found = λ s p v. (let k = h.found s p (live-as B (sym (same-blocks s)) v) in
-        (k.0, (omega (arith, same-naming (entry_at a p).list)), k.2));
+        (k.0, omega (arith, same-naming (entry_at a p).list), k.2));
     live = λ l i lt. (let m = same-naming l in live-as _
         (same-blocks _) (h.live l i (omega arith)));
     fits = h.fits;

@@ -147,7 +147,7 @@ module _ {a : List Entry} {B : List Block} {f : List ℕ} (h : IsChained a B f) 
   all-listed = record {
     owners = users-ask;
     found = entries-use;
-    few = λ l. (omega (arith, list-length l));
+    few = λ l. omega (arith, list-length l);
     apart = places-apart;
   }
 

@@ -142,7 +142,7 @@ module _ (a b : List Entry) (B : List Block) (f : List ℕ) (h : IsChained a B f
       let k = h.found s p v in
       let l = (entry_at a p).list in
       let e : (entry_at b p).list ≡ (entry_at a p).list = ap (λ x. x.list) (each p) in
-      rw e (k.0, (omega (arith, tally_still (entry_at a p).list)), hop_still (entry_at a p).list k.0 (omega arith) ∙ k.2)
+      rw e (k.0, omega (arith, tally_still (entry_at a p).list), hop_still (entry_at a p).list k.0 (omega arith) ∙ k.2)
 
   live_still : (l i : ℕ) → i < many b B l → IsLive B (entry_at b (hop b (first_at f l) i)).owner (hop b (first_at f l) i)
   live_still l i lt =
@@ -154,7 +154,7 @@ module _ (a b : List Entry) (B : List Block) (f : List ℕ) (h : IsChained a B f
   chained-still = record {
     chains = λ l. subst (IsChain b l (first_at f l)) (sym (tally_still l))
         (same-chain (h.chains l) (all_same l));
-    inside = λ s p v. (omega (arith, h.inside s p v));
+    inside = λ s p v. omega (arith, h.inside s p v);
     owner = λ s p v. cc (each p, h.owner s p v);
     found = found_still;
     live = live_still;
@@ -261,8 +261,8 @@ module _ {a b : List Entry} {B : List Block} {f g : List ℕ} {s : ℕ} (bg : �
     else-chain =
         let c = h.chains x in
         record {
-          some = λ i lt. (omega (arith, hops i (omega arith), c.some i lt));
-          inside = λ i lt. (omega (arith, hops i (omega arith), c.inside i lt));
+          some = λ i lt. omega (arith, hops i (omega arith), c.some i lt);
+          inside = λ i lt. omega (arith, hops i (omega arith), c.inside i lt);
           of = λ i lt. cc (hops i (omega arith), u.lists (hop a (first_at f x) i) (off x i lt), c.of i lt);
           back = λ i lt. cc (
             hops i (omega arith),
@@ -308,10 +308,10 @@ module _ {a b : List Entry} {B : List Block} {f g : List ℕ} {s : ℕ} (bg : �
   found_now t q v = by (was t q v)
     where
       by : ((t ≡ s) × (q ≡ p)) ⊎ IsLive B t q → Found q
-      by (inl e) = found_as q (cc) (0, (omega (arith, tally_here)), u.begins ∙ sym e.1)
+      by (inl e) = found_as q (cc) (0, omega (arith, tally_here), u.begins ∙ sym e.1)
       by (inr w) = elim (eqb_tells (entry_at a q).list l) [
         | inl e ↦ let k2 = rw e.1 at was_found in
-            found_as q (same ∙ e.1) (suc k2.0, (omega (arith, tally_here)), hop_here k2.0 (omega arith) ∙ k2.2)
+            found_as q (same ∙ e.1) (suc k2.0, omega (arith, tally_here), hop_here k2.0 (omega arith) ∙ k2.2)
         | inr e ↦ let lt = was_found.1 in
             found_as q same (
               was_found.0,
@@ -523,7 +523,7 @@ module _ (a b : List Entry) (B : List Block) (f g : List ℕ) (s bg k p : ℕ) (
       in_chain : (i : ℕ) → i < suc (many b left l) → hop a (first_at f l) i ≡ q → (i < i0) ⊎ (i0 ≤ i)
           → (j : ℕ) × (j < many b left l) × (hop b (first_at g l) j ≡ q)
       in_chain i lt e (inl il) =
-          (i, (omega (arith, i0_in)), hop-low i0 chain_was (omega (arith, i0_in)) taken i il ∙ e)
+          (i, omega (arith, i0_in), hop-low i0 chain_was (omega (arith, i0_in)) taken i il ∙ e)
       in_chain zero lt e (inr il) =
           let z : 0 ≡ i0 = omega arith in
           absurd (before.1 (cc stood_at))
@@ -563,7 +563,7 @@ module _ (a b : List Entry) (B : List Block) (f g : List ℕ) (s bg k p : ℕ) (
   pub chained-less : IsChained b left g
   chained-less = record {
     chains = chains_left;
-    inside = λ t q v. (omega (arith, h.inside t q (was_live t q v).0));
+    inside = λ t q v. omega (arith, h.inside t q (was_live t q v).0);
     owner = λ t q v. u.owner q ∙ h.owner t q (was_live t q v).0;
     found = found_left;
     live = live_all;

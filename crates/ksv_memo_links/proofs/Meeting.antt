@@ -10,7 +10,7 @@ pub met-put : {rows then : List (List Use)} {named now : List (List ℕ)} {lists
     → IsMet rows named lists → now ≡ set named slot (lists_of_uses us) → length lists2 < 2 ^ 32 → slot < length rows → then ≡ set rows slot us
     → IsMet then now lists2
 met-put {rows} {named} lists2 slot us h e fits lt f = record {
-  wide = (omega (arith, ap length f, length-set rows slot us, ap length e, length-set named slot (lists_of_uses us)));
+  wide = omega (arith, ap length f, length-set rows slot us, ap length e, length-set named slot (lists_of_uses us));
   each = λ s. elim (eqb_tells s slot) [
     | inl q ↦ cc (row_set named slot (lists_of_uses us) (omega arith), row_set rows slot us lt)
     | inr q ↦ cc (row_other named slot s (lists_of_uses us) q.1, h.each s, row_other rows slot s us q.1)

@@ -16,9 +16,9 @@ same-trans p q r h k = record {
 
 pub shaped-more : (p q : Parts) → IsShaped p → SameLinks p q → length q.marks.kept ≡ length p.marks.kept → IsShaped q
 shaped-more p q h s e = record {
-  asks = (omega (arith, ap length s.asks));
-  lists = (omega (arith, ap length s.ask_lists));
-  uses = (omega (arith, ap length s.uses));
+  asks = omega (arith, ap length s.asks);
+  lists = omega (arith, ap length s.ask_lists);
+  uses = omega (arith, ap length s.uses);
   asked_in = λ t lt. (let a = ap (λ rows. length (row rows t)) s.asks in omega (arith, h.asked_in t (omega arith)));
   used_in = λ t lt. (let a = ap (λ rows. length (row rows t)) s.uses in omega (arith, h.used_in t (omega arith)));
 }

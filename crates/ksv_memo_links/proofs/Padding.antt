@@ -25,6 +25,6 @@ row_map {V} {X} f d none rows r = elim (cases_lt r (length rows)) [
 pub rows_more : {V X : Type 0} (f : V → List X) (d : V) → f d ≡ [] → {seen : List (List X)} (rows : List V) (n : ℕ) → map f rows ≡ seen
     → HasSameRows seen (map f (rows ++ replicate n d))
 rows_more {V} {X} f d none rows n same = rw (← same) (record {
-  more = (omega (arith, length-map rows f, length-map (rows ++ replicate n d) f, length-append rows (replicate n d)));
+  more = omega (arith, length-map rows f, length-map (rows ++ replicate n d) f, length-append rows (replicate n d));
   each = λ r. row_map f d none (rows ++ replicate n d) r ∙ ap f (padded rows n r d) ∙ sym (row_map f d none rows r);
 })

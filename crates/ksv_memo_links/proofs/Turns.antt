@@ -88,7 +88,7 @@ IsOwner xs s = (i : ℕ) × (i < length xs) × ((get_or xs i (at 0 0)).owner ≡
 
 -- what a number of a list gives is among what all of them give
 gives : (f : ℕ → ℕ) (xs : List ℕ) (x : ℕ) → Contains xs x → Contains (map f xs) (f x)
-gives f xs x c = (c.0, (omega (arith, length-map xs f)), get_or-map f xs c.0 x (f x) c.1 ∙ ap f c.2)
+gives f xs x c = (c.0, omega (arith, length-map xs f), get_or-map f xs c.0 x (f x) c.1 ∙ ap f c.2)
 
 module _ (rows : List (List Use)) {lists : List (List Item)} (h : IsListed lists (map lists_of_uses rows)) where
   -- a list has no more items than what it stands for is named
@@ -133,12 +133,12 @@ pub listed-as : {lists : List (List Item)} (rows : List (List Use)) {named : Lis
 listed-as {lists} rows {named} each h = record {
   owners = λ l i lt. (rw (alike (item_at lists l i).owner) at (h.owners l i lt));
   found = λ s k lt. ((rw (alike s) at (h.found s k)) lt);
-  few = λ l. (omega (
+  few = λ l. omega (
     arith,
     h.few l,
     rows-le (λ ns. sum_by (one_if l) ns) (λ ns. sum_by (one_if l) ns) named (map lists_of_uses rows) refl refl
         (λ r. ap (sum_by (one_if l)) (alike r)),
-  ));
+  );
   apart = h.apart;
 }
   where

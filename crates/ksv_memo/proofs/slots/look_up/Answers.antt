@@ -7,49 +7,49 @@ use Rattle.ksv_memo.proofs.slots.look_up.Goals as goal
 
 pub returns-in-None-clause-knows : goal.returns-in-None-clause-knows
 returns-in-None-clause-knows g c = any-zip (g.N.PartialEq.eq c.args.node.now) (g.P.Places.nodes c.find.new.self) c.args.slots.now
-    (c.requires ∙ ap length (sym c.find.ensures.nodes)) ∙ c.in-None.ensures.none
+    (cc) ∙ c.in-None.ensures.none
 
 pub returns-in-Empty-clause-knows : goal.returns-in-Empty-clause-knows
-returns-in-Empty-clause-knows g c = inside-zip (g.P.Places.nodes c.find.new.self) c.args.slots.now c.in-Some.place c.args.node.now c.index-slots-place.result
-    Empty (c.requires ∙ ap length (sym c.find.ensures.nodes)) c.in-Some.ensures.some c.index-slots-place.is c.in-Empty.is
+returns-in-Empty-clause-knows g c = inside-zip (g.P.Places.nodes c.find.new.self) c.args.slots.now c.in-Some.place c.args.node.now _
+    _ (cc) c.in-Some.ensures.some c.index-slots-place.is c.in-Empty.is
 
 pub returns-in-Open-clause-knows : goal.returns-in-Open-clause-knows
 returns-in-Open-clause-knows g c = (
   c.in-Some.place,
-  inside-zip (g.P.Places.nodes c.find.new.self) c.args.slots.now c.in-Some.place c.args.node.now c.index-slots-place.result Open
-      (c.requires ∙ ap length (sym c.find.ensures.nodes)) c.in-Some.ensures.some c.index-slots-place.is c.in-Open.is,
+  inside-zip (g.P.Places.nodes c.find.new.self) c.args.slots.now c.in-Some.place c.args.node.now _ _
+      (cc) c.in-Some.ensures.some c.index-slots-place.is c.in-Open.is,
 )
 
 pub returns-in-Value-clause-knows : goal.returns-in-Value-clause-knows
 returns-in-Value-clause-knows g c =
     let slot = Value c.in-Value.field-0 in
-    let there = inside-zip (g.P.Places.nodes c.find.new.self) c.args.slots.now c.in-Some.place c.args.node.now c.index-slots-place.result slot
-    (c.requires ∙ ap length (sym c.find.ensures.nodes)) c.in-Some.ensures.some c.index-slots-place.is c.in-Value.is in
+    let there = inside-zip (g.P.Places.nodes c.find.new.self) c.args.slots.now c.in-Some.place c.args.node.now _ _
+    (cc) c.in-Some.ensures.some c.index-slots-place.is c.in-Value.is in
     ((slot, there), kept_there (zip (g.P.Places.nodes c.find.new.self) c.args.slots.now) c.in-Some.place c.args.node.now slot there refl)
 
 pub returns-in-Fault-clause-knows : goal.returns-in-Fault-clause-knows
 returns-in-Fault-clause-knows g c =
     let slot = Fault c.in-Fault.field-0 in
-    let there = inside-zip (g.P.Places.nodes c.find.new.self) c.args.slots.now c.in-Some.place c.args.node.now c.index-slots-place.result slot
-    (c.requires ∙ ap length (sym c.find.ensures.nodes)) c.in-Some.ensures.some c.index-slots-place.is c.in-Fault.is in
+    let there = inside-zip (g.P.Places.nodes c.find.new.self) c.args.slots.now c.in-Some.place c.args.node.now _ _
+    (cc) c.in-Some.ensures.some c.index-slots-place.is c.in-Fault.is in
     ((slot, there), kept_there (zip (g.P.Places.nodes c.find.new.self) c.args.slots.now) c.in-Some.place c.args.node.now slot there refl)
 
 pub returns-in-None-clause-unique : goal.returns-in-None-clause-unique
 returns-in-None-clause-unique g c = subst (IsDistinct g.N.PartialEq.eq)
-    (sym (keys_of-zip (g.P.Places.nodes c.find.new.self) c.args.slots.now (c.requires ∙ ap length (sym c.find.ensures.nodes)))) c.in-None.ensures.unique
+    (sym (keys_of-zip (g.P.Places.nodes c.find.new.self) c.args.slots.now (cc))) c.in-None.ensures.unique
 
 pub returns-in-Empty-clause-unique : goal.returns-in-Empty-clause-unique
 returns-in-Empty-clause-unique g c = subst (IsDistinct g.N.PartialEq.eq)
-    (sym (keys_of-zip (g.P.Places.nodes c.find.new.self) c.args.slots.now (c.requires ∙ ap length (sym c.find.ensures.nodes)))) c.in-Some.ensures.unique
+    (sym (keys_of-zip (g.P.Places.nodes c.find.new.self) c.args.slots.now (cc))) c.in-Some.ensures.unique
 
 pub returns-in-Open-clause-unique : goal.returns-in-Open-clause-unique
 returns-in-Open-clause-unique g c = subst (IsDistinct g.N.PartialEq.eq)
-    (sym (keys_of-zip (g.P.Places.nodes c.find.new.self) c.args.slots.now (c.requires ∙ ap length (sym c.find.ensures.nodes)))) c.in-Some.ensures.unique
+    (sym (keys_of-zip (g.P.Places.nodes c.find.new.self) c.args.slots.now (cc))) c.in-Some.ensures.unique
 
 pub returns-in-Value-clause-unique : goal.returns-in-Value-clause-unique
 returns-in-Value-clause-unique g c = subst (IsDistinct g.N.PartialEq.eq)
-    (sym (keys_of-zip (g.P.Places.nodes c.find.new.self) c.args.slots.now (c.requires ∙ ap length (sym c.find.ensures.nodes)))) c.in-Some.ensures.unique
+    (sym (keys_of-zip (g.P.Places.nodes c.find.new.self) c.args.slots.now (cc))) c.in-Some.ensures.unique
 
 pub returns-in-Fault-clause-unique : goal.returns-in-Fault-clause-unique
 returns-in-Fault-clause-unique g c = subst (IsDistinct g.N.PartialEq.eq)
-    (sym (keys_of-zip (g.P.Places.nodes c.find.new.self) c.args.slots.now (c.requires ∙ ap length (sym c.find.ensures.nodes)))) c.in-Some.ensures.unique
+    (sym (keys_of-zip (g.P.Places.nodes c.find.new.self) c.args.slots.now (cc))) c.in-Some.ensures.unique

@@ -13,12 +13,12 @@ use Rattle.ksv_memo.proofs.table.open_node.Goals as goal
 
 -- a slot with nothing in it is given to the node
 pub open_in-requires-clause-none : goal.open_in-requires-clause-none
-open_in-requires-clause-none g c = subst (λ es. Knows g.N.PartialEq.eq es c.args.node New) (sym c.vacant.ensures.entries) c.requires.none
+open_in-requires-clause-none g c = rw c.vacant.ensures.entries c.requires.none
 
 pub open_in-requires-clause-place_in : goal.open_in-requires-clause-place_in
 open_in-requires-clause-place_in g c =
     let at : IsVacant c.vacant.new.slots.entries c.in-Some.place =
-    subst (λ es. IsVacant es c.in-Some.place) (sym c.vacant.ensures.entries) c.in-Some.ensures.some in
+    rw c.vacant.ensures.entries c.in-Some.ensures.some in
     slice_get_within c.vacant.new.slots.entries c.in-Some.place (at.0, Empty) at.1
 
 pub returns-in_ok-open_in-in-Some : goal.returns-in_ok-open_in-in-Some
@@ -30,21 +30,20 @@ returns-in_ok-open_in-in-Some g c =
     let laid0 = looked-laid c.args.slots.now.entries ps links frames same c.requires.laid in
     let eq = g.N.PartialEq.eq in
     let node = c.args.node in
-    let knows : Knows eq ps node New = subst (λ es. Knows eq es node New) (sym same) c.requires.none in
+    let knows : Knows eq ps node New = rw same c.requires.none in
     let qs = c.open_in.new.slots.entries in
     let place = c.in-Some.place in
-    let at : IsVacant ps place = subst (λ es. IsVacant es place) (sym same) c.in-Some.ensures.some in
+    let at : IsVacant ps place = rw same c.in-Some.ensures.some in
     let given_it = c.in_ok-open_in-in-Some.ensures.slots in
     let changes = given ps qs place node Open at given_it in
-    let count : length qs ≡ length ps = ap length given_it ∙ length-set ps place (node, Open) in
+    let count : length qs ≡ length ps = cc (length-set ps place (node, Open)) in
     let none = vacant_none eq ps links frames laid0 node place at in
     let closed = vacant_closed eq ps links frames laid0 node place at in
     let more : length qs ≡ length ps + 0 = omega arith in
     record {
       laid = opens-laid eq ps links frames laid0 node qs place node changes none closed c.open_in.new.frames c.in_ok-open_in-in-Some.ensures.frames
-          (let h = laid0.kept.slots in omega arith);
-      ok = subst (λ v. Opens eq node v (record { kept = entries_of qs links; opened = opens_of qs c.open_in.new.frames }))
-          (looked-view c.args.slots.now.entries ps links frames _ same refl)
+          (omega arith);
+      ok = rw (looked-view c.args.slots.now.entries ps links frames _ same refl) at
           (opens-more eq ps links frames laid0 node qs place node changes none closed c.open_in.new.frames c.in_ok-open_in-in-Some.ensures.frames 0 more tt
           (g.met.N.Eq.laws.refl node) (new_out eq ps links frames laid0.kept laid0.waits node knows)
           (new_free eq ps links frames laid0.kept laid0.waits node knows));
@@ -54,7 +53,7 @@ returns-in_ok-open_in-in-Some g c =
 
 -- there is a new slot
 pub open_new-requires-clause-none : goal.open_new-requires-clause-none
-open_new-requires-clause-none g c = subst (λ es. Knows g.N.PartialEq.eq es c.args.node New) (sym c.vacant.ensures.entries) c.requires.none
+open_new-requires-clause-none g c = rw c.vacant.ensures.entries c.requires.none
 
 pub returns-in_ok-open_new-in-None : goal.returns-in_ok-open_new-in-None
 returns-in_ok-open_new-in-None g c =
@@ -65,7 +64,7 @@ returns-in_ok-open_new-in-None g c =
     let laid0 = looked-laid c.args.slots.now.entries ps links frames same c.requires.laid in
     let eq = g.N.PartialEq.eq in
     let node = c.args.node in
-    let knows : Knows eq ps node New = subst (λ es. Knows eq es node New) (sym same) c.requires.none in
+    let knows : Knows eq ps node New = rw same c.requires.none in
     let qs = c.open_new.new.slots.entries in
     let m = c.reach.new.self in
     let laid : IsLaidOut ps m frames = record { kept = grown-links ps links m laid0.kept c.reach.ensures.same; waits = laid0.waits } in
@@ -79,14 +78,10 @@ returns-in_ok-open_new-in-None g c =
     count (new_one, tt) (g.met.N.Eq.laws.refl node) (new_out eq ps m frames laid.kept laid.waits node knows)
     (new_free eq ps m frames laid.kept laid.waits node knows) in
     record {
-      laid = (let a = c.in_ok-reach-in-None.ensures.ok in let b = c.in_ok-number-in-None.ensures in let d = c.saturating_add.ensures in
-          let e = c.len.ensures.len in let f = c.len.ensures.small in
+      laid = (let a = c.in_ok-reach-in-None.ensures.ok in let b = c.in_ok-number-in-None.ensures in
           opens-laid eq ps m frames laid node qs (length ps) node changes none closed c.open_new.new.frames c.in_ok-open_new-in-None.ensures.frames
           (omega arith));
-      ok = subst (λ v. Opens eq node v (record { kept = entries_of qs m; opened = opens_of qs c.open_new.new.frames }))
-          (looked-view c.args.slots.now.entries ps links frames _ same refl)
-          (subst (λ es. Opens eq node (record { kept = es; opened = opens_of ps frames })
-          (record { kept = entries_of qs m; opened = opens_of qs c.open_new.new.frames })) (grown-entries ps links m laid0.kept c.reach.ensures.same) opens);
+      ok = rw (looked-view c.args.slots.now.entries ps links frames _ same refl) at (rw (grown-entries ps links m laid0.kept c.reach.ensures.same) at opens);
       err = search rules;
       grows = search rules;
     }

@@ -11,6 +11,6 @@ returns-clause-step g c =
     let w = on (g.R.Rules.meaning c.args.rules.now) c.args.bytes.now in
     let ends = subst (EndsWith f) c.as_slice.ensures.value c.in-Some.ensures.some in
     let rs = answers_at (slots_of ps) (take (length c.deref.result.now - f.asked) (drop f.asked c.deref.result.now)) in
-    let step = subst (λ n. IfOk c.call.result (λ s. s ≡ w.follow n rs)) c.lend-node.ensures.node c.call.ensures.step in
-    let uses = subst (λ n. OnOk c.call.result (c.call.new.uses.items ≡ frames.uses.items ++ w.added n rs)) c.lend-node.ensures.node c.call.ensures.uses in
-    runs ps w frames _ f ends (slots_of ps) c.deref.result.now rs refl c.deref.ensures.value refl c.call.result step uses
+    let step = rw c.lend-node.ensures.node at c.call.ensures.step in
+    let uses = rw c.lend-node.ensures.node at c.call.ensures.uses in
+    runs ps w frames _ f ends _ _ _ refl c.deref.ensures.value refl c.call.result step uses

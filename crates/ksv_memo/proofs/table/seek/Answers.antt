@@ -11,13 +11,12 @@ returns-in-Open-clause-ok g c =
     let links = c.args.links.now in
     let frames = c.args.frames.now in
     let ps = c.find.new.self.entries in
-    let laid0 = looked-laid slots.entries ps links frames c.find.ensures.entries c.requires in
-    let view = looked-view slots.entries ps links frames _ c.find.ensures.entries refl in
+    let laid0 = looked-laid _ _ _ _ c.find.ensures.entries c.requires in
+    let view = looked-view _ _ links frames _ c.find.ensures.entries refl in
     let eq = g.N.PartialEq.eq in
-    subst (λ v. Circles eq c.args.node c.args.node v (record { kept = entries_of ps links; opened = opens_of ps frames })) view
-    (record {
+    rw (← view) (record {
       same = refl;
-      waits = open_waits eq ps links frames laid0.kept laid0.waits c.args.node (g.met.N.Eq.laws.refl c.args.node) c.in-Open.ensures.knows;
+      waits = open_waits eq _ _ _ laid0.kept laid0.waits c.args.node (g.met.N.Eq.laws.refl c.args.node) c.in-Open.ensures.knows;
       kept = refl;
       opened = refl;
     })
@@ -44,9 +43,8 @@ returns-in_ok-reopen-in-Empty g c =
     let closed = empty_closed eq ps links frames laid0 node place at in
     record {
       laid = opens-laid eq ps links frames laid0 node qs place node changes none closed c.reopen.new.frames c.in_ok-reopen-in-Empty.ensures.frames
-          (let h = laid0.kept.slots in omega arith);
-      ok = subst (λ v. Opens eq node v (record { kept = entries_of qs links; opened = opens_of qs c.reopen.new.frames }))
-          (looked-view c.args.slots.now.entries ps links frames _ c.find.ensures.entries refl)
+          (omega arith);
+      ok = rw (looked-view c.args.slots.now.entries ps links frames _ c.find.ensures.entries refl) at
           (opens-more eq ps links frames laid0 node qs place node changes none closed c.reopen.new.frames c.in_ok-reopen-in-Empty.ensures.frames 0
           (omega arith) tt (laws.refl node) (empty_out eq ps links frames laid0.kept laid0.waits node laws c.in-Empty.ensures.unique place at)
           (empty_free eq ps links frames laid0.kept laid0.waits node laws c.in-Empty.ensures.unique place at));
@@ -56,7 +54,7 @@ returns-in_ok-reopen-in-Empty g c =
 
 -- there is no slot
 pub open_node-requires-clause-laid : goal.open_node-requires-clause-laid
-open_node-requires-clause-laid g c = looked-laid c.args.slots.now.entries c.find.new.self.entries c.args.links.now c.args.frames.now c.find.ensures.entries
+open_node-requires-clause-laid g c = looked-laid _ _ _ _ c.find.ensures.entries
     c.requires
 
 pub open_node-requires-clause-none : goal.open_node-requires-clause-none

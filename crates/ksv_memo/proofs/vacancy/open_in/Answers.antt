@@ -5,5 +5,5 @@ use Rattle.ksv_memo.proofs.vacancy.open_in.Goals as goal
 pub returns-clause-frames : goal.returns-clause-frames
 returns-clause-frames g c =
     let f = c.frame.ensures in
-    parted c.args.place c.args.place c.args.node c.args.frames.now _ c.in_ok-part.part c.frame.result c.in_ok-part.ensures f.node f.slot f.asked f.uses refl
-    (c.push_reserved.ensures.items ∙ ap (λ fs. fs ++ c.frame.result ∷ []) c.reserve.ensures.items) refl refl
+    parted _ _ _ _ _ _ c.frame.result c.in_ok-part.ensures f.node f.slot f.asked f.uses refl
+    (cc) refl refl

@@ -17,8 +17,7 @@ adds g c same =
     let w = on (g.R.Rules.meaning c.args.rules.now) c.args.bytes.now in
     let ms = done w [] c.args.node in
     let all = c.ask.new.self.table.kept in
-    subst (λ es. AreExactly w (nodes_of all) (nodes_of es ++ ms)) (ap (λ v. v.kept) c.self.view_is)
-    (exactly w c.self.inside.machine.table.kept all ms c.ask.ensures.right same)
+    rw (ap (λ v. v.kept) c.self.view_is) at (exactly w c.self.inside.machine.table.kept all ms c.ask.ensures.right same)
 
 pub returns-in-Ok-Answered-Ok-clause-kept : goal.returns-in-Ok-Answered-Ok-clause-kept
 returns-in-Ok-Answered-Ok-clause-kept g c = adds g (goal.at.returns-in-Ok-Answered-Ok-clause-kept g c).After-ask c.in-Ok-Answered-Ok.ensures.kept
@@ -35,16 +34,14 @@ returns-in-Err-clause-refused g c =
     let w = on (g.R.Rules.meaning c.args.rules.now) c.args.bytes.now in
     let ms = done w [] c.args.node in
     let all = c.ask.new.self.table.kept in
-    subst (λ t. AreBetween w (nodes_of c.args.self.now.kept) (nodes_of t.kept) (nodes_of c.args.self.now.kept ++ ms)) (sym c.stop-in-Err.ensures.table)
-    (subst (λ es. AreBetween w (nodes_of es) (nodes_of all) (nodes_of es ++ ms)) (ap (λ v. v.kept) c.self.view_is)
-    (between w c.self.inside.machine.table.kept all ms c.in-Err.ensures.left))
+    rw c.stop-in-Err.ensures.table (rw (ap (λ v. v.kept) c.self.view_is) at (between _ _ _ ms c.in-Err.ensures.left))
 
 -- no node is open, and what is kept ends by the file's end
 rests : (g : Given.Over) (c : After-ask g) → IsResting (nodes c.ask.new.self.table) c.len-self-inside.result
 rests g c = record {
   opened = c.ask.ensures.opened;
-  ends = subst (λ n. AllEndBy n c.ask.new.self.table.kept) (sym c.len-self-inside.ensures.len)
-      (right-ends (g.R.Rules.meaning c.args.rules.now) (g.met.R.Rules.lawful c.args.rules.now) c.args.bytes.now c.ask.new.self.table.kept
+  ends = rw c.len-self-inside.ensures.len (right-ends _
+      (g.met.R.Rules.lawful c.args.rules.now) c.args.bytes.now _
       c.ask.ensures.right);
 }
 

@@ -9,8 +9,8 @@ use Rattle.ksv_memo.proofs.engine.Engine.forget.Goals as goal
 pub returns-clause-right : goal.returns-clause-right
 returns-clause-right g c rules before after right made =
     let view = ap (λ v. v.kept) c.self.view_is in
-    forgets-right (g.R.Rules.meaning rules) (g.met.R.Rules.lawful rules) c.args.change before after made (pages_to c.self.inside.reach)
-    c.self.inside.machine.table.kept c.forget-self-inside.new.self.kept c.forget-self-inside.result c.forget-self-inside.ensures.kept
+    forgets-right _ (g.met.R.Rules.lawful rules) _ before after made _
+    _ _ _ c.forget-self-inside.ensures.kept
     (subst (IsRight (on (g.R.Rules.meaning rules) before)) (sym view) right)
 
 pub returns-clause-left : goal.returns-clause-left
@@ -18,8 +18,8 @@ returns-clause-left g c rules before right =
     let w = on (g.R.Rules.meaning rules) before in
     let view = ap (λ v. v.kept) c.self.view_is in
     let law = law_on (g.R.Rules.meaning rules) (g.met.R.Rules.lawful rules) before in
-    subst (λ es. AreExactly w (nodes_of c.forget-self-inside.new.self.kept) (left_after w c.args.change (nodes_of es))) view
-    (forgets w law c.args.change (pages_to c.self.inside.reach) c.self.inside.machine.table.kept c.forget-self-inside.new.self.kept c.forget-self-inside.result
+    rw view at (forgets _ law _ _ _ _
+    _
     (subst (IsRight w) (sym view) right) c.forget-self-inside.ensures.kept).1
 
 pub returns-clause-kept : goal.returns-clause-kept
@@ -33,9 +33,8 @@ returns-clause-looked g c rules before after right made wrote =
     let w = on (g.R.Rules.meaning rules) before in
     let view = ap (λ v. v.kept) c.self.view_is in
     let law = law_on (g.R.Rules.meaning rules) (g.met.R.Rules.lawful rules) before in
-    subst (λ es. LooksNear w c.args.change es c.forget-self-inside.result) view
-    (looks-near w law c.args.change (pages_to c.self.inside.reach) c.self.inside.machine.table.kept c.forget-self-inside.new.self.kept
-    c.forget-self-inside.result (subst (IsRight w) (sym view) right) c.forget-self-inside.ensures.kept wrote)
+    rw view at (looks-near _ law _ _ _ _
+    _ (subst (IsRight w) (sym view) right) c.forget-self-inside.ensures.kept wrote)
 
 pub returns-clause-behind : goal.returns-clause-behind
 returns-clause-behind g c rules before right moves =
@@ -49,15 +48,15 @@ returns-clause-behind g c rules before right moves =
 pub returns-clause-reach : goal.returns-clause-reach
 returns-clause-reach g c before after made le =
     let reach = c.self.inside.reach in
-    let fits = reach-fits c.args.change before after reach made (subst (λ v. v.reach ≤ length before) (sym c.self.view_is) le) in
-    subst (λ n. n ≤ length after) (sym c.reach_after-self-inside.ensures) fits
+    let fits = reach-fits c.args.change before after reach made (rw (← c.self.view_is) at le) in
+    rw c.reach_after-self-inside.ensures fits
 
 pub invariant_of-self : goal.invariant_of-self
 invariant_of-self g c = record {
   opened = c.forget-self-inside.ensures.opened;
-  ends = subst (λ n. AllEndBy n c.forget-self-inside.new.self.kept) (sym c.reach_after-self-inside.ensures)
-      (left-ends c.args.change (pages_to c.self.inside.reach) c.self.inside.reach c.self.inside.machine.table.kept c.forget-self-inside.new.self.kept
-      c.forget-self-inside.result c.forget-self-inside.ensures.kept c.self.invariant.ends);
+  ends = rw c.reach_after-self-inside.ensures (left-ends _
+      _ c.self.inside.reach _ _
+      _ c.forget-self-inside.ensures.kept c.self.invariant.ends);
 }
 
 pub forget-self-inside-requires-clause-within : goal.forget-self-inside-requires-clause-within

@@ -17,5 +17,5 @@ returns-in_err-close-clause-err g c =
 pub returns-clause-ok : goal.returns-clause-ok
 returns-clause-ok g c =
     let old = c.args.self.now.table in
-    closes_last (asks g c.args.rules.now c.args.bytes.now) old.kept old.opened c.args.answer c.in_ok-reply.reply (nodes c.close.new.self)
+    closes_last (asks g c.args.rules.now c.args.bytes.now) old.kept old.opened _ _ (nodes c.close.new.self)
     c.requires.reached c.in_ok-close.ensures.ok c.requires.alone (c.in_ok-reply.ensures ∙ c.lend.ensures)

@@ -14,8 +14,8 @@ asks g rules bytes = asking (g.R.Rules.meaning rules) (g.met.R.Rules.lawful rule
 -- ---- the answer is known
 pub returns-in-Some : goal.returns-in-Some
 returns-in-Some g c =
-    let end = ends_known (asks g c.args.rules.now c.args.bytes.now) c.args.node (nodes c.args.self.now.table) (nodes c.start.new.self) c.in-Some.outcome
-    c.args.self.now.turns c.requires.right c.requires.opened (rw c.in-Some.is at c.in_ok-known.ensures.ok) in
+    let end = ends_known (asks g c.args.rules.now c.args.bytes.now) _ (nodes c.args.self.now.table) (nodes c.start.new.self) _
+    _ c.requires.right c.requires.opened (rw c.in-Some.is at c.in_ok-known.ensures.ok) in
     record { outcome = end.outcome; right = end.right; kept = end.kept; left = search rules; turns = end.turns }
 
 pub loop-answer-init : goal.loop-answer-init
@@ -24,10 +24,10 @@ loop-answer-init g c =
     let old = c.args.self.now.table in
     let now = nodes c.start.new.self in
     let opens = rw c.in_default.is at c.in_ok-known.ensures.ok in
-    let first = opens_first q c.args.node (nodes old) now c.requires.opened opens in
+    let first = opens_first q _ _ _ c.requires.opened opens in
     record {
-      holds = holds_first q old.kept now.kept c.args.node now.opened c.requires.right opens.out opens.kept first;
-      turns = counts_first q old.kept now.kept c.args.node now.opened c.args.self.now.turns opens.kept first;
+      holds = holds_first q _ _ c.args.node _ c.requires.right opens.out opens.kept first;
+      turns = counts_first q _ _ c.args.node _ c.args.self.now.turns opens.kept first;
     }
 
 -- ---- a turn in which the last open node is done
@@ -55,11 +55,11 @@ returns-then-not-waits g c =
     let after = c.end.new.self.turns in
     let counted = c.end.ensures.turns ∙ c.in-Ok-Done.ensures.turns in
     record {
-      outcome = IfOk-weaker c.end.result _ _ (λ out at. (ended q t now out after at counted).outcome) c.end.ensures.ok;
+      outcome = IfOk-weaker c.end.result _ _ (λ out at. (ended q t now _ _ at counted).outcome) c.end.ensures.ok;
       right = search rules;
-      kept = IfOk-weaker c.end.result _ _ (λ out at. (ended q t now out after at counted).kept) c.end.ensures.ok;
-      left = on_err_weaker c.end.result (left q t now.kept) c.end.ensures.err;
-      turns = IfOk-weaker c.end.result _ _ (λ out at. (ended q t now out after at counted).turns) c.end.ensures.ok;
+      kept = IfOk-weaker c.end.result _ _ (λ out at. (ended q t now _ _ at counted).kept) c.end.ensures.ok;
+      left = on_err_weaker c.end.result (left q t _) c.end.ensures.err;
+      turns = IfOk-weaker c.end.result _ _ (λ out at. (ended q t now _ _ at counted).turns) c.end.ensures.ok;
     }
 
 -- the one below gets its answer
@@ -68,7 +68,7 @@ loop-answer-smaller g c =
     let q = asks g c.args.rules.now c.args.bytes.now in
     let t = done g (goal.at.loop-answer-smaller g c).In-Ok-Done in
     let now = nodes c.close.new.self in
-    (goes_on q t now c.turn.new.self.turns (closes_on q t.now.kept t.now.opened c.in-Ok-Done.answer now (reached q t) c.in_ok-close-in-Ok-Done.ensures.ok
+    (goes_on q t _ _ (closes_on q t.now.kept t.now.opened c.in-Ok-Done.answer now (reached q t) c.in_ok-close-in-Ok-Done.ensures.ok
     (sym c.waits.ensures ∙ c.if-not-waits.false)) c.in-Ok-Done.ensures.turns).smaller
 
 pub loop-answer-preserved : goal.loop-answer-preserved
@@ -76,7 +76,7 @@ loop-answer-preserved g c =
     let q = asks g c.args.rules.now c.args.bytes.now in
     let t = done g (goal.at.loop-answer-preserved g c).In-Ok-Done in
     let now = nodes c.close.new.self in
-    let goes = goes_on q t now c.turn.new.self.turns (closes_on q t.now.kept t.now.opened c.in-Ok-Done.answer now (reached q t)
+    let goes = goes_on q t _ _ (closes_on q t.now.kept t.now.opened c.in-Ok-Done.answer now (reached q t)
     c.in_ok-close-in-Ok-Done.ensures.ok (sym c.waits.ensures ∙ c.if-not-waits.false)) c.in-Ok-Done.ensures.turns in
     record { holds = goes.holds; turns = goes.turns }
 
@@ -85,7 +85,7 @@ pub returns-in_err-close-in-Ok-Done : goal.returns-in_err-close-in-Ok-Done
 returns-in_err-close-in-Ok-Done g c =
     let q = asks g c.args.rules.now c.args.bytes.now in
     let t = done g (goal.at.returns-in_err-close-in-Ok-Done g c).In-Ok-Done in
-    let may = left q t c.close.new.self.kept
+    let may = left q t _
     (closes_left q t.now.kept t.now.opened c.in-Ok-Done.answer c.close.new.self.kept (reached q t) c.in_err-close-in-Ok-Done.ensures.err) in
     record {
       outcome = search rules;
@@ -113,16 +113,16 @@ pub loop-answer-smaller-in-Ok-None : goal.loop-answer-smaller-in-Ok-None
 loop-answer-smaller-in-Ok-None g c =
     let q = asks g c.args.rules.now c.args.bytes.now in
     let t = needs g (goal.at.loop-answer-smaller-in-Ok-None g c).In-Ok-Need in
-    (goes_on q t (nodes c.ask.new.self) c.turn.new.self.turns
-    (hears_or_opens q t.now.kept t.now.opened c.in-Ok-Need.asked (nodes c.ask.new.self) (reached q t) (rw c.in-Ok-None.field-0-is at c.in-Ok-None.ensures.ok))
+    (goes_on q t _ _
+    (hears_or_opens q t.now.kept t.now.opened _ _ (reached q t) (rw c.in-Ok-None.field-0-is at c.in-Ok-None.ensures.ok))
     c.in-Ok-Need.ensures.turns).smaller
 
 pub loop-answer-preserved-in-Ok-None : goal.loop-answer-preserved-in-Ok-None
 loop-answer-preserved-in-Ok-None g c =
     let q = asks g c.args.rules.now c.args.bytes.now in
     let t = needs g (goal.at.loop-answer-preserved-in-Ok-None g c).In-Ok-Need in
-    let goes = goes_on q t (nodes c.ask.new.self) c.turn.new.self.turns
-    (hears_or_opens q t.now.kept t.now.opened c.in-Ok-Need.asked (nodes c.ask.new.self) (reached q t) (rw c.in-Ok-None.field-0-is at c.in-Ok-None.ensures.ok))
+    let goes = goes_on q t _ _
+    (hears_or_opens q t.now.kept t.now.opened _ _ (reached q t) (rw c.in-Ok-None.field-0-is at c.in-Ok-None.ensures.ok))
     c.in-Ok-Need.ensures.turns in
     record { holds = goes.holds; turns = goes.turns }
 
@@ -132,7 +132,7 @@ returns-in-Ok-Some g c =
     let q = asks g c.args.rules.now c.args.bytes.now in
     let t = needs g (goal.at.returns-in-Ok-Some g c).In-Ok-Need in
     let now = nodes c.ask.new.self in
-    let end = ended q t now (Circle c.in-Ok-Some.node) c.turn.new.self.turns (circles q t.now.kept t.now.opened c.in-Ok-Need.asked c.in-Ok-Some.node now
+    let end = ended q t now _ _ (circles q t.now.kept t.now.opened _ _ _
     (reached q t) (rw c.in-Ok-Some.field-0-is at c.in-Ok-Some.ensures.ok)) c.in-Ok-Need.ensures.turns in
     record { outcome = end.outcome; right = end.right; kept = end.kept; left = search rules; turns = end.turns }
 
@@ -140,5 +140,5 @@ returns-in-Ok-Some g c =
 pub returns-in-Err-ask-clause-left : goal.returns-in-Err-ask-clause-left
 returns-in-Err-ask-clause-left g c =
     let before = c.loop-answer.self.table in
-    left_same (asks g c.args.rules.now c.args.bytes.now) c.args.self.now.table.kept before.kept c.args.node before.opened c.ask.new.self.kept
+    left_same (asks g c.args.rules.now c.args.bytes.now) _ _ c.args.node before.opened _
     c.loop-answer.invariant.holds (ap (λ t. t.kept) c.in-Err-ask.ensures.err ∙ c.in-Ok-Need.ensures.kept)

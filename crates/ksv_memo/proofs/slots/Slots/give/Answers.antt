@@ -12,18 +12,11 @@ give-requires-clause-none g c =
 
 pub give-requires-clause-place_in : goal.give-requires-clause-place_in
 give-requires-clause-place_in g c =
-    let count = count-zip (g.P.Places.nodes c.self.inside.places) c.self.inside.slots.items c.self.invariant in
-    let seen = ap (λ v. length v.entries) c.self.view_is in
-    let place = c.requires.place_in in
-    omega arith
+    omega (arith, count-zip (g.P.Places.nodes c.self.inside.places) c.self.inside.slots.items c.self.invariant, ap (λ v. length v.entries) c.self.view_is)
 
 pub write-requires : goal.write-requires
 write-requires g c =
-    let count = count-zip (g.P.Places.nodes c.self.inside.places) c.self.inside.slots.items c.self.invariant in
-    let seen = ap (λ v. length v.entries) c.self.view_is in
-    let place = c.requires.place_in in
-    let even = c.self.invariant in
-    omega arith
+    omega (arith, count-zip (g.P.Places.nodes c.self.inside.places) c.self.inside.slots.items c.self.invariant, ap (λ v. length v.entries) c.self.view_is)
 
 -- the place has another node, and its slot is open
 pub returns-clause-ok : goal.returns-clause-ok

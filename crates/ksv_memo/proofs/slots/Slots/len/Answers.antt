@@ -5,5 +5,4 @@ use Rattle.ksv_memo.proofs.slots.Slots.len.Goals as goal
 pub returns-clause-len : goal.returns-clause-len
 returns-clause-len g c =
     let t = c.self.inside in
-    ap length c.as_slice.ensures.value ∙ c.self.invariant ∙ sym (count-zip (g.P.Places.nodes t.places) t.slots.items c.self.invariant)
-    ∙ ap (λ v. length v.entries) c.self.view_is
+    cc (count-zip (g.P.Places.nodes t.places) t.slots.items c.self.invariant)

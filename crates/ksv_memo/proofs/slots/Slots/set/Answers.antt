@@ -4,11 +4,12 @@ use Rattle.ksv_memo.proofs.slots.Slots.set.Goals as goal
 
 pub write-requires : goal.write-requires
 write-requires g c =
-    let n = count-zip (g.P.Places.nodes c.self.inside.places) c.self.inside.slots.items c.self.invariant in
-    let v = ap (λ v. length v.entries) c.self.view_is ∙ ap length c.look.ensures.entries in
-    let r = c.requires in
-    let i = c.self.invariant in
-    omega arith
+    omega (
+      arith,
+      count-zip (g.P.Places.nodes c.self.inside.places) c.self.inside.slots.items c.self.invariant,
+      ap (λ v. length v.entries) c.self.view_is
+          ∙ ap length c.look.ensures.entries,
+    )
 
 pub returns-clause-slots : goal.returns-clause-slots
 returns-clause-slots g c =
@@ -17,4 +18,4 @@ returns-clause-slots g c =
     ∙ ap (λ v. with_slot v.entries c.args.place c.args.new) c.self.view_is ∙ ap (λ es. with_slot es c.args.place c.args.new) c.look.ensures.entries
 
 pub invariant_of-self : goal.invariant_of-self
-invariant_of-self g c = ap length c.write.ensures ∙ length-set c.self.inside.slots.items c.args.place c.args.new ∙ c.self.invariant
+invariant_of-self g c = cc (length-set c.self.inside.slots.items c.args.place c.args.new)

@@ -7,7 +7,7 @@ use Rattle.ksv_memo.proofs.table.Table.abandon.Goals as goal
 
 pub set-requires : goal.set-requires
 set-requires g c =
-    let t = top c.self.inside.slots.entries c.self.inside.frames c.in-Some.frame.now c.self.invariant.waits
+    let t = top _ _ _ c.self.invariant.waits
     (subst (EndsWith c.in-Some.frame.now) c.as_slice.ensures.value c.in-Some.ensures.some) in
     slice_get_within c.self.inside.slots.entries c.in-Some.frame.now.slot _ t.there
 
@@ -16,7 +16,7 @@ popped : (g : Given.Over) (c : After-take_last g)
     → IsPopped c.self.inside.slots.entries c.self.inside.links c.self.inside.frames c.take_last.new.self c.in-Some.frame.now c.set.new.self.entries Empty
 popped g c =
     let ends = subst (EndsWith c.in-Some.frame.now) c.as_slice.ensures.value c.in-Some.ensures.some in
-    pops c.self.inside.slots.entries c.self.inside.links c.self.inside.frames c.take_last.new.self c.in-Some.frame.now c.set.new.self.entries Empty
+    pops _ _ _ _ _ _ _
     c.self.invariant ends (c.take_last.ensures c.in-Some.frame.now ends) c.set.ensures.slots
 
 pub invariant_of-self : goal.invariant_of-self
@@ -28,5 +28,4 @@ returns-clause-kept g c =
 
 pub returns-clause-rest : goal.returns-clause-rest
 returns-clause-rest g c =
-    subst (λ v. TakesFirst true v.opened (opens_of c.set.new.self.entries c.take_last.new.self)) c.self.view_is
-    (abandons-rest c.self.inside.slots.entries (popped g (goal.at.returns-clause-rest g c).After-take_last))
+    rw (← c.self.view_is) (abandons-rest c.self.inside.slots.entries (popped g (goal.at.returns-clause-rest g c).After-take_last))

@@ -8,7 +8,7 @@ pub invariant_of-self-in-Ok-Kept : goal.invariant_of-self-in-Ok-Kept
 invariant_of-self-in-Ok-Kept g c =
     let t = c.seek.new in
     let came = rw c.in-Ok-Kept.field-0-is at c.in-Ok-Kept.ensures.ok in
-    hears g.R.Node.PartialEq.eq t.slots.entries t.links t.frames c.in-Ok-Kept.ensures.laid c.args.node c.in-Ok-Kept.place came.0 c.hear.new.self
+    hears g.R.Node.PartialEq.eq _ _ _ c.in-Ok-Kept.ensures.laid c.args.node _ came.0 _
     c.in_ok-hear-in-Ok-Kept.ensures.ok
 
 pub returns-in_ok-hear-in-Ok-Kept-clause-ok : goal.returns-in_ok-hear-in-Ok-Kept-clause-ok
@@ -16,6 +16,6 @@ returns-in_ok-hear-in-Ok-Kept-clause-ok g c =
     let t = c.seek.new in
     let eq = g.R.Node.PartialEq.eq in
     let came = rw c.in-Ok-Kept.field-0-is at c.in-Ok-Kept.ensures.ok in
-    inl (subst (λ v. Replies eq c.args.node v (nodes_with t.slots.entries t.links c.hear.new.self)) (came.1 ∙ ap nodes c.self.view_is)
-    (replies eq t.slots.entries t.links t.frames c.in-Ok-Kept.ensures.laid c.args.node (g.met.R.Node.Eq.laws.refl c.args.node) c.in-Ok-Kept.place came.0
+    inl (rw (came.1 ∙ ap nodes c.self.view_is) at (replies eq t.slots.entries t.links t.frames c.in-Ok-Kept.ensures.laid c.args.node
+    (g.met.R.Node.Eq.laws.refl c.args.node) c.in-Ok-Kept.place came.0
     c.hear.new.self c.in_ok-hear-in-Ok-Kept.ensures.ok))

@@ -9,25 +9,25 @@ use Rattle.ksv_memo.proofs.table.Table.close.Goals as goal
 
 pub set-requires : goal.set-requires
 set-requires g c =
-    let t = top c.self.inside.slots.entries c.self.inside.frames c.in-Some.frame.now c.self.invariant.waits
+    let t = top _ _ _ c.self.invariant.waits
     (subst (EndsWith c.in-Some.frame.now) c.as_slice.ensures.value c.in-Some.ensures.some) in
     slice_get_within c.self.inside.slots.entries c.in-Some.frame.now.slot _ t.there
 
 pub keep_once-requires : goal.keep_once-requires
 keep_once-requires g c =
     let ps = c.self.inside.slots.entries in
-    let t = top ps c.self.inside.frames c.in-Some.frame.now c.self.invariant.waits
+    let t = top _ _ _ c.self.invariant.waits
     (subst (EndsWith c.in-Some.frame.now) c.as_slice.ensures.value c.in-Some.ensures.some) in
     record {
       idle = c.self.invariant.kept.idle;
-      slot_in = keep-in ps c.self.inside.links c.self.inside.frames c.in-Some.frame.now c.self.invariant.kept t;
-      out = keep-out ps c.self.inside.links c.self.inside.frames c.in-Some.frame.now c.self.invariant.kept t;
-      asked_kept = keep-asks ps c.self.inside.links c.self.inside.frames c.in-Some.frame.now c.self.invariant c.deref-2.result.now c.deref-2.ensures.value;
+      slot_in = keep-in _ _ _ _ c.self.invariant.kept t;
+      out = keep-out _ _ _ _ c.self.invariant.kept t;
+      asked_kept = keep-asks _ _ _ c.in-Some.frame.now c.self.invariant _ c.deref-2.ensures.value;
     }
 
 -- memory is refused before it is kept
 pub invariant_of-self : goal.invariant_of-self
-invariant_of-self g c = unchanged-laid c.self.inside.slots.entries c.self.inside.links c.keep_once.new.links c.self.inside.frames c.in_err-keep_once.ensures.err
+invariant_of-self g c = unchanged-laid _ _ _ _ c.in_err-keep_once.ensures.err
     c.self.invariant
 
 -- it is kept with its answer, and taken out
@@ -39,14 +39,14 @@ closed g c =
     let ends = subst (EndsWith f) c.as_slice.ensures.value c.in-Some.ensures.some in
     let k = c.in_ok-keep_once.ensures.ok in
     record {
-      pops = pops before.slots.entries before.links before.frames c.take_last.new.self f c.set.new.self.entries c.slot_of.result c.self.invariant ends
+      pops = pops _ _ _ _ _ _ _ c.self.invariant ends
           (c.take_last.ensures f ends) c.set.ensures.slots;
       is = c.slot_of.ensures;
       once = k.once;
-      each = keep_part f.uses before.frames.uses.items c.deref.result.now k.once c.deref.ensures.value k.each;
+      each = keep_part f.uses _ _ _ c.deref.ensures.value k.each;
       in_asked = k.keeps.in_asked;
       in_uses = k.keeps.in_uses;
-      kept = kept_part before.links c.keep_once.new.links f.slot f.asked before.frames.asked.items c.deref-2.result.now k.once k.once
+      kept = kept_part before.links c.keep_once.new.links f.slot f.asked _ _ _ _
           c.deref-2.ensures.value refl k.keeps;
     }
 
@@ -65,7 +65,7 @@ returns-then-is_empty-clause-ok g c =
 -- the one below gets its answer
 pub invariant_of-self-2 : goal.invariant_of-self-2
 invariant_of-self-2 g c =
-    hears-laid c.self.inside.slots.entries (closed g (goal.at.invariant_of-self-2 g c).After-take_last) c.hear.new.self c.in_ok-hear.ensures.ok
+    hears-laid c.self.inside.slots.entries (closed g (goal.at.invariant_of-self-2 g c).After-take_last) _ c.in_ok-hear.ensures.ok
 
 pub returns-clause-ok : goal.returns-clause-ok
 returns-clause-ok g c =
@@ -77,7 +77,7 @@ returns-clause-ok g c =
 pub invariant_of-self-in_err-hear : goal.invariant_of-self-in_err-hear
 invariant_of-self-in_err-hear g c =
     let laid = closes-laid c.self.inside.slots.entries (closed g (goal.at.invariant_of-self-in_err-hear g c).After-take_last) in
-    record { kept = laid.kept; waits = same-frames c.set.new.self.entries c.take_last.new.self c.hear.new.self c.in_err-hear.ensures.err laid.waits }
+    record { kept = laid.kept; waits = same-frames _ _ _ c.in_err-hear.ensures.err laid.waits }
 
 pub returns-in_err-hear-clause-err : goal.returns-in_err-hear-clause-err
 returns-in_err-hear-clause-err g c =

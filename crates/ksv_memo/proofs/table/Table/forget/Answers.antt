@@ -11,11 +11,11 @@ forget-requires-clause-idle g c = c.self.invariant.kept.idle
 pub forget-requires-clause-within : goal.forget-requires-clause-within
 forget-requires-clause-within g c moves =
     let t = c.self.inside in
-    kept-within c.args.pages t.slots.entries t.links c.self.invariant.kept
-    (subst (λ v. AllByRecursion (λ e. AreWithin c.args.pages e.uses) v.kept) (sym c.self.view_is) c.requires.within)
+    kept-within _ _ _ c.self.invariant.kept
+    (rw (← c.self.view_is) at c.requires.within)
 
 pub empty_taken-requires-clause-inside : goal.empty_taken-requires-clause-inside
-empty_taken-requires-clause-inside g c = waits-in c.args.change c.self.inside.slots.entries c.self.inside.links c.forget.new.self c.self.invariant.kept
+empty_taken-requires-clause-inside g c = waits-in _ _ _ _ c.self.invariant.kept
     c.forget.ensures.forgets
 
 pub empty_taken-requires-clause-apart : goal.empty_taken-requires-clause-apart
@@ -29,9 +29,9 @@ invariant_of-self g c =
     let none : Frames _ = record { frames = t.frames.frames; asked = c.clear.new.self; uses = t.frames.uses; has_grown = t.frames.has_grown } in
     let e = c.empty_taken.ensures in
     record {
-      kept = swept-links c.args.change ps qs t.links c.forget.new.self c.empty_taken.new.links t.slots.looks c.empty_taken.new.slots.looks c.self.invariant.kept
+      kept = swept-links _ _ _ _ _ _ _ _ c.self.invariant.kept
           c.forget.ensures.forgets e;
-      waits = no-frames ps qs e.taken.opens t.frames none c.self.invariant.waits (ap (λ v. v.opened) c.self.view_is ∙ c.requires.opened) refl
+      waits = no-frames _ _ e.taken.opens _ _ c.self.invariant.waits (cc) refl
           c.clear.ensures.items;
     }
 
@@ -41,7 +41,7 @@ returns-clause-opened g c =
     let ps = t.slots.entries in
     let qs = c.empty_taken.new.slots.entries in
     let none : Frames _ = record { frames = t.frames.frames; asked = c.clear.new.self; uses = t.frames.uses; has_grown = t.frames.has_grown } in
-    no-opens ps qs c.empty_taken.ensures.taken.opens t.frames none c.self.invariant.waits (ap (λ v. v.opened) c.self.view_is ∙ c.requires.opened) refl
+    no-opens _ qs c.empty_taken.ensures.taken.opens _ none c.self.invariant.waits (cc) refl
 
 pub returns-clause-kept : goal.returns-clause-kept
 returns-clause-kept g c =
@@ -57,16 +57,15 @@ returns-clause-kept g c =
     let e = c.empty_taken.ensures in
     let from = t.slots.looks in
     let looked = c.max.result in
-    let few = gone-least c.args.change ps qs l m n from count h f e in
+    let few = gone-least _ _ _ _ _ _ _ _ h f e in
     let w = c.waiting-went.ensures in let x = c.looks_at-before.ensures in let y = c.looks_at-now.ensures in
-    let s = c.saturating_sub.ensures in let u = c.max.ensures in
     let most : looked ≤ max (n.looks + count - (l.looks + from)) (length m.waits) = omega arith in
-    subst (λ v. Sweeps c.args.change c.args.pages v.kept (entries_of qs n) looked) c.self.view_is (record {
+    rw (← c.self.view_is) (record {
       marks = all_marks c.args.change ps qs l m n from count h f e;
-      entries = entries c.args.change ps qs l m n from count h f e _;
-      marked = marked c.args.change ps qs l m n from count h f e _;
-      stays = ap (λ k. entries_at qs n (numbers_from 0 k)) e.taken.slots ∙ stays c.args.change ps qs l m n from count h f e _;
+      entries = entries _ _ _ _ _ _ _ _ h f e _;
+      marked = marked _ _ _ _ _ _ _ _ h f e _;
+      stays = cc (stays _ _ _ _ _ _ _ _ h f e _);
       least = omega arith;
-      most = looks-most c.args.change ps qs l m n from count h f e c.forget.ensures.vacant c.forget.ensures.most looked most;
-      behind = looks-behind c.args.change ps qs l m n from count h f e c.args.pages c.forget.ensures.vacant c.forget.ensures.behind looked most;
+      most = looks-most _ _ _ _ _ _ _ _ h f e c.forget.ensures.vacant c.forget.ensures.most looked most;
+      behind = looks-behind _ _ _ _ _ _ _ _ h f e c.args.pages c.forget.ensures.vacant c.forget.ensures.behind looked most;
     })
