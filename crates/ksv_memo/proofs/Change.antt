@@ -1,11 +1,10 @@
 -- What stays right when the bytes change.
 use Rattle.ksv_memo.proofs.Common.{◌≡◌, ℕ, zero, suc, ◌+◌, ◌<◌, ◌≤◌, Bool, true, false, List, [], ◌∷◌, ◌++◌, length, refl, sym, ◌∙◌, ap, subst, nat_eq, arith}
-use Rattle.ksv_memo.proofs.Common.{◌||◌, Contains, AllByRecursion, list_any, or_parts, All-from_recursion, Change, Makes, is_use_touched, Use, Bytes, Next}
+use Rattle.ksv_memo.proofs.Common.{◌||◌, Contains, AllByRecursion, list_any, or_parts, All-from_recursion, Change, Makes, is_use_touched, Use, Next}
 use Rattle.ksv_memo.proofs.Common.{Need, Done, Outcome, Answered, Circle, Standing, IsSettled, is_among, Told, told, tells, Entry, nodes_of, StandsIn, IsRight}
 use Rattle.ksv_memo.proofs.Common.{Meaning, IsLawful, on, law_on, All-map, All-both, All-++, All-left, All-right, none_pass, eqb_true, IsIn, AreDistinct-none}
 use Rattle.ksv_memo.proofs.Common.{self_in}
-use Rattle.std.proofs.Common.{◌↔◌, Any}
-use Rattle.std.specs.List.{flat_map}
+use Rattle.std.proofs.Common.{Any}
 use Rattle.std.proofs.lemmas.List.Elements.{All-contains}
 use Rattle.ksv_bytes.specs.Uses.{AgreeOn, CanUse, Touches}
 use Rattle.ksv_bytes.proofs.Untouched.{use_touched, untouched_use, untouched-keeps}

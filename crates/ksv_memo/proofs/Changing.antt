@@ -1,7 +1,7 @@
 -- What links and frames are once one slot changed.
 use Rattle.ksv_memo.proofs.Common.{◌≡◌, ◌≢◌, ℕ, zero, suc, ◌+◌, ◌-◌, ◌<◌, ◌≤◌, true, false, List, [], ◌∷◌, ◌++◌, length, map, take, drop, reverse, Option, Some}
 use Rattle.ksv_memo.proofs.Common.{None, is_some, refl, sym, ◌∙◌, ap, subst, Result, slice_get, slice_set, ◌⊎◌, inl, inr, arith, length-append, option_map}
-use Rattle.ksv_memo.proofs.Common.{AllByRecursion, length-set, append-nil, slice_get-map, slice_get_within, Use, row, numbers_from, is_kept, Linked, Slot}
+use Rattle.ksv_memo.proofs.Common.{AllByRecursion, length-set, append-nil, slice_get-map, slice_get_within, Use, row, numbers_from, Linked, Slot}
 use Rattle.ksv_memo.proofs.Common.{Frame, Frames, answer_in, answer_of, answer_at, answers_at, with_first, Open, newly, IsOneOf, AllDiffer, slots_of, node_at}
 use Rattle.ksv_memo.proofs.Common.{nodes_at, IsOpen, IsKept, entry_with, entry_at, entries_at, entries_of, open_before, opens_in, opens_of, AreNested}
 use Rattle.ksv_memo.proofs.Common.{AreLinked, AreFrames, with_slot, IsVacant, Heard, Framed, All-map, All-both, All-++}

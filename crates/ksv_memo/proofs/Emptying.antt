@@ -1,6 +1,6 @@
 -- Slots that are to be taken are emptied, one upon another.
-use Rattle.ksv_memo.proofs.Common.{◌≡◌, ◌≢◌, ◌⊎◌, inl, inr, ℕ, zero, suc, ◌+◌, ◌*◌, ◌≤◌, List, [], ◌∷◌, ◌++◌, length, None, Contains, refl, sym, ◌∙◌, ap, subst}
-use Rattle.ksv_memo.proofs.Common.{arith, append_assoc, slice_get, append-nil, sum_by-cons, row, pages_in, Linked, Slot, answer_of, answer_at, slots_of}
+use Rattle.ksv_memo.proofs.Common.{◌≡◌, ◌≢◌, inl, inr, ℕ, zero, suc, ◌+◌, ◌*◌, ◌≤◌, List, [], ◌∷◌, ◌++◌, length, None, Contains, refl, sym, ◌∙◌, ap, subst}
+use Rattle.ksv_memo.proofs.Common.{arith, append_assoc, slice_get, append-nil, sum_by-cons, row, pages_in, Linked, Slot, answer_at, slots_of}
 use Rattle.ksv_memo.proofs.Common.{slice_get-map, node_at, IsOpen, with_slot}
 use Rattle.std.specs.List.{AllPairs}
 use Rattle.std.proofs.lemmas.List.{get_or-set_other}

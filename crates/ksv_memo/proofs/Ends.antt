@@ -1,8 +1,8 @@
 -- What is kept ends by the reach of the engine.
-use Rattle.ksv_memo.proofs.Common.{◌≡◌, ◌⊎◌, inl, inr, ℕ, zero, suc, ◌+◌, ◌-◌, ◌<◌, ◌≤◌, Bool, true, false, not, cond, List, [], ◌∷◌, length, length-append}
-use Rattle.ksv_memo.proofs.Common.{filter, Contains, refl, sym, ◌∙◌, ap, subst, arith, AllByRecursion, list_any, or_parts, Decides-ltb, All-from_recursion, Use}
+use Rattle.ksv_memo.proofs.Common.{◌≡◌, ◌⊎◌, inl, inr, ℕ, zero, suc, ◌+◌, ◌-◌, ◌<◌, ◌≤◌, Bool, true, false, cond, List, [], ◌∷◌, length, length-append}
+use Rattle.ksv_memo.proofs.Common.{Contains, refl, ◌∙◌, ap, arith, AllByRecursion, list_any, Decides-ltb, All-from_recursion, Use}
 use Rattle.ksv_memo.proofs.Common.{Bytes, Change, Overwrite, Insert, Delete, Append, Makes, is_use_touched, numbers_from, pages_in, AreWithin, Meaning}
-use Rattle.ksv_memo.proofs.Common.{IsLawful, on, tells, Entry, IsRight, All-map, All-both, none_pass, AllEndBy, pages_to, Mark, IsMarked, Sweeps, entries_left}
+use Rattle.ksv_memo.proofs.Common.{IsLawful, on, tells, Entry, IsRight, All-map, All-both, AllEndBy, pages_to, Mark, IsMarked, Sweeps, entries_left}
 use Rattle.std.proofs.Common.{◌/◌, min, length-take, length-drop}
 use Rattle.std.proofs.lemmas.Bool.{cases_lt}
 use Rattle.std.proofs.lemmas.List.Elements.{All-contains, Contains-append_cases}

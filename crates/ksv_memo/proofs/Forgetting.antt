@@ -1,6 +1,6 @@
 -- What an edit takes from the kept nodes is what the pass takes from the table, and what stays is right.
-use Rattle.ksv_memo.proofs.Common.{sum_by-cons, ◌≡◌, ℕ, zero, suc, ◌+◌, ◌*◌, ◌<◌, ◌≤◌, arith, length, sum_by, count_by, get_or, nat_lt, Bool, true, false, not}
-use Rattle.ksv_memo.proofs.Common.{cond, ◌||◌, ◌&&◌, nat_eq, List, [], ◌∷◌, map, filter, Contains, refl, sym, ◌∙◌, ap, subst, inl, inr, eq-eqb, AllByRecursion}
+use Rattle.ksv_memo.proofs.Common.{sum_by-cons, ◌≡◌, ℕ, zero, suc, ◌+◌, ◌<◌, ◌≤◌, arith, length, sum_by, count_by, get_or, nat_lt, Bool, true, false, not}
+use Rattle.ksv_memo.proofs.Common.{cond, ◌||◌, ◌&&◌, nat_eq, List, [], ◌∷◌, map, filter, Contains, refl, sym, ◌∙◌, ap, inl, inr, eq-eqb, AllByRecursion}
 use Rattle.ksv_memo.proofs.Common.{list_any, or_parts, Decides-ltb, IsDistinct-head, IsDistinct-tail, Use, Change, Overwrite, Insert, Delete, Append, Makes}
 use Rattle.ksv_memo.proofs.Common.{is_use_touched, Meaning, Standing, IsLawful, IsSettled, on, is_among, tells, Entry, nodes_of, AreDistinct, AreExactly}
 use Rattle.ksv_memo.proofs.Common.{StandsIn, IsRight, IsOneOf, pages_in, pages_to, Mark, IsMarked, entries_left, Sweeps, law_on, All-map, All-both, none_pass}
@@ -17,7 +17,7 @@ use Rattle.ksv_bytes.specs.Uses.{Touches}
 use Rattle.ksv_bytes.proofs.Untouched.{use_touched, untouched_use}
 use Rattle.ksv_memo_rules.specs.Touched.{IsTouched, is_hit, is_touched, tree, left_after}
 use Rattle.ksv_memo_links.specs.Touching.{ends_in}
-use Rattle.ksv_memo_links.specs.Links.{IsMove, IsOverwrite, first_page, pages_met, met_by, pages_behind, behind_by, ended_by}
+use Rattle.ksv_memo_links.specs.Links.{IsMove, IsOverwrite, first_page, pages_met, pages_behind, ended_by}
 use Rattle.ksv_memo_links.proofs.Touches.{EndsPast, uses-meet, insert-past, delete-past, append-ends}
 use Rattle.ksv_memo.specs.Near.{IsWrite, LooksNear, gone_of}
 use Rattle.ksv_memo.specs.Behind.{LooksBehind}

@@ -1,6 +1,6 @@
 -- What the slots have of a node is what is kept and open.
 use Rattle.ksv_memo.proofs.Common.{sum_by-cons, ◌≡◌, ◌≢◌, ℕ, zero, suc, ◌+◌, ◌<◌, ◌≤◌, sum_by, count_by, cond, arith, Bool, true, false, List, [], ◌∷◌, length}
-use Rattle.ksv_memo.proofs.Common.{map, take, drop, Option, Some, None, is_some, refl, sym, ◌∙◌, ap, subst, Result, inl, inr, ◌||◌, IsEquivalence}
+use Rattle.ksv_memo.proofs.Common.{map, take, drop, Option, Some, None, is_some, refl, sym, ◌∙◌, ap, subst, Result, inl, inr, IsEquivalence}
 use Rattle.ksv_memo.proofs.Common.{AllByRecursion, list_any, IsDistinct, IsDistinct-head, IsDistinct-tail, Use, row, numbers_from, is_kept, Linked, Slot, Frame}
 use Rattle.ksv_memo.proofs.Common.{answer_at, answers_at, with_first, Entry, Open, IsOneOf, slots_of, node_at, nodes_at, IsOpen, IsKept, entry_with, entry_at}
 use Rattle.ksv_memo.proofs.Common.{entries_at, entries_of, open_before, opens_in, AreLinked, or_parts}

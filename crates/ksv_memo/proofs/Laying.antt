@@ -2,8 +2,7 @@
 use Rattle.ksv_memo.proofs.Common.{◌≡◌, ◌≢◌, ℕ, zero, suc, ◌+◌, ◌<◌, ◌≤◌, Bool, true, false, List, [], ◌∷◌, ◌++◌, take, drop, Option, Some, None, is_some, refl}
 use Rattle.ksv_memo.proofs.Common.{sym, ◌∙◌, ap, subst, Result, slice_get, ◌⊎◌, inl, inr, nat_eq, eq-eqb, arith, option_map, AllByRecursion, slice_get-map}
 use Rattle.ksv_memo.proofs.Common.{Use, row, numbers_from, Linked, Slot, Frame, answer_of, answer_at, answers_at, with_first, Entry, IsOneOf}
-use Rattle.ksv_memo.proofs.Common.{AllDiffer, slots_of, node_at, nodes_at, IsOpen, IsKept, entry_with, entry_at, entries_at, open_before, opens_in, eqb_true}
-use Rattle.ksv_memo.proofs.Common.{All-++}
+use Rattle.ksv_memo.proofs.Common.{slots_of, node_at, nodes_at, IsOpen, IsKept, entry_with, entry_at, entries_at, opens_in, eqb_true}
 use Rattle.ksv_memo_rules.specs.declared.replies.Slot.TheVariants.{Open as opened}
 
 pub All-take : {X : Type 0} (P : X → Type 0) (k : ℕ) (xs : List X) → AllByRecursion P xs → AllByRecursion P (take k xs)

@@ -1,5 +1,5 @@
 -- A list's members, each once.
-use Rattle.ksv_memo.proofs.Common.{◌≡◌, ◌≢◌, ◌⊎◌, inl, inr, ℕ, ◌+◌, ◌<◌, Bool, true, false, ◌&&◌, nat_eq, List, [], ◌∷◌, ◌++◌, take, length, get_or, refl, sym}
+use Rattle.ksv_memo.proofs.Common.{◌≡◌, ◌≢◌, inl, inr, ℕ, ◌+◌, ◌<◌, Bool, true, false, ◌&&◌, nat_eq, List, [], ◌∷◌, ◌++◌, take, length, get_or, refl, sym}
 use Rattle.ksv_memo.proofs.Common.{◌∙◌, ap, subst, Contains, Use, Bytes, HasEachOnce}
 use Rattle.std.proofs.Common.{true≢false, add-one}
 use Rattle.std.proofs.Math.Seq.{take-suc}

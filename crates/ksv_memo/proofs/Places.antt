@@ -1,5 +1,5 @@
 -- An entry among others is as one after them.
-use Rattle.ksv_memo.proofs.Common.{◌≡◌, ℕ, ◌+◌, ◌-◌, ◌*◌, ◌<◌, Bool, true, false, cond, List, [], ◌∷◌, ◌++◌, length, map, refl, sym, ◌∙◌, ap, subst, nat_eq}
+use Rattle.ksv_memo.proofs.Common.{◌≡◌, ℕ, ◌+◌, ◌-◌, ◌*◌, Bool, true, false, cond, List, [], ◌∷◌, ◌++◌, length, map, refl, sym, ◌∙◌, ap, subst, nat_eq}
 use Rattle.ksv_memo.proofs.Common.{◌||◌, arith, length-append, append_assoc, AllByRecursion, IsDistinct, Outcome, Standing, is_among, tells, Entry, Open}
 use Rattle.ksv_memo.proofs.Common.{nodes_in, nodes_of, AreDistinct, StandsIn, IsRight, fresh, costs, Agrees, HasCome, IsWaiting, IsStack, to_keep, debt, GoesOn}
 use Rattle.ksv_memo.proofs.Common.{HasFinished, IsLeft, AreSame, rest_of, All-map, All-++, All-left, All-right, is_among-append, nodes_of-append}

@@ -1,5 +1,5 @@
 -- What a question keeps, as sets of nodes.
-use Rattle.ksv_memo.proofs.Common.{◌≡◌, ℕ, Bool, true, false, List, [], ◌∷◌, ◌++◌, refl, sym, ◌∙◌, ap, nat_eq, ◌||◌, append_assoc, map, list_any, Standing}
+use Rattle.ksv_memo.proofs.Common.{◌≡◌, ℕ, Bool, true, false, List, [], ◌∷◌, ◌++◌, refl, sym, ◌∙◌, ap, nat_eq, ◌||◌, append_assoc, Standing}
 use Rattle.ksv_memo.proofs.Common.{is_among, Entry, nodes_of, IsRight, AreExactly, fresh, to_keep, IsLeft, AreSame, eqb_true, is_among-append}
 use Rattle.ksv_memo_rules.specs.Right.{AreBetween}
 use Rattle.ksv_memo.proofs.Moves.{fresh-out, fresh-in, fresh-nil}

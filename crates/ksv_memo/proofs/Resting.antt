@@ -1,6 +1,6 @@
 -- Frames where no node is open, and a table with nothing in it.
-use Rattle.ksv_memo.proofs.Common.{◌≡◌, ℕ, false, List, [], ◌∷◌, Some, None, slice_get, length, map, reverse, sym, ◌∙◌, ap, subst, arith, AllByRecursion, Slot}
-use Rattle.ksv_memo.proofs.Common.{is_kept, Linked, Frame, Frames, IsOneOf, AllDiffer, slots_of, node_at, IsKept, IsOpen, opens_in, opens_of, AreNested}
+use Rattle.ksv_memo.proofs.Common.{◌≡◌, ℕ, false, List, [], ◌∷◌, Some, None, slice_get, reverse, sym, ◌∙◌, ap, subst, arith, AllByRecursion, Slot}
+use Rattle.ksv_memo.proofs.Common.{Linked, Frames, slots_of, node_at, IsKept, IsOpen, opens_in, opens_of}
 use Rattle.ksv_memo.proofs.Common.{AreLinked, AreFrames, IsLaidOut}
 use Rattle.std.proofs.lemmas.List.{get_or_past}
 use Rattle.ksv_memo.proofs.Knowing.{some-frames}

@@ -1,6 +1,6 @@
 -- Sums over slots that differ.
 use Rattle.ksv_memo.proofs.Common.{◌≡◌, ◌≢◌, inl, inr, Bool, true, false, cond, ℕ, zero, suc, ◌+◌, ◌<◌, ◌≤◌, List, [], ◌∷◌, length, get_or, filter, Contains}
-use Rattle.ksv_memo.proofs.Common.{refl, sym, ◌∙◌, ap, arith, sum_by, AllByRecursion, sum_by-cons, numbers_from, IsOneOf, AllDiffer}
+use Rattle.ksv_memo.proofs.Common.{refl, sym, ◌∙◌, arith, sum_by, AllByRecursion, sum_by-cons, numbers_from, IsOneOf, AllDiffer}
 use Rattle.std.specs.List.{AllPairs}
 use Rattle.ksv_memo.proofs.Laying.{one_of-all, All-numbers}
 

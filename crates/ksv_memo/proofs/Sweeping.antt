@@ -1,7 +1,7 @@
 -- The slots that were emptied are those of the entries that a change takes.
 use Rattle.ksv_memo.proofs.Common.{◌≡◌, ◌⊎◌, inl, inr, Bool, true, false, not, cond, ◌||◌, ◌&&◌, ℕ, zero, suc, ◌+◌, ◌-◌, ◌*◌, ◌<◌, ◌≤◌, List, [], ◌∷◌, length}
 use Rattle.ksv_memo.proofs.Common.{map, filter, get_or, Option, Some, None, is_some, Contains, refl, sym, ◌∙◌, ap, subst, arith, Result, sum_by, count_by}
-use Rattle.ksv_memo.proofs.Common.{option_map, AllByRecursion, list_any, sum_by-cons, Use, Change, Overwrite, Insert, Delete, Append, row, is_use_touched}
+use Rattle.ksv_memo.proofs.Common.{option_map, AllByRecursion, list_any, sum_by-cons, Use, Change, Overwrite, row, is_use_touched}
 use Rattle.ksv_memo.proofs.Common.{pages_in, numbers_from, AreWithin, is_kept, Linked, Slot, answer_at, with_first, Entry, IsOneOf, slots_of, node_at, nodes_at}
 use Rattle.ksv_memo.proofs.Common.{IsKept, entry_with, entry_at, entries_at, entries_of, AreLinked, Mark, IsMarked, entries_left}
 use Rattle.std.proofs.Common.{max, All}

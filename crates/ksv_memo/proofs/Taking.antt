@@ -8,7 +8,7 @@ use Rattle.std.proofs.Common.{true≢false}
 use Rattle.ksv_memo_rules.specs.Evaluation.{IsAnswered}
 use Rattle.ksv_memo.specs.Nodes.{Nodes, IsEntry, HasNoEntry, Starts, Steps}
 use Rattle.ksv_memo_rules.specs.Right.{counted}
-use Rattle.ksv_memo.specs.Running.{account_at, GoesOnWith, Advances, IsRunning, HasReached, AdvancesFrom, AdvancesAt, LeftFrom, LeftAt, Holds, HoldsWith}
+use Rattle.ksv_memo.specs.Running.{account_at, GoesOnWith, IsRunning, HasReached, AdvancesFrom, AdvancesAt, LeftFrom, LeftAt, Holds, HoldsWith}
 use Rattle.ksv_memo.specs.Running.{Counts, CountsWith, turns_left}
 use Rattle.ksv_memo.proofs.Laying.{one_of-all}
 use Rattle.ksv_memo.proofs.Turns.{any_entry, waits_among, need-replies, need-opens, need-ends, finish-goes, finish-ends, finish-left, left-same, turn-account}
@@ -135,9 +135,7 @@ module _ {N A : Type 0} (q : Asking N A) where
       → Steps q.world st now s → AdvancesAt q.world es now s t out → AdvancesFrom q.world es st t out
   advances es [] now s t out runs steps h = absurd runs
   advances es (o ∷ st) now s t out runs steps h =
-      let at : AdvancesAt q.world es (with_uses o (q.world.added o.node o.replies) ∷ st) s t out =
-      rw steps.1 at h in
-      rw (turn-account _ q.law _ _ st _ steps.0 runs.1) at at
+      rw (turn-account _ q.law _ _ st _ steps.0 runs.1) at (rw steps.1 at h)
 
   leaves : (es : List (Entry N A)) (st now : List (Open N A)) (s : Next N A) (t : List (Entry N A)) → IsRunning q.world es st → Steps q.world st now s
       → LeftAt q.world es now s t → LeftFrom q.world es st t

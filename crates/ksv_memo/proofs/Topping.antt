@@ -1,8 +1,8 @@
 -- The last open node: how it is run, kept and taken out.
-use Rattle.ksv_memo.proofs.Common.{◌≡◌, ℕ, suc, ◌+◌, ◌-◌, ◌≤◌, ◌<◌, true, false, List, [], ◌∷◌, ◌++◌, length, map, take, drop, reverse, Option, Some, None}
+use Rattle.ksv_memo.proofs.Common.{◌≡◌, ℕ, ◌+◌, ◌-◌, ◌≤◌, ◌<◌, true, false, List, [], ◌∷◌, ◌++◌, length, take, drop, reverse, Option, Some, None}
 use Rattle.ksv_memo.proofs.Common.{IfOk, OnOk, length-append, is_some, refl, sym, ◌∙◌, ap, subst, Result, slice_get, inr, arith, option_map, AllByRecursion}
 use Rattle.ksv_memo.proofs.Common.{slice_get-map, slice_get_within, Use, Linked, row, is_kept, Slot, Frame, Frames, answer_in, answer_at, answers_at, Open}
-use Rattle.ksv_memo.proofs.Common.{Standing, Next, HasEachOnce, IsOneOf, AllDiffer, slots_of, node_at, nodes_at, IsOpen, IsKept, entries_of, open_before}
+use Rattle.ksv_memo.proofs.Common.{Standing, Next, HasEachOnce, slots_of, node_at, nodes_at, IsOpen, IsKept, entries_of}
 use Rattle.ksv_memo.proofs.Common.{opens_in, opens_of, AreNested, AreLinked, AreFrames, IsLaidOut, EndsWith, with_slot, Framed, Heard, Closes, MayKeep}
 use Rattle.ksv_memo.proofs.Common.{All-from_recursion, All-map, eqb_true}
 use Rattle.std.proofs.Common.{All, OnErr, Ok, Err, ◌==◌}

@@ -1,14 +1,14 @@
 -- What the code's tests and moves say of kept and open nodes.
 use Rattle.ksv_memo.proofs.Common.{◌≡◌, ℕ, suc, ◌+◌, ◌-◌, ◌*◌, ◌<◌, ◌≤◌, Bool, true, false, List, [], ◌∷◌, ◌++◌, length, refl, sym, ◌∙◌, ap, subst, nat_eq}
-use Rattle.ksv_memo.proofs.Common.{arith, ◌||◌, length-append, eq-eqb, Option, Result, IsEquivalence, AllByRecursion, list_any, append-nil, Use, Next, Need}
-use Rattle.ksv_memo.proofs.Common.{Done, Outcome, Answered, Circle, Standing, IsSettled, is_among, Told, told, tells, done, answering, Entry, Open, nodes_in}
+use Rattle.ksv_memo.proofs.Common.{arith, length-append, eq-eqb, Option, Result, IsEquivalence, AllByRecursion, list_any, append-nil, Use, Next, Need}
+use Rattle.ksv_memo.proofs.Common.{Done, Outcome, Answered, Circle, Standing, IsSettled, is_among, tells, done, answering, Entry, Open, nodes_in}
 use Rattle.ksv_memo.proofs.Common.{newly, with_uses, with_answer, nodes_of, HasEachOnce, IsRight, fresh, costs, Agrees, HasCome, IsWaiting, IsStack, rest_of}
 use Rattle.ksv_memo.proofs.Common.{to_keep, debt, HasFinished, GoesOn, IsLeft, All-right, IsOut, eqb_true, IsIn, AreDistinct-none, agrees, self_in}
 use Rattle.ksv_memo.proofs.Common.{nodes_of-append}
 use Rattle.std.proofs.Common.{Ok, Err, OnErr}
 use Rattle.ksv_memo.specs.Nodes.{kept_of}
 use Rattle.ksv_memo_rules.specs.Right.{counted}
-use Rattle.ksv_memo.specs.Running.{HasEnded, HasStepped, climbed, value_of, calls_of, calls_left, climbed_rest, rest_at, made, Counts, account_of, account_at}
+use Rattle.ksv_memo.specs.Running.{HasEnded, HasStepped, value_of, calls_of, calls_left, climbed_rest, rest_at, made, Counts, account_of, account_at}
 use Rattle.ksv_memo_rules.proofs.Evals.{AreDistinct-cons, tells-free}
 use Rattle.ksv_memo_rules.proofs.Keeping.{IsIn-append, done-kept}
 use Rattle.ksv_memo.proofs.Places.{goes-moved, finished-moved, left-moved}

@@ -1,6 +1,6 @@
 -- Nodes beside their slots.
 use Rattle.ksv_memo.proofs.Common.{◌≡◌, ℕ, zero, suc, Bool, ◌||◌, List, [], ◌∷◌, ◌++◌, length, map, slice_set, get_or, Some, refl, ◌∙◌, ap, arith, slice_get}
-use Rattle.ksv_memo.proofs.Common.{option_map, zip, list_any, slice_get_within, with_slot}
+use Rattle.ksv_memo.proofs.Common.{zip, list_any, slice_get_within, with_slot}
 use Rattle.std.proofs.lemmas.Option.{slice_get_read}
 use Rattle.std.proofs.lemmas.Slice.Zip.{length-zip}
 

@@ -1,6 +1,6 @@
 -- Where a walk along the items of a list is, told from the place that it has, and how it goes on.
 use Rattle.ksv_memo_links.proofs.Common.{◌≡◌, ◌≢◌, ◌⊎◌, inl, inr, true, false, eqb, cond, ℕ, zero, suc, ◌+◌, ◌-◌, ◌<◌, ◌≤◌, List, [], ◌∷◌, length, get_or, refl}
-use Rattle.ksv_memo_links.proofs.Common.{ap, subst, arith, eqb_tells, Item, row, at, item_at, IsListed}
+use Rattle.ksv_memo_links.proofs.Common.{ap, arith, eqb_tells, Item, row, at, item_at, IsListed}
 
 -- how many of these items come from the one at a place on
 abbrev pub left_from : List Item → ℕ → ℕ

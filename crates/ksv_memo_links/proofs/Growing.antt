@@ -1,7 +1,7 @@
 -- The chains stay whole when owners and lists are added.
 use Rattle.ksv_memo_links.proofs.Common.{◌≡◌, ℕ, zero, suc, ◌≤◌, List, [], ◌++◌, length, replicate, refl, sym, ◌∙◌, ap, subst, arith, sum_by, append-nil}
 use Rattle.ksv_memo_links.proofs.Common.{map-append, length-append, sum_by-cons, Entry, Block, HasSameRows, naming, one_if, entry_at, block_at, first_at}
-use Rattle.ksv_memo_links.proofs.Common.{lists_in, named_of, hop, IsChain, IsChained}
+use Rattle.ksv_memo_links.proofs.Common.{lists_in, named_of, IsChain, IsChained}
 use Rattle.std.proofs.Common.{Result, Ok, Err, OnOk, OnErr}
 use Rattle.std.proofs.lemmas.List.Sums.{sum_by-append}
 use Rattle.ksv_memo_links.proofs.Padding.{padded}

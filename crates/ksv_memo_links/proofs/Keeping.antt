@@ -1,6 +1,6 @@
 -- A slot upon another is taken or kept, and the links stay whole.
-use Rattle.ksv_memo_links.proofs.Common.{◌≡◌, ◌≢◌, ◌⊎◌, inl, inr, Bool, true, false, eqb, ℕ, ◌<◌, ◌≤◌, List, [], ◌∷◌, ◌++◌, length, set, get_or, Contains, refl}
-use Rattle.ksv_memo_links.proofs.Common.{sym, ◌∙◌, ap, subst, arith, true≢false, AllPairs, length-set, get_or-set_same, get_or-set_other, set-set, set-get_or}
+use Rattle.ksv_memo_links.proofs.Common.{◌≡◌, ◌≢◌, inl, inr, Bool, true, false, ℕ, ◌<◌, ◌≤◌, List, [], ◌∷◌, ◌++◌, length, set, get_or, refl}
+use Rattle.ksv_memo_links.proofs.Common.{sym, ◌∙◌, ap, arith, true≢false, length-set, get_or-set_same, get_or-set_other, set-set, set-get_or}
 use Rattle.ksv_memo_links.proofs.Common.{get_or_append_left, Contains-append_left, Contains-push, eqb_tells, Use, Parts, row, HasSameRows, is_kept, IsShaped}
 use Rattle.std.proofs.Common.{All}
 use Rattle.std.proofs.lemmas.List.{length_push}

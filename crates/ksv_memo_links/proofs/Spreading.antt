@@ -1,5 +1,5 @@
 -- The users of marked slots, one slot upon another.
-use Rattle.ksv_memo_links.proofs.Common.{◌≡◌, inl, inr, Bool, true, false, ℕ, ◌+◌, ◌*◌, ◌<◌, ◌≤◌, List, ◌++◌, length, take, get_or, refl, sym}
+use Rattle.ksv_memo_links.proofs.Common.{◌≡◌, inl, inr, Bool, true, false, ℕ, ◌+◌, ◌*◌, ◌<◌, ◌≤◌, List, ◌++◌, length, take, get_or, sym}
 use Rattle.ksv_memo_links.proofs.Common.{◌∙◌, ap, subst, arith, length-append, get_or_append_left, get_or_read, eqb_tells, Item, Parts, row, IsListed, is_kept}
 use Rattle.ksv_memo_links.proofs.Common.{item_at, looks, IsShaped, SameLinks, Why, MarksMore, HitsUsers, Spreads}
 use Rattle.std.proofs.lemmas.List.{take-append-le}

@@ -1,5 +1,5 @@
 -- The items of pages are no more than the pages that uses meet.
-use Rattle.ksv_memo_links.proofs.Common.{◌≡◌, ℕ, zero, suc, ◌+◌, ◌-◌, ◌≤◌, Bool, true, false, cond, nat_lt, List, [], ◌∷◌, length, refl, ap, arith, sum_by}
+use Rattle.ksv_memo_links.proofs.Common.{◌≡◌, ℕ, zero, suc, ◌+◌, ◌-◌, ◌≤◌, Bool, cond, nat_lt, List, [], ◌∷◌, length, refl, ap, arith, sum_by}
 use Rattle.ksv_memo_links.proofs.Common.{count_by, sum_by-cons, row, one_if, naming, sizes}
 use Rattle.std.proofs.Common.{◌&&◌, nat_le, nat_eq, ◌||◌}
 use Rattle.std.proofs.lemmas.Bool.Decides.{nat_tests}

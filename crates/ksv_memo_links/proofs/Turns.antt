@@ -1,6 +1,6 @@
 -- Lists that take turns: those of ends, and those of pages.
 use Rattle.ksv_memo_links.proofs.Common.{◌≡◌, ◌≢◌, inl, inr, true, false, cond, ℕ, zero, suc, ◌+◌, ◌*◌, ◌/◌, ◌<◌, ◌≤◌, List, [], ◌∷◌, length, map}
-use Rattle.ksv_memo_links.proofs.Common.{get_or, Contains, refl, sym, ◌∙◌, ap, subst, arith, sum_by, cases_lt, eqb_tells, get_or-map, get_or_past, get_or_read}
+use Rattle.ksv_memo_links.proofs.Common.{get_or, Contains, refl, sym, ◌∙◌, ap, arith, sum_by, cases_lt, eqb_tells, get_or-map, get_or_past, get_or_read}
 use Rattle.ksv_memo_links.proofs.Common.{length-map, Contains-append_left, Contains-append_right, sum_by-cons, Use, Item, row, pages_in, ends_in, at, item_at}
 use Rattle.ksv_memo_links.proofs.Common.{one_if, naming, IsListed, list_of_page, lists_of_uses, end_lists, page_lists}
 use Rattle.std.proofs.lemmas.List.Sums.{sum_by-append}

@@ -1,4 +1,4 @@
-use Rattle.ksv_memo.proofs.Common.{on, law_on}
+use Rattle.ksv_memo.proofs.Common.{law_on}
 use Rattle.ksv_memo.proofs.Forgetting.{left-decides}
 use Rattle.ksv_memo.proofs.laws.edits_leave_untouched_nodes.Goals as goal
 

@@ -1,6 +1,6 @@
-use Rattle.ksv_memo.proofs.Common.{length, ap, sym, subst, refl, ◌∙◌, zip, IsDistinct, Empty}
+use Rattle.ksv_memo.proofs.Common.{sym, subst, refl, ◌∙◌, zip, IsDistinct}
 use Rattle.std.proofs.lemmas.Map.Made.{keys_of-zip}
-use Rattle.ksv_memo_rules.specs.declared.replies.Slot.TheVariants.{Open, Value, Fault}
+use Rattle.ksv_memo_rules.specs.declared.replies.Slot.TheVariants.{Value, Fault}
 use Rattle.ksv_memo.proofs.Finding.{kept_there}
 use Rattle.ksv_memo.proofs.Zipping.{any-zip, inside-zip}
 use Rattle.ksv_memo.proofs.slots.look_up.Goals as goal

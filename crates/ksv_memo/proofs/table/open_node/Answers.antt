@@ -1,5 +1,5 @@
-use Rattle.ksv_memo.proofs.Common.{length-set, slice_get_within, rules, ◌≡◌, ◌+◌, ◌∙◌, ap, subst, refl, sym, length, arith, Empty, IsLaidOut, entries_of}
-use Rattle.ksv_memo.proofs.Common.{opens_of, IsVacant, Opens}
+use Rattle.ksv_memo.proofs.Common.{length-set, slice_get_within, rules, ◌≡◌, ◌+◌, ◌∙◌, ap, refl, length, arith, Empty, IsLaidOut}
+use Rattle.ksv_memo.proofs.Common.{IsVacant}
 use Rattle.std.proofs.lemmas.List.{length_push}
 use Rattle.ksv_memo_rules.specs.declared.replies.Slot.TheVariants.{Open}
 use Rattle.ksv_memo.specs.Moves.{Knows}

@@ -1,4 +1,4 @@
-use Rattle.ksv_memo.proofs.Common.{◌≡◌, ◌-◌, ◌++◌, length, take, drop, subst, refl, IfOk, OnOk, on, answers_at, slots_of, EndsWith}
+use Rattle.ksv_memo.proofs.Common.{◌-◌, length, take, drop, subst, refl, on, answers_at, slots_of, EndsWith}
 use Rattle.ksv_memo.proofs.Topping.{runs}
 use Rattle.ksv_memo.proofs.table.run_last.Goals as goal
 

@@ -1,4 +1,4 @@
-use Rattle.ksv_memo.proofs.Common.{rules, subst, refl, arith, slice_get_within, Empty, entries_of, opens_of, Opens, Circles}
+use Rattle.ksv_memo.proofs.Common.{rules, refl, arith, slice_get_within, Empty}
 use Rattle.ksv_memo_rules.specs.declared.replies.Slot.TheVariants.{Open}
 use Rattle.ksv_memo.proofs.Changing.{set_at, set_count}
 use Rattle.ksv_memo.proofs.Tabling.{empty_out, empty_free, open_waits, opens-laid, opens-more, empty_none, empty_closed, looked-laid, looked-view}

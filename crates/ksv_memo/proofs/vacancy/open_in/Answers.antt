@@ -1,4 +1,4 @@
-use Rattle.ksv_memo.proofs.Common.{◌∙◌, ap, ◌++◌, ◌∷◌, [], refl}
+use Rattle.ksv_memo.proofs.Common.{refl}
 use Rattle.ksv_memo.proofs.Topping.{parted}
 use Rattle.ksv_memo.proofs.vacancy.open_in.Goals as goal
 

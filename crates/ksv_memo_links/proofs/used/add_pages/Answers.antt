@@ -1,4 +1,4 @@
-use Rattle.ksv_memo_links.proofs.Common.{◌≡◌, ℕ, zero, suc, ◌+◌, ◌-◌, ◌/◌, ◌≤◌, List, [], ◌∷◌, ◌++◌, map, ◌∙◌, ap, arith, map-append, numbers_from}
+use Rattle.ksv_memo_links.proofs.Common.{◌≡◌, ℕ, zero, suc, ◌+◌, ◌-◌, ◌≤◌, List, [], ◌∷◌, ◌++◌, map, ◌∙◌, ap, arith, map-append, numbers_from}
 use Rattle.ksv_memo_links.proofs.Common.{list_of_page}
 use Rattle.std.proofs.Common.{append_assoc}
 use Rattle.ksv_memo_links.proofs.used.add_pages.Goals as goal

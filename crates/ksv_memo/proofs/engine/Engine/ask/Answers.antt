@@ -1,5 +1,4 @@
-use Rattle.ksv_memo.proofs.Common.{[], ◌++◌, ap, sym, subst, on, done, AreExactly, nodes_of, AllEndBy, nodes, AreSame, to_keep}
-use Rattle.ksv_memo_rules.specs.Right.{AreBetween}
+use Rattle.ksv_memo.proofs.Common.{[], ◌++◌, ap, on, done, AreExactly, nodes_of, nodes, AreSame, to_keep}
 use Rattle.ksv_memo.specs.Resting.{IsResting}
 use Rattle.ksv_memo.proofs.Questions.{exactly, between}
 use Rattle.ksv_memo.proofs.Ends.{right-ends}

@@ -1,6 +1,4 @@
-use Rattle.ksv_memo.proofs.Common.{◌≤◌, length, ap, sym, subst, refl, Contains, AllByRecursion, on, AreExactly, IsRight, nodes_of, AllEndBy, pages_to, law_on}
-use Rattle.ksv_memo_rules.specs.Touched.{left_after}
-use Rattle.ksv_memo.specs.Near.{LooksNear}
+use Rattle.ksv_memo.proofs.Common.{ap, sym, subst, refl, Contains, AllByRecursion, on, IsRight, pages_to, law_on}
 use Rattle.ksv_memo.specs.Behind.{LooksBehind}
 use Rattle.ksv_memo.proofs.Forgetting.{forgets, forgets-right, forgets-kept, looks-near, looks-behind}
 use Rattle.ksv_memo.proofs.Ends.{ends-within, left-ends, reach-fits}

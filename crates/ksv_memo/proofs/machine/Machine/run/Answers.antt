@@ -1,4 +1,4 @@
-use Rattle.ksv_memo.proofs.Common.{rules, List, ℕ, Result, ◌∙◌, ap, sym, Need, Done, Circle, nodes}
+use Rattle.ksv_memo.proofs.Common.{rules, List, ℕ, Result, ◌∙◌, ap, sym, Need, Done, nodes}
 use Rattle.std.proofs.lemmas.Result.{IfOk-weaker, on_err_weaker}
 use Rattle.ksv_memo.proofs.Turns.{on_err_always}
 use Rattle.ksv_memo.proofs.Taking.{Asking, Turn, asking, circles, closes_left, closes_on, counts_first, ended, ends_known, goes_on, hears_or_opens, holds_first}

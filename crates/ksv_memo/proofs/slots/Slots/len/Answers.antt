@@ -1,4 +1,3 @@
-use Rattle.ksv_memo.proofs.Common.{◌∙◌, sym, ap, length}
 use Rattle.ksv_memo.proofs.Zipping.{count-zip}
 use Rattle.ksv_memo.proofs.slots.Slots.len.Goals as goal
 

@@ -1,4 +1,3 @@
-use Rattle.ksv_memo.proofs.Common.{◌∙◌, sym, ap, slots_of}
 use Rattle.ksv_memo.proofs.Zipping.{slots-zip}
 use Rattle.ksv_memo.proofs.slots.Slots.lend.Goals as goal
 

@@ -1,5 +1,4 @@
-use Rattle.ksv_memo.proofs.Common.{◌∙◌, ap, subst, true, slice_get_within, Empty, EndsWith, opens_of}
-use Rattle.ksv_memo.specs.Nodes.{TakesFirst}
+use Rattle.ksv_memo.proofs.Common.{◌∙◌, ap, subst, slice_get_within, Empty, EndsWith}
 use Rattle.ksv_memo.proofs.Topping.{IsPopped, top, pops, abandons-laid, abandons-kept, abandons-rest}
 use Rattle.ksv_memo.proofs.table.Table.abandon.Given
 use Rattle.ksv_memo.proofs.table.Table.abandon.Goals.{After-take_last}

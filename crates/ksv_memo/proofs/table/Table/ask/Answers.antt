@@ -1,5 +1,4 @@
-use Rattle.ksv_memo.proofs.Common.{◌∙◌, ap, subst, inl, Replies, nodes}
-use Rattle.ksv_memo.specs.Nodes.{nodes_with}
+use Rattle.ksv_memo.proofs.Common.{◌∙◌, ap, inl, nodes}
 use Rattle.ksv_memo.proofs.Tabling.{hears, replies}
 use Rattle.ksv_memo.proofs.table.Table.ask.Goals as goal
 

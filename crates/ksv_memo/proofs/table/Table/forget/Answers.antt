@@ -1,5 +1,4 @@
-use Rattle.ksv_memo.proofs.Common.{◌≤◌, ◌+◌, ◌-◌, length, ◌∙◌, ap, sym, subst, refl, arith, Frames, entries_at, entries_of, AllByRecursion, numbers_from}
-use Rattle.ksv_memo.proofs.Common.{AreWithin, Sweeps}
+use Rattle.ksv_memo.proofs.Common.{◌≤◌, ◌+◌, ◌-◌, length, refl, arith, Frames}
 use Rattle.std.proofs.Common.{max}
 use Rattle.ksv_memo.proofs.Sweeping.{all_marks, entries, stays, marked, swept-links, gone-least, looks-most, looks-behind, kept-within, waits-in}
 use Rattle.ksv_memo.proofs.Resting.{no-frames, no-opens}

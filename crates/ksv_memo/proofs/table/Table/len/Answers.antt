@@ -1,4 +1,3 @@
-use Rattle.ksv_memo.proofs.Common.{◌∙◌, ap, length}
 use Rattle.ksv_memo.proofs.Knowing.{count_kept}
 use Rattle.ksv_memo.proofs.table.Table.len.Goals as goal
 

@@ -1,4 +1,4 @@
-use Rattle.ksv_memo.proofs.Common.{ap, false}
+use Rattle.ksv_memo.proofs.Common.{ap}
 use Rattle.ksv_memo.proofs.Resting.{none-laid}
 use Rattle.ksv_memo.proofs.table.Table.new.Goals as goal
 

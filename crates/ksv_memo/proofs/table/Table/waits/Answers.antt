@@ -1,4 +1,3 @@
-use Rattle.ksv_memo.proofs.Common.{◌∙◌, ap, sym, length, nat_lt}
 use Rattle.std.proofs.lemmas.List.{length-reverse}
 use Rattle.ksv_memo.proofs.Changing.{frames_nodes}
 use Rattle.ksv_memo.proofs.Knowing.{opens_length}

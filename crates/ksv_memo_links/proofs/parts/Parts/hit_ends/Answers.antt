@@ -1,4 +1,4 @@
-use Rattle.ksv_memo_links.proofs.Common.{length, ◌∙◌, ap, arith, row, end_lists}
+use Rattle.ksv_memo_links.proofs.Common.{length, ◌∙◌, ap, arith, row}
 use Rattle.ksv_memo_links.proofs.Hits.{rows-none, rows-more, row-as}
 use Rattle.ksv_memo_links.proofs.Turns.{row-of-end, count-ends, count-pages}
 use Rattle.ksv_memo_links.proofs.parts.Parts.hit_ends.Goals as goal

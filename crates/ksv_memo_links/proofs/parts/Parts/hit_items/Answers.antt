@@ -1,4 +1,4 @@
-use Rattle.ksv_memo_links.proofs.Common.{map, arith, Parts, row, lists_of_uses, item_at}
+use Rattle.ksv_memo_links.proofs.Common.{arith, Parts, row, item_at}
 use Rattle.ksv_memo_links.proofs.Hits.{peek-uses, row-none, row-more, row-end, listed-in}
 use Rattle.ksv_memo_links.proofs.Cursors.{seen_to, starts, steps, ended}
 use Rattle.ksv_memo_links.proofs.parts.Parts.hit_items.Goals as goal

@@ -1,4 +1,4 @@
-use Rattle.ksv_memo_links.proofs.Common.{length, arith, Parts, row}
+use Rattle.ksv_memo_links.proofs.Common.{arith, Parts}
 use Rattle.ksv_memo_links.proofs.Hits.{peek-uses, row-from}
 use Rattle.ksv_memo_links.proofs.parts.Parts.hit_list.Goals as goal
 

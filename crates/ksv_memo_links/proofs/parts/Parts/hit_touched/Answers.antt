@@ -1,6 +1,3 @@
-use Rattle.ksv_memo_links.proofs.Common.{subst}
-use Rattle.ksv_memo_links.specs.Links.{IsMove}
-use Rattle.ksv_memo_links.specs.Forgetting.{AreAllWithin}
 use Rattle.ksv_memo_links.proofs.Closing.{pages-touched, insert-touched, delete-touched, append-touched}
 use Rattle.ksv_memo_links.proofs.parts.Parts.hit_touched.Goals as goal
 

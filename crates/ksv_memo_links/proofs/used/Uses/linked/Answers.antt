@@ -1,4 +1,3 @@
-use Rattle.ksv_memo_links.proofs.Common.{map, uses_of}
 use Rattle.ksv_memo_links.proofs.Turns.{listed-as}
 use Rattle.ksv_memo_links.proofs.used.Uses.linked.Goals as goal
 
