@@ -1,8 +1,8 @@
 -- What many proofs of this crate name, of its definitions and of other crates.
-pub use Rattle.std.proofs.Common.{◌≡◌, ℕ, zero, suc, ◌+◌, ◌<◌, List, ◌++◌, true, false, length, refl, ◌∙◌, ap, arith, ◌-◌, ◌≤◌, ◌⊎◌, inl, inr, ◌≢◌, eqb, set}
+pub use Rattle.std.proofs.Common.{◌≡◌, ℕ, zero, suc, ◌+◌, ◌<◌, List, ◌++◌, true, false, length, refl, ◌∙◌, ap, arith, ◌-◌, ◌≤◌, ◌⊎◌, inl, inr, ◌≢◌, set}
 pub use Rattle.std.proofs.Common.{[], ◌∷◌, get_or, Some, sym, subst, slice_get, reverse, Result, Ok, Err, OnErr, take}
-pub use Rattle.std.proofs.lemmas.Bool.{cases_lt}
-pub use Rattle.std.proofs.lemmas.Bool.Decides.{eqb_tells, nat_tests}
+pub use Rattle.std.proofs.lemmas.Bool.{cases_lt, cases_eq}
+pub use Rattle.std.proofs.lemmas.Bool.Decides.{nat_tests}
 pub use Rattle.std.proofs.lemmas.List.{get_or_append_left, length-map, length_push, length-set, get_or-set_same, get_or-set_other, get_or_push, take_all}
 pub use Rattle.std.proofs.lemmas.List.{get_or_default}
 pub use Rattle.std.proofs.lemmas.Option.{slice_get-map, slice_get-get_or, slice_get_within, get_or_from_slice_get}

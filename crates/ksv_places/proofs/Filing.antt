@@ -1,9 +1,8 @@
 -- Nodes by their paths' rows.
 use Rattle.ksv_places.proofs.Common.{◌≡◌, ℕ, ◌+◌, ◌-◌, ◌<◌, ◌≤◌, ◌⊎◌, inl, inr, ◌≢◌, set, List, [], ◌∷◌, ◌++◌, length, get_or, Some, refl}
 use Rattle.ksv_places.proofs.Common.{sym, ◌∙◌, ap, arith, slice_get, option_map, length-map, get_or_append_left, length_push, length-set}
-use Rattle.std.proofs.lemmas.Bool.{cases_eq}
 use Rattle.ksv_places.proofs.Common.{get_or-set_same, get_or-set_other, get_or_push, cases_lt, slice_get-map, slice_get-get_or, slice_get_within}
-use Rattle.ksv_places.proofs.Common.{get_or_from_slice_get, Step, NodeKind, Head, Row, Spot, with_mark, row_at, spot_at, node_of, nodes_of, IsFiled}
+use Rattle.ksv_places.proofs.Common.{get_or_from_slice_get, Step, NodeKind, Head, Row, Spot, with_mark, row_at, spot_at, node_of, nodes_of, IsFiled, cases_eq}
 use Rattle.std.proofs.lemmas.List.{get_or_past, get_or-map, same_lists, map-append, map-set}
 use Rattle.ksv_nodes.specs.declared.node.NodeKind.TheVariants.{Value, End, Rest}
 use Rattle.ksv_places.specs.Spots.{mark_in, no_row, IsSpotted, IsRoomed, IsOpen}

@@ -1,9 +1,8 @@
 -- A further path.
 use Rattle.ksv_places.proofs.Common.{◌≡◌, ◌≢◌, ◌⊎◌, inl, inr, ℕ, ◌+◌, ◌<◌, true, false, List, [], ◌∷◌, ◌++◌, length, sym, ◌∙◌, arith}
 use Rattle.ksv_places.proofs.Common.{length_push, get_or_append_left, cases_lt, nat_tests, Step, Link, link_at, chain, look, is_name}
-use Rattle.ksv_places.proofs.Common.{IsTree}
+use Rattle.ksv_places.proofs.Common.{IsTree, cases_eq}
 use Rattle.std.proofs.Common.{nat_eq}
-use Rattle.std.proofs.lemmas.Bool.{cases_eq}
 use Rattle.std.proofs.Math.Seq.{get_or-append_seam}
 use Rattle.ksv_places.specs.Tree.{IsChild}
 use Rattle.ksv_places.proofs.Chains.{Falls, any_fuel, more_links, step_on, found_at}

@@ -1,7 +1,7 @@
 -- What leads where once a path was hooked to the one a step shorter.
 use Rattle.ksv_places.proofs.Common.{◌≡◌, ◌≢◌, inl, inr, ℕ, ◌+◌, ◌<◌, false, List, [], ◌∷◌, ◌++◌, length, refl, sym, ◌∙◌, ap}
-use Rattle.ksv_places.proofs.Common.{arith, length_push, Step, Name, Index, Link, IsPut, IsPutAt, first_of_both, chain, look, is_name, IsTree}
-use Rattle.std.proofs.lemmas.Bool.{cases_eq, cases_lt}
+use Rattle.ksv_places.proofs.Common.{arith, length_push, Step, Name, Index, Link, IsPut, IsPutAt, first_of_both, chain, look, is_name, IsTree, cases_lt}
+use Rattle.ksv_places.proofs.Common.{cases_eq}
 use Rattle.ksv_places.specs.Tree.{Hooks}
 use Rattle.ksv_places.proofs.Growing.{nat_other, nat_self, Leads, grown_tree, same_chain, new_chain, past_new}
 

@@ -2,10 +2,10 @@
 use Rattle.ksv_places.proofs.Common.{◌≡◌, ℕ, zero, suc, ◌<◌, inl, inr, true, false, List, [], ◌∷◌, ◌++◌, length, get_or, set, reverse, Some}
 use Rattle.ksv_places.proofs.Common.{refl, sym, ◌∙◌, ap, arith, slice_get, Result, Ok, Err, OnErr, list_any, option_map, cases_lt, length-map, length_push}
 use Rattle.ksv_places.proofs.Common.{length-set, get_or_append_left, get_or-set_same, get_or-set_other, get_or_push, slice_get-map, slice_get-get_or}
-use Rattle.ksv_places.proofs.Common.{slice_get_within, get_or_from_slice_get, Step, NodeKind, all_named, AllFit}
+use Rattle.ksv_places.proofs.Common.{slice_get_within, get_or_from_slice_get, Step, NodeKind, all_named, AllFit, cases_eq}
 use Rattle.std.proofs.Common.{OnOk}
 use Rattle.std.specs.List.{IsDistinct}
-use Rattle.std.proofs.lemmas.Bool.{cases_eq, false_from_ne_true}
+use Rattle.std.proofs.lemmas.Bool.{false_from_ne_true}
 use Rattle.std.proofs.lemmas.List.{map-append, map-set, reverse-reverse}
 use Rattle.std.proofs.lemmas.List.Elements.{recursion_from_All}
 use Rattle.std.proofs.lemmas.List.Folds.{list_any_none, list_any_at}

@@ -1,8 +1,6 @@
 -- The first path, the root.
 use Rattle.ksv_places.proofs.Common.{◌≡◌, ℕ, ◌<◌, [], ◌∷◌, length, refl, ◌∙◌, ap, arith, Step, Name, Index, Link, first_of_both, chain, look}
-use Rattle.ksv_places.proofs.Common.{IsTree}
-use Rattle.std.proofs.lemmas.Bool.{cases_lt}
-use Rattle.std.proofs.Common.{inl, inr}
+use Rattle.ksv_places.proofs.Common.{IsTree, inl, inr, cases_lt}
 use Rattle.ksv_places.proofs.Chains.{ended}
 
 -- where there are no links nothing leads anywhere, and so it is with the root alone

@@ -1,8 +1,6 @@
 -- A number put into a path's table.
 use Rattle.ksv_places.proofs.Common.{◌≡◌, ◌≢◌, inl, inr, ℕ, ◌-◌, List, length, get_or, set, ap, number_at, part_at}
-use Rattle.ksv_places.proofs.Common.{table_at, shelf_at, Pages, IsPut, IsPutAt, IsApart, IsPartOf}
-use Rattle.std.proofs.Common.{refl}
-use Rattle.std.proofs.lemmas.Bool.{cases_eq}
+use Rattle.ksv_places.proofs.Common.{table_at, shelf_at, Pages, IsPut, IsPutAt, IsApart, IsPartOf, refl, cases_eq}
 use Rattle.ksv_places.specs.Table.{no_pages, Shelf}
 use Rattle.ksv_places.proofs.Replacing as parts
 

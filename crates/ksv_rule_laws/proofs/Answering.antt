@@ -1,9 +1,9 @@
 -- Answers of nodes are those of their rules. With fewer nodes open, a node answers the same.
 use Rattle.ksv_rule_laws.proofs.Common.{inl, inr, ◌≡◌, ℕ, zero, suc, ◌≤◌, false, List, ◌∷◌, Result, Ok, arith}
 use Rattle.ksv_rule_laws.proofs.Common.{Trail, Description, Node, NodeFault, Given, Rule}
-use Rattle.ksv_rule_laws.proofs.Common.{answer_of, from_nothing}
+use Rattle.ksv_rule_laws.proofs.Common.{answer_of, from_nothing, cases_Bool}
 use Rattle.std.specs.Prelude.{nat_eq}
-use Rattle.std.proofs.lemmas.Bool.{or_right, cases_Bool}
+use Rattle.std.proofs.lemmas.Bool.{or_right}
 use Rattle.ksv_memo_rules.specs.Evaluation.{is_among}
 use Rattle.ksv_nodes.specs.Numbers.{node_number, node_bound}
 use Rattle.ksv_rule_meaning.specs.Meaning.{meaning_of, rule_of}

@@ -1,9 +1,8 @@
 -- A circle comes from nodes that ask for each other, and from no rule.
 use Rattle.ksv_rule_laws.proofs.Common.{◌≡◌, ◌∙◌, ℕ, zero, suc, ◌+◌, ◌-◌, ◌<◌, ◌≤◌, true, false, List, [], ◌∷◌, length, Some, None, Result, Ok}
 use Rattle.ksv_rule_laws.proofs.Common.{Err, refl, sym, ap, arith, inl, inr, Answer, Fail, Ask, Trail, Description, Node, NodeFault, Given, look, Rule}
-use Rattle.ksv_rule_laws.proofs.Common.{Of, See, answer_of, with_given, with_seen, from_nothing}
+use Rattle.ksv_rule_laws.proofs.Common.{Of, See, answer_of, with_given, with_seen, from_nothing, cases_Bool}
 use Rattle.std.specs.Prelude.{Contains}
-use Rattle.std.proofs.lemmas.Bool.{cases_Bool}
 use Rattle.std.proofs.lemmas.List.Elements.{Contains-append_left, Contains-append_right, Contains-append_cases, Contains-push, Contains-push_cases}
 use Rattle.ksv_expr_value.specs.declared.fault.FaultKind.TheVariants as kinds
 use Rattle.ksv_expr_value.specs.declared.fault.Fault.{Fault}

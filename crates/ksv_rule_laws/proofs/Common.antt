@@ -1,6 +1,8 @@
 -- What many proofs of this crate name, of its definitions and of other crates.
 pub use Rattle.std.proofs.Common.{◌≡◌, ◌∙◌, ℕ, zero, suc, ◌≤◌, Bool, true, false, List, ◌∷◌, Option, Some, None, Result, Ok, Err, refl, sym, ap, arith}
 pub use Rattle.std.proofs.Common.{if◌then◌else◌, [], subst, ◌+◌, ◌-◌, ◌<◌, length, inl, inr, ◌==◌, slice_get}
+pub use Rattle.std.proofs.lemmas.Bool.{cases_Bool}
+pub use Rattle.std.proofs.lemmas.Option.{same_Some}
 pub use Rattle.std.proofs.lemmas.Bool.Decides.{nat_tests}
 pub use Rattle.std.specs.List.{AllByRecursion}
 pub use Rattle.std.specs.Prelude.{◌⊎◌}

@@ -2,9 +2,8 @@
 use Rattle.ksv_rule_laws.proofs.Common.{◌≡◌, ◌∙◌, ℕ, zero, suc, ◌+◌, ◌==◌, ◌<◌, Bool, true, false, List, [], ◌∷◌, Some, Result, Ok, inl, inr}
 use Rattle.ksv_rule_laws.proofs.Common.{refl, sym, ap, arith, nat_tests, Tree, Place, Trail, child, parent, last, Step, Description, Field, Repeat, Once}
 use Rattle.ksv_rule_laws.proofs.Common.{Eos, Expr, Until, Node, NodeFault, NodeKind, Given, head_node, end_node, rest_node, answer_of, is_last, from_nothing}
-use Rattle.ksv_rule_laws.proofs.Common.{IsFieldOf, IsCountedBy}
+use Rattle.ksv_rule_laws.proofs.Common.{IsFieldOf, IsCountedBy, same_Some}
 use Rattle.std.proofs.Common.{◌⊎◌}
-use Rattle.std.proofs.lemmas.Option.{same_Some}
 use Rattle.std.proofs.lemmas.Bool.{cases_lt}
 use Rattle.ksv_expr_value.specs.Trail.{first_step, all_but_last, trail_of, trail_of-true}
 use Rattle.ksv_expr_value.specs.declared.step.Step.TheVariants as steps

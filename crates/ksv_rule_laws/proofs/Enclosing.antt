@@ -4,7 +4,7 @@ use Rattle.ksv_rule_laws.proofs.Common.{ap, arith, inl, inr, ◌⊎◌, AllByRec
 use Rattle.ksv_rule_laws.proofs.Common.{parent, last, Step, Stream, Choice, Description, MemberOfType, MemberKind, Parameter, Attribute, ParseInstance}
 use Rattle.ksv_rule_laws.proofs.Common.{ValueInstance, Field, Node, NodeFault, NodeKind, Given, Origin, ObjectEnd, Object, Head, end_in, head_node, end_node}
 use Rattle.ksv_rule_laws.proofs.Common.{rest_node, answer_of, expression, holds, stream_for, members_of, behind, Sought, sought, last_attribute, origin_of}
-use Rattle.ksv_rule_laws.proofs.Common.{instance_setting, calc, is_last, from_nothing, EndsAt}
+use Rattle.ksv_rule_laws.proofs.Common.{instance_setting, calc, is_last, from_nothing, EndsAt, cases_Bool}
 use Rattle.ksv_rule_laws.proofs.Starts.{of_start, at_most, at_least}
 use Rattle.ksv_expr_value.specs.declared.step.Step.TheVariants as steps
 use Rattle.ksv_nodes.specs.declared.node.NodeKind.TheVariants as nodes
@@ -15,7 +15,6 @@ use Rattle.ksv_rule_meaning.specs.Fields.{is_attribute}
 use Rattle.ksv_rule_meaning.specs.Heads.{within}
 use Rattle.ksv_rule_laws.specs.Laws.{IsBetween, LiesIn, IsStreamFor, IsReadIn, IsHeld, AreNamesDistinct, HasDistinctNames, HeadsLieInStreams, EndsLieInStreams}
 use Rattle.ksv_rule_laws.specs.Laws.{IsUnmet, IsLeftOut}
-use Rattle.std.proofs.lemmas.Bool.{cases_Bool}
 use Rattle.ksv_rule_laws.proofs.Answering.{same_answer}
 use Rattle.ksv_rule_laws.proofs.Rules.{Answers, answered, known}
 use Rattle.ksv_rule_laws.proofs.Shapes.{IsHeadAt, IsStart, IsOut, IsMember, IsMemberOf, IsElementOf, IsHead, IsFieldsEnd, IsObjectEnd, RestsAt, IsEnd, IsEndOf}

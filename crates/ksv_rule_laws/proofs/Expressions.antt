@@ -1,7 +1,7 @@
 -- What a plan of an expression gives, by its parts: bytes and streams that it was told of.
 use Rattle.ksv_rule_laws.proofs.Common.{ℕ, ◌+◌, ◌-◌, ◌==◌, Bool, true, false, if◌then◌else◌, List, Option, Some, None, Result, Ok, Err, Answer, Fail}
-use Rattle.ksv_rule_laws.proofs.Common.{Ask, bind, Tree, byte_of, Trail, Setting, Stream, Value, Want, Heard, Eval, value_of}
-use Rattle.std.proofs.Common.{arith, nat_lt, ℤ, pos, negsuc}
+use Rattle.ksv_rule_laws.proofs.Common.{Ask, bind, Tree, byte_of, Trail, Setting, Stream, Value, Want, Heard, Eval, value_of, arith}
+use Rattle.std.proofs.Common.{nat_lt, ℤ, pos, negsuc}
 use Rattle.ksv_expr_tree.specs.Tree.{Word, Constant, no_arguments, argument, literal, named, special, member, unary, binary, logical}
 use Rattle.ksv_expr_tree.specs.Tree.{choice, field, special_field, call, index, cast}
 use Rattle.ksv_expr_tree.specs.declared.tree.UnaryOperator.{UnaryOperator}

@@ -3,7 +3,7 @@ use Rattle.ksv_rule_laws.proofs.Common.{◌≡◌, ◌∙◌, ℕ, ◌+◌, ◌=
 use Rattle.ksv_rule_laws.proofs.Common.{arith, AllByRecursion, nat_tests, Place, at_byte, byte_of, aligned, Trail, parent, last, Description, MemberOfType}
 use Rattle.ksv_rule_laws.proofs.Common.{MemberKind, Attribute, Choice, Always}
 use Rattle.ksv_rule_laws.proofs.Common.{Node, NodeFault, Given, Object, Head, head_node, members_of, behind, Sought, sought, last_attribute, origin_of}
-use Rattle.ksv_rule_laws.proofs.Common.{start_after, start_of, from_nothing}
+use Rattle.ksv_rule_laws.proofs.Common.{start_after, start_of, from_nothing, same_Some}
 use Rattle.std.proofs.Common.{◌*◌, ◌/◌, ◌++◌}
 use Rattle.ksv_expr_value.specs.declared.step.Step.TheVariants.{Name}
 use Rattle.ksv_desc.specs.Description as contents
@@ -12,7 +12,6 @@ use Rattle.ksv_nodes.specs.declared.given.Head.TheVariants as heads
 use Rattle.ksv_rule_meaning.specs.Fields.{is_attribute}
 use Rattle.ksv_rule_laws.specs.Laws.{AreBits, IsNextByte, BeginsAfter, FirstAttributesBegin, AttributesTouch}
 use Rattle.ksv_rule_laws.proofs.Shapes.{IsStart, IsMember, IsMemberOf}
-use Rattle.std.proofs.lemmas.Option.{same_Some}
 use Rattle.ksv_rule_laws.proofs.Shaping.{by_shape}
 use Rattle.ksv_rule_laws.proofs.Touching.{begins_at}
 

@@ -2,9 +2,8 @@
 use Rattle.ksv_rule_laws.proofs.Common.{◌≡◌, ◌∙◌, ℕ, suc, ◌+◌, Bool, List, [], ◌∷◌, slice_get, Option, Some, None, Result, refl}
 use Rattle.ksv_rule_laws.proofs.Common.{inl, inr, sym, ap, arith, Tree, Setting, Trail, Value, Description, MemberOfType, MemberKind, Attribute}
 use Rattle.ksv_rule_laws.proofs.Common.{ParseInstance, Content, Choice, Always, Switch, Node, NodeFault, Given, MemberRef, Rule, expression}
-use Rattle.ksv_rule_laws.proofs.Common.{members_of, Sought, kind_of, field_of, Reads, IsFieldOf, IsContentOf}
+use Rattle.ksv_rule_laws.proofs.Common.{members_of, Sought, kind_of, field_of, Reads, IsFieldOf, IsContentOf, cases_Bool}
 use Rattle.std.specs.Prelude.{option_map, option_and_then}
-use Rattle.std.proofs.lemmas.Bool.{cases_Bool}
 use Rattle.ksv_desc.specs.Description.{Case, field_in}
 use Rattle.ksv_desc.specs.Description as contents
 use Rattle.ksv_rule_meaning.specs.Choosing.{Chosen, is_case_of, is_default, first_case, or_default, case_for, switched, choose, in_content, content_of}

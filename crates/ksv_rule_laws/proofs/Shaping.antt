@@ -5,12 +5,11 @@ use Rattle.ksv_rule_laws.proofs.Common.{child, parent, last, Step, Stream, Choic
 use Rattle.ksv_rule_laws.proofs.Common.{ValueInstance, Field, Content, Repeat, Once, Eos, Expr, Until, Node, NodeFault, NodeKind, Given, Leaf, Origin}
 use Rattle.ksv_rule_laws.proofs.Common.{ObjectEnd, Object, Head, end_in, Rule, ask_rest, head_node, end_node, answer_of, truth_of, stream_for}
 use Rattle.ksv_rule_laws.proofs.Common.{members_of, Sought, sought, last_attribute, origin_of, instance_setting, is_last, from_nothing}
-use Rattle.ksv_rule_laws.proofs.Common.{IsContentOf, IsLeafOf, IsCountedBy, EndsAt}
+use Rattle.ksv_rule_laws.proofs.Common.{IsContentOf, IsLeafOf, IsCountedBy, EndsAt, same_Some}
 use Rattle.std.proofs.Common.{◌||◌, drop}
 use Rattle.std.specs.Prelude.{slice_range}
 use Rattle.std.proofs.lemmas.List.{length-take}
 use Rattle.std.proofs.lemmas.Grind.{common_steps}
-use Rattle.std.proofs.lemmas.Option.{same_Some}
 use Rattle.ksv_expr_tree.specs.Tree.{Arguments}
 use Rattle.ksv_expr_value.proofs.Places.{of_further}
 use Rattle.ksv_expr_value.specs.Trail.{element_limit, first_step, all_but_last, same_trail, trail_of-steps}

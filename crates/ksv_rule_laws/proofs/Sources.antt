@@ -2,14 +2,13 @@
 use Rattle.ksv_rule_laws.proofs.Common.{◌≡◌, ◌∙◌, ℕ, suc, ◌+◌, ◌==◌, List, [], ◌∷◌, slice_get, Option, Some, None, Result, Ok}
 use Rattle.ksv_rule_laws.proofs.Common.{refl, ap, arith, inl, inr, Place, at_byte, Trail, parent, last, Step, Stream, Description, MemberOfType}
 use Rattle.ksv_rule_laws.proofs.Common.{MemberKind, Parameter, Attribute, ParseInstance, ValueInstance, Field, Node, NodeFault, NodeKind, Given, Object, Origin}
-use Rattle.ksv_rule_laws.proofs.Common.{Head, head_node, members_of, behind, Sought, sought, calc, origin_of, Reads, IsFieldOf}
+use Rattle.ksv_rule_laws.proofs.Common.{Head, head_node, members_of, behind, Sought, sought, calc, origin_of, Reads, IsFieldOf, cases_Bool}
 use Rattle.ksv_expr_value.specs.declared.step.Step.TheVariants as steps
 use Rattle.ksv_nodes.specs.declared.node.NodeKind.TheVariants as nodes
 use Rattle.ksv_nodes.specs.declared.given.Given.TheVariants as givens
 use Rattle.ksv_nodes.specs.declared.given.Head.TheVariants as heads
 use Rattle.ksv_rule_laws.specs.Laws.{IsObjectRead, IsCalculated, IsRead, HeadsAreRead}
 use Rattle.ksv_rule_laws.proofs.Shapes.{IsHeadAt, IsMember, IsHead, IsAnswer}
-use Rattle.std.proofs.lemmas.Bool.{cases_Bool}
 use Rattle.ksv_rule_laws.proofs.Shaping.{by_shapes}
 
 -- ---- the member of a place

@@ -3,7 +3,7 @@ use Rattle.ksv_rule_laws.proofs.Common.{◌≡◌, ℕ, ◌+◌, ◌≤◌, Bool
 use Rattle.ksv_rule_laws.proofs.Common.{refl, ap, arith, inl, inr, nat_tests, bind, Tree, Step, Origin, Holder, expression, Place, byte_of, further}
 use Rattle.ksv_rule_laws.proofs.Common.{Trail, parent, last, Value, Description, MemberKind, Parameter, ValueInstance}
 use Rattle.ksv_rule_laws.proofs.Common.{Field, Content, Node, NodeFault, Given, Head, Leaf, MemberRef, Rule, ask_head}
-use Rattle.ksv_rule_laws.proofs.Common.{field_of, kind_of, Reads, IsFieldOf, IsContentOf, IsLeafOf, IsOfLeaf}
+use Rattle.ksv_rule_laws.proofs.Common.{field_of, kind_of, Reads, IsFieldOf, IsContentOf, IsLeafOf, IsOfLeaf, Setting}
 use Rattle.std.proofs.Common.{pos, ℤ}
 use Rattle.std.specs.Prelude.{nat_le}
 use Rattle.std.specs.Str.{bytes_eq}
@@ -15,7 +15,7 @@ use Rattle.ksv_expr_value.specs.declared.step.Step.TheVariants as steps
 use Rattle.ksv_expr_value.specs.Places.{byte_in}
 use Rattle.ksv_expr_value.specs.Bits.{number_of, bits_from}
 use Rattle.ksv_expr_value.specs.Range.{ranged}
-use Rattle.ksv_expr_value.specs.Setting.{Setting, NoElement}
+use Rattle.ksv_expr_value.specs.Setting.{NoElement}
 use Rattle.ksv_expr_value.specs.Encodings.{decoded}
 use Rattle.ksv_expr_value.specs.declared.encoding.Encoding.{Encoding}
 use Rattle.ksv_expr_value.specs.declared.value.Value.TheVariants as values
