@@ -1,4 +1,4 @@
-use Rattle.ksv_memo.proofs.Common.{◌≤◌, ◌+◌, ◌-◌, length, refl, arith, Frames}
+use Rattle.ksv_memo.proofs.Common.{◌≤◌, ◌+◌, ◌-◌, length, ◌∙◌, ap, refl, arith, Frames}
 use Rattle.std.proofs.Common.{max}
 use Rattle.ksv_memo.proofs.Sweeping.{all_marks, entries, stays, marked, swept-links, gone-least, looks-most, looks-behind, kept-within, waits-in}
 use Rattle.ksv_memo.proofs.Resting.{no-frames, no-opens}
@@ -30,7 +30,7 @@ invariant_of-self g c =
     record {
       kept = swept-links _ _ _ _ _ _ _ _ c.self.invariant.kept
           c.forget.ensures.forgets e;
-      waits = no-frames _ _ e.taken.opens _ _ c.self.invariant.waits (cc) refl
+      waits = no-frames _ _ e.taken.opens _ _ c.self.invariant.waits (ap (λ v. v.opened) c.self.view_is ∙ c.requires.opened) refl
           c.clear.ensures.items;
     }
 
@@ -40,7 +40,7 @@ returns-clause-opened g c =
     let ps = t.slots.entries in
     let qs = c.empty_taken.new.slots.entries in
     let none : Frames _ = record { frames = t.frames.frames; asked = c.clear.new.self; uses = t.frames.uses; has_grown = t.frames.has_grown } in
-    no-opens _ qs c.empty_taken.ensures.taken.opens _ none c.self.invariant.waits (cc) refl
+    no-opens _ qs c.empty_taken.ensures.taken.opens _ none c.self.invariant.waits (ap (λ v. v.opened) c.self.view_is ∙ c.requires.opened) refl
 
 pub returns-clause-kept : goal.returns-clause-kept
 returns-clause-kept g c =
