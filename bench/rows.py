@@ -387,6 +387,85 @@ def whole_list(count):
     return ("get /xs", f"[{count}]"), 3 * count + 3, 9 * count + 4
 
 
+@dataclass(frozen=True)
+class Plain:
+    """A list whose elements are laid out by a rule, after bytes whose number byte 0 has: what its elements are, their type and the types that it needs; the bytes of n
+    elements; how many elements the move by byte 0 takes out, and how many bytes these have; what is asked of an element, and what comes. A first question for the
+    last of n elements opens a * n + b nodes, and takes c * n + d turns: (a, b) and (c, d)."""
+
+    what: str
+    element: str
+    types: str
+    data: object
+    moved: tuple
+    tail: str
+    value: object
+    nodes: tuple
+    turns: tuple
+
+    def ksy(self):
+        """The description."""
+        field = f"  - {{id: xs, type: {self.element}, repeat: eos}}"
+        return text("meta: {id: r, endian: be}", "seq:", "  - {id: k, type: u1}", "  - {id: pad, size: k}", field, *([f"types: {self.types}"] if self.types else []))
+
+    def file(self, count):
+        """The file, none of whose list's bytes are taken out."""
+        return b"\x00" + self.data(count)
+
+    def question(self, count, number):
+        """The question for the last element of a file of n elements, which has this number in the list now, and what comes."""
+        return f"get /xs/{number}{self.tail}", str(self.value(count - 1))
+
+    def kept(self, count):
+        """How many nodes are kept when n elements are known."""
+        return self.nodes[0] * count + self.nodes[1]
+
+    def stats(self, count, fewer=0):
+        """The line `stats` after the question for the last of n elements, which has some turns fewer than the first one, and what comes."""
+        return "stats", f"kept {self.kept(count)} turns {self.turns[0] * count + self.turns[1] - fewer}"
+
+    def first(self, count):
+        """A session with the question for the last element."""
+        return Session(self.ksy(), self.file(count), (self.question(count, count - 1), self.stats(count)))
+
+    def moves(self, count):
+        """Lines by which all places move twice, each with a question for the last element. Three nodes stay kept (byte 0 and its place), for five turns less."""
+        elements, size = self.moved
+        ok, left = f"ok {len(self.file(count))}", count - elements
+        there = (f"set 0 {size:02x}", ok), self.question(count, left - 1), self.stats(left, 5)
+        return *there, ("set 0 00", ok), self.question(count, count - 1), self.stats(count, 5)
+
+
+PLAIN = (
+    Plain("bytes", "u1", "", lambda count: bytes(it % 251 for it in range(count)), (1, 1), "", lambda it: it % 251, (2, 7), (6, 14)),
+    Plain("u4", "u4", "", lambda count: b"".join((it * 7919).to_bytes(4, "big") for it in range(count)), (1, 4), "", lambda it: it * 7919, (2, 7), (6, 14)),
+    Plain("objects of u1 and u2", "t", "{t: {seq: [{id: a, type: u1}, {id: b, type: u2}]}}",
+          lambda count: b"".join(bytes([it % 251]) + (it % 65_521).to_bytes(2, "big") for it in range(count)), (1, 3), "/b", lambda it: it % 65_521, (6, 6), (16, 11)),
+    Plain("items", "t", "{t: {seq: [{id: len, type: u1}, {id: body, size: len}]}}", items, (2, 3), "/len", lambda it: it % 2, (7, 3), (19, 3)),
+)
+
+
+def lists(program):
+    """A list of n elements that are laid out by a rule, of four kinds: a first question for its last element, and two moves of all places, each with that question.
+    Instructions for each node that is opened, and bytes of peak memory; `stats` says how many are kept."""
+    sizes = (10_000, 20_000, 40_000)
+    for kind in PLAIN:
+        firsts, moves, peaks = [], [], []
+        for size in sizes:
+            asked_once, plain = kind.first(size), Session(kind.ksy(), kind.file(size), (("stats", "kept 0 turns 0"),))
+            firsts.append((plain, asked_once))
+            moves.append((asked_once, asked_once.then(*kind.moves(size))))
+            with program.talk(plain) as talk:
+                before = talk.peak()
+                talk.ask(*asked_once.dialogue)
+                peaks.append(talk.peak() - before)
+        count = [kind.kept(size) for size in sizes]
+        twice = [kind.kept(size) + kind.kept(size - kind.moved[0]) - 6 for size in sizes]
+        yield Figure(f"a first question on n {kind.what}", sizes, divided(program.more(firsts), count), "instructions a node", None, True)
+        yield Figure("the same", sizes, divided(peaks, count), "bytes of peak memory a node", None, True)
+        yield Figure(f"two moves of n {kind.what}", sizes, divided(program.more(moves), twice), "instructions a node", None, True)
+
+
 def far(program):
     """The last element that a list could have, on three bytes: its place is found from element to element, so n questions are open before the bytes end. Peak
     memory beyond that of the program when it has loaded."""
@@ -399,5 +478,5 @@ def far(program):
     yield Figure("`get /xs/n` on three bytes", sizes, peaks, "MiB of peak memory")
 
 
-ROWS = {row.__name__: row for row in (line, rounds, names, texts, choices, member, memory, append, insert, loading, first, one_byte)}
+ROWS = {row.__name__: row for row in (line, rounds, names, texts, choices, member, memory, append, insert, loading, first, one_byte, lists)}
 LARGE = {row.__name__: row for row in (far,)}

@@ -133,6 +133,7 @@ fn put<'a>(alloc: Global, desc: &Desc, arguments: &'a [u8]) -> Result<Command<'a
 }
 
 /// Reads the argument `POS`, and finds the one word after it.
+#[inline(always)]
 fn place_and_word(arguments: &[u8]) -> Result<(u64, &[u8]), LineRefusal>
     ensures read { MatchResult result (λ read. place_and_word (words_of arguments.now) ≡ Ok (read.0, read.1.now)) (λ refusal. place_and_word (words_of arguments.now) ≡ Err refusal) }
     ensures within { IfOk result (λ read. length read.1.now ≤ length arguments.now) }

@@ -73,18 +73,14 @@ fn command<'a>(alloc: Global) -> Result<Command<'a>, AllocError>
     ensures file { IfOk result (λ r. Demands r (codes "file")) }
     ensures ksy { IfOk result (λ r. Demands r (codes "ksy")) }
 {
-    let save = optional(
+    let with_save = named(alloc).arg(optional(
         alloc,
         "save",
         "OUT",
         "Writes the bytes to OUT after the session",
-    );
-    let file = demanded(alloc, "file", "FILE", "The file to explore");
-    let ksy = demanded(alloc, "ksy", "KSY", "Its description, a .ksy file");
-    let with_save = named(alloc).arg(save)?;
-    let with_file = with_save.arg(file)?;
-    let with_both = with_file.arg(ksy)?;
-    Ok(with_both)
+    ))?;
+    let with_file = with_save.arg(demanded(alloc, "file", "FILE", "The file to explore"))?;
+    with_file.arg(demanded(alloc, "ksy", "KSY", "Its description, a .ksy file"))
 }
 
 /// Reads the words of a command line; the first is the program's name. An error is `clap`'s: it has the text to print,

@@ -162,6 +162,7 @@ impl<N: NodeRules> Session<N> {
     }
 
     /// The reply to a question.
+    #[inline(never)]
     #[tactic(auto, unfolding(crate::specs::Explored::description_of))]
     fn answered(&mut self, question: &Question) -> Reply
         ensures answer { answer_seen self.new.bytes result ≡ said self.old.bytes (if is_refusal result then no_memory_text else question_text (description_of self.old) self.old.bytes question.now ++ codes "\n") }
@@ -207,6 +208,7 @@ impl<N: NodeRules> Session<N> {
     }
 
     /// Writes an integer over the one at a path. The edit comes last, and takes no memory.
+    #[inline(never)]
     #[tactic(auto, unfolding(crate::specs::Explored::description_of))]
     fn put(&mut self, path: &Path, number: Integer) -> Reply
         ensures answer { answer_seen self.new.bytes result ≡ (if is_refusal result then said self.old.bytes no_memory_text else put_answer (description_of self.old) self.old.bytes (outcome (description_of self.old) self.old.bytes (put_question (description_of self.old) self.old.bytes path.now number))) }
@@ -325,6 +327,7 @@ impl<N: NodeRules> Session<N> {
     }
 
     /// The bytes from a place on, at most 4,096.
+    #[inline(never)]
     fn shown(&self, at: u64, count: u64) -> Reply
         ensures answer { reply_text result ≡ (if is_refusal result then no_memory_text else shown_text self.now.bytes at count) }
         ensures form { form_of result ≡ (if is_refusal result then OutOfMemory else if has self.now.bytes at count then LongText else ShortText) }

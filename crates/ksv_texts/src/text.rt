@@ -167,6 +167,7 @@ pub(crate) fn window(buffer: &Buffer, from: u32, to: u32) -> Window
 }
 
 /// The current bytes of a range of the file, in hexadecimal.
+#[inline(always)]
 #[tactic(auto, unfolding(crate::specs::Texts::bytes_text))]
 pub fn bytes_text(alloc: Global, buffer: &Buffer, from: u32, to: u32) -> Result<String, AllocError>
     ensures { IfOk result (λ text. string_bytes text ≡ bytes_text buffer.now from to) }

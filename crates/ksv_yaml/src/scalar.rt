@@ -40,6 +40,7 @@ pub(crate) fn start_at(alloc: Global, line: usize, content: &[u8]) -> Result<Sta
 /// follow.
 ///
 /// It continues on lines none of which is before the column `floor`, with at most `depth` nested flow nodes.
+#[inline(always)]
 pub(crate) fn scalar<'a, 'b>(
     alloc: Global,
     depth: u32,

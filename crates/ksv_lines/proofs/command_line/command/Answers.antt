@@ -1,4 +1,7 @@
 use Rattle.std.proofs.Common.{refl}
+use Rattle.std.proofs.lemmas.Result.{IfOk-weaker}
+use Rattle.clap.specs.Words.{AddsArg}
+use Rattle.clap.specs.declared.builder.command.Command.{Command}
 use Rattle.ksv_lines.proofs.CommandLineLemmas.{IsBuilt, demands_file, demands_ksy, is_explorer}
 use Rattle.ksv_lines.proofs.command_line.command.Goals as goal
 
@@ -7,23 +10,24 @@ returns c =
     let start = c.named.result in
     let one = c.in_ok-with_save.with_save in
     let two = c.in_ok-with_file.with_file in
-    let cmd = c.in_ok-with_both.with_both in
-    let o = c.optional-save.result in
-    let f = c.demanded-file.result in
-    let k = c.demanded-ksy.result in
-    let built : IsBuilt start cmd o f k = record {
-      chain = (one, c.in_ok-with_save.ensures, (two, c.in_ok-with_file.ensures, (cmd, c.in_ok-with_both.ensures, refl)));
+    let o = c.optional.result in
+    let f = c.demanded.result in
+    let k = c.demanded-2.result in
+    let built : (cmd : Command) → AddsArg two k cmd → IsBuilt start cmd o f k = λ cmd last. record {
+      chain = (one, c.in_ok-with_save.ensures, (two, c.in_ok-with_file.ensures, (cmd, last, refl)));
       args = c.named.ensures.args;
       groups = c.named.ensures.groups;
       globals = c.named.ensures.local;
       negates = c.named.ensures.negates;
-      save = c.optional-save.ensures;
-      file = c.demanded-file.ensures;
-      ksy = c.demanded-ksy.ensures;
+      save = c.optional.ensures;
+      file = c.demanded.ensures;
+      ksy = c.demanded-2.ensures;
     } in
     record {
-      app = is_explorer start one two cmd o f k c.named.ensures.app c.in_ok-with_save.ensures c.in_ok-with_file.ensures c.in_ok-with_both.ensures built.save
-          built.file built.ksy;
-      file = demands_file start cmd o f k built;
-      ksy = demands_ksy start cmd o f k built;
+      app = IfOk-weaker c.arg-3.result _ _
+          (λ cmd last.
+          is_explorer start one two cmd o f k c.named.ensures.app c.in_ok-with_save.ensures c.in_ok-with_file.ensures last c.optional.ensures
+          c.demanded.ensures c.demanded-2.ensures) c.arg-3.ensures;
+      file = IfOk-weaker c.arg-3.result _ _ (λ cmd last. demands_file start cmd o f k (built cmd last)) c.arg-3.ensures;
+      ksy = IfOk-weaker c.arg-3.result _ _ (λ cmd last. demands_ksy start cmd o f k (built cmd last)) c.arg-3.ensures;
     }
