@@ -44,6 +44,8 @@ EARLY = (
 PROOFS = Part("rt", ("rt", "ci"))
 EDITS = Part("edits", ("{top}/edits/run", "--gate", "--over", "{copy}", "--rt", "{log}"))
 CHANGES = Part("changes", ("{top}/docs/changes/run", "--some", "{commit}", "--over", "{copy}"))
+# The parts whose time is the prover's.
+PROVING = (PROOFS, EDITS, CHANGES)
 # Through the program that was proved: parts of one process each, that run side by side.
 TOGETHER = (
     Part("examples", ("{copy}/examples/run",)),
