@@ -59,7 +59,7 @@ class Patch:
         """The tables of rows that it changes, by their crates."""
         found: dict[str, list[str]] = {}
         for it in self.files:
-            table = re.match(r"crates/(ksv_rows_\w+)/(data/\w+\.txt)$", it.path)
+            table = re.match(r"crates/(ksv_rows)/(data/\w+\.txt)$", it.path)
             if table:
                 found.setdefault(table[1], []).append(table[2])
         return found

@@ -1,4 +1,4 @@
-"""The table of expressions that a session is asked for: each row of ksv_rows_expressions' values, as a value instance.
+"""The table of expressions that a session is asked for: each row of `expressions_values.txt`, as a value instance.
 
 The replies are those of that table, which says where they are from, in the words of a session: a fault is at the instance, a text is in double
 quotes, and a member has its name. What the loader refuses isn't there."""
@@ -7,7 +7,7 @@ import os
 import re
 
 TOP = os.path.dirname(os.path.dirname(os.path.dirname(os.path.realpath(__file__))))
-VALUES = f"{TOP}/crates/ksv_rows_expressions/data/values.txt"
+VALUES = f"{TOP}/crates/ksv_rows/data/expressions_values.txt"
 # The enums of the descriptions; that table knows members by numbers, and two that the description hasn't.
 ENUMS = {"animal": {4: "cat", 7: "dog"}, "plant": {1: "oak"}}
 LOST = ("animal::bee", "animal::far", "lost", "_root.lost")
@@ -44,7 +44,7 @@ def reply(end, path):
 
 def table():
     """The table."""
-    yield "# Expressions as value instances: the rows of ksv_rows_expressions' values, each asked through a session."
+    yield "# Expressions as value instances: the rows of expressions_values.txt, each asked through a session."
     yield "# Values: those of that table, which says where they are from; written by tools/rows/values.py."
     yield "# Values: answered alike by tools/second, an interpreter of its own that was written from the rules alone."
     for heading, rows in groups():

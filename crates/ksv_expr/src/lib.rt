@@ -1,24 +1,15 @@
 //! Values of a described file, and expressions over them: their text, their tree and their evaluation.
 //!
 //! This crate only re-exports. The parser (ksv_expr_syntax) and the evaluation (ksv_expr_eval) don't depend on each other,
-//! so a crate that only evaluates doesn't wait for the parser's proof. The tests here call what expressions depend on.
+//! so a crate that only evaluates doesn't wait for the parser's proof.
 //!
-//! A call, in `crates/ksv_expr/src/expressions.rt`:
+//! A call, in `crates/ksv_rows/src/expressions/ask.rt`:
 //!
 //! ```
 //! match parse(alloc, text.as_bytes()) {
-//!     Ok(_) => false,
-//!     Err(fault) => fault == ExprFault { kind, at },
-//! }
+//!     Ok(expr) => {
 //! ```
-//!
-//! Modules:
-//!
-//! - `expressions`: tests of paths, integers, bytes in parts, encodings, faults and refused texts
 #![tactic(auto)]
-
-#[cfg(test)]
-mod expressions;
 
 pub use ksv_expr_eval::{
     Ctx, Element, Encoding, EvalStep, Expr, Fault, FaultKind, Got, Integer, Parts, Path, Place,

@@ -83,21 +83,9 @@ fn bytes_with<By, A: Answers<By>>(
     ensures { Runs (A.handler ctx.now) (bytes_with operator from to other_from other_to) (λ v. v) answers.old answers.new result }
 {
     match operator {
-        BinaryOperator::Equal => {
+        BinaryOperator::Equal | BinaryOperator::NotEqual => {
             let same = same_bytes(answers, ctx, from, to, other_from, other_to)?;
-            given(
-                answers,
-                ctx,
-                operators::matched(BinaryOperator::Equal, same),
-            )
-        }
-        BinaryOperator::NotEqual => {
-            let same = same_bytes(answers, ctx, from, to, other_from, other_to)?;
-            given(
-                answers,
-                ctx,
-                operators::matched(BinaryOperator::NotEqual, same),
-            )
+            given(answers, ctx, operators::matched(operator, same))
         }
         _ => raise(answers, ctx, FaultKind::BadType),
     }

@@ -1,7 +1,7 @@
 //! Evaluation of expressions: an expression asks for what it needs of the file, and whoever answers answers. Replies in a row do
 //! (`eval`), and so may anything else ([`Answers`], `evaluate`).
 //!
-//! A call, in `crates/ksv_rows_expressions/src/ask.rt`:
+//! A call, in `crates/ksv_rows/src/expressions/ask.rt`:
 //!
 //! ```
 //! show(alloc, &eval(alloc, expr, ctx, replies)?, out)

@@ -57,9 +57,15 @@ pub(crate) fn opened_for<By, A: Answers<By>>(
 ) -> Result<Opened, Halt<A::Need>>
     ensures { Runs (A.handler ctx.now) (opened_for want) (λ o. o) answers.old answers.new result }
 {
-    match &answers.answer(ctx, want)? {
-        Answer::Object(opened) => Ok(*opened),
-        _ => raise(answers, ctx, FaultKind::BadType),
+    let answer = answers.answer(ctx, want)?;
+    let opened = match &answer {
+        Answer::Object(opened) => Some(*opened),
+        _ => None,
+    };
+    drop(answer);
+    match opened {
+        Some(opened) => Ok(opened),
+        None => raise(answers, ctx, FaultKind::BadType),
     }
 }
 
@@ -71,9 +77,15 @@ pub(crate) fn number_for<By, A: Answers<By>>(
 ) -> Result<u64, Halt<A::Need>>
     ensures { Runs (A.handler ctx.now) (number_for want) (λ n. n) answers.old answers.new result }
 {
-    match answers.answer(ctx, want)? {
-        Answer::Number(number) => Ok(number),
-        _ => raise(answers, ctx, FaultKind::BadType),
+    let answer = answers.answer(ctx, want)?;
+    let number = match &answer {
+        Answer::Number(number) => Some(*number),
+        _ => None,
+    };
+    drop(answer);
+    match number {
+        Some(number) => Ok(number),
+        None => raise(answers, ctx, FaultKind::BadType),
     }
 }
 

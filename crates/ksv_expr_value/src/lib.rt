@@ -1,6 +1,6 @@
 //! Values of a described file: paths, integers, texts, encodings, values and faults.
 //!
-//! Calls, in `crates/ksv_expr/src/expressions.rt`:
+//! Calls, in `crates/ksv_test_rules/src/expressions.rt`:
 //!
 //! ```
 //! let has_last = root.child_index(alloc, 1_048_575)?.is_some();

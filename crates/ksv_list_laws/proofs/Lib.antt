@@ -15,3 +15,4 @@ pub mod Guards
 pub mod Examples
 pub mod Rising
 pub mod Folding
+pub mod Growing

@@ -1,7 +1,7 @@
 -- What is so of a node where it is so of one that it asks: then it is so of a node where it is so of its guard, or where a node makes its use.
 use Rattle.std.proofs.Common.{not}
 use Rattle.ksv_bytes.specs.declared.uses.Use.TheVariants as uses_are
-use Rattle.ksv_list_laws.proofs.Common.{◌≡◌, ◌∙◌, ℕ, zero, suc, ◌+◌, ◌-◌, ◌<◌, nat_le, Bool, true, false, if◌then◌else◌, ◌||◌, List, [], ◌∷◌, Option, Some}
+use Rattle.ksv_list_laws.proofs.Common.{◌≡◌, ◌∙◌, ℕ, zero, suc, ◌+◌, ◌-◌, ◌<◌, ◌≤◌, nat_le, Bool, true, false, if◌then◌else◌, ◌||◌, List, [], ◌∷◌, Option, Some}
 use Rattle.ksv_list_laws.proofs.Common.{None, ◌⊎◌, inl, inr, refl, sym, ap, subst, arith, nat_tests, is_some, Use, Description, size_at, is_named_to, Listing}
 use Rattle.ksv_list_laws.proofs.Common.{start, Which, ElementHead, ElementEnd, Rest, FieldHead, FieldEnd, SizeValue, end_uses, size_asked, last_asked}
 use Rattle.ksv_list_laws.proofs.Common.{later_asked, asked_by, element_uses, uses_at, prior_guard, guard_of, end_reach, prior_reach, element_reach, reach_of}
@@ -9,7 +9,7 @@ use Rattle.ksv_list_laws.proofs.Common.{IsPlain, IsThere}
 use Rattle.ksv_list_laws.proofs.Plain.{IsElementOf, IsRead}
 use Rattle.ksv_list_laws.proofs.Telling.{read, first_size, sizer_low}
 use Rattle.ksv_list_laws.proofs.Truth.{none_is}
-use Rattle.ksv_list_laws.specs.Nodes.{is_last, field_guard, IsField}
+use Rattle.ksv_list_laws.specs.Nodes.{is_last, element_of, field_guard, is_in_element, IsField}
 
 -- this is so of one of some
 abbrev pub AnyOf : {A : Type 0} → (A → Type 0) → List A → Type 0
@@ -115,6 +115,46 @@ module _ (d : Description) (bytes : List ℕ) (x : Listing) (plain : IsPlain d b
         let more : nat_le x.count (suc i) ≡ false = grind (arith, nat_tests) in
         rest_later i (omega (arith, sum, counted), full) (inr (subst (λ b. AnyOf Q (if b then [] else Some (Rest (suc i)) ∷ [])) (sym more)
         (inl (rest_end k (suc i) m (omega (arith, sum)) counted full q))))
+
+    -- ---- to the ends of elements
+
+    fields_later : (k i j : ℕ) → j + k ≡ x.layout.last → IsField x i j → Q (Some (FieldHead i j)) → Q (Some (FieldHead i x.layout.last))
+    fields_later zero i j sum there q = let same : j ≡ x.layout.last = omega (arith, sum) in subst (λ h. Q (Some (FieldHead i h))) same q
+    fields_later (suc k) i j sum there q =
+        let more : IsField x i (suc j) = (there.0, omega (arith, sum), there.2) in
+        fields_later k i (suc j) (omega (arith, sum)) more (next_field i j more q)
+
+    field_end : (i j : ℕ) → IsField x i j → Q (Some (FieldHead i j)) → Q (Some (ElementEnd i))
+    field_end i j there q = let low = there.1 in last_end i there.0 there.2 (fields_later (x.layout.last - j) i j (omega (arith, low)) there q)
+
+    -- the end of a field is asked by the next one, and that of the last by the element's
+    after_field : (i j : ℕ) → IsField x i j → Q (Some (FieldEnd i j)) → Q (Some (ElementEnd i))
+    after_field i j there q = by (nat_le (suc j) x.layout.last) refl
+      where
+        last_field : (o : Option ℕ) → x.layout.type_number ≡ o → is_some o ≡ true → Q (Some (FieldEnd i x.layout.last)) → Q (Some (ElementEnd i))
+        last_field (Some t) e h q' = rises (ElementEnd i) there.0 (inr (subst (λ o. AnyOf Q (last_asked o i x.layout.last)) (sym e) (inl q')))
+        last_field None e h q' = absurd (cc)
+
+        by : (b : Bool) → nat_le (suc j) x.layout.last ≡ b → Q (Some (ElementEnd i))
+        by true e = let more : IsField x i (suc j) = (there.0, grind (arith, nat_tests), there.2) in
+            field_end i (suc j) more (rises (FieldHead i (suc j)) more (inr (inl q)))
+        by false e =
+            let low = there.1 in
+            let same : j ≡ x.layout.last = grind (arith, nat_tests) in
+            last_field x.layout.type_number refl there.2 (subst (λ h. Q (Some (FieldEnd i h))) same q)
+
+    own_end : (k : Which) → IsThere bytes x k → is_in_element k ≡ true → Q (Some k) → Q (Some (ElementEnd (element_of k)))
+    own_end (ElementHead i) there e q = rises (ElementEnd i) there (inl q)
+    own_end (ElementEnd i) there e q = q
+    own_end (Rest i) there e q = absurd (cc)
+    own_end (FieldHead i j) there e q = field_end i j there q
+    own_end (FieldEnd i j) there e q = after_field i j there q
+    own_end (SizeValue i) there e q =
+        let field = there.0 in
+        last_end i field.0 field.2 (value_field i x.layout.last (field.0, omega arith, field.2) there.1 q)
+
+    pub end_rises : (k : Which) → IsThere bytes x k → is_in_element k ≡ true → (m : ℕ) → element_of k ≤ m → m < x.count → Q (Some k) → Q (Some (ElementEnd m))
+    end_rises k there e m late low q = end_later (m - element_of k) (element_of k) m (omega (arith, late)) low (own_end k there e q)
 
     pub guard_rises : (k : Which) → IsThere bytes x k → Q (guard_of x k) → Q (Some k)
     guard_rises (ElementHead i) there q = head_guard i there q

@@ -1,6 +1,6 @@
 -- Laws of plain lists: what the nodes of their elements answer, ask and use from nothing, and which changes touch them. They are stated over
 -- the definitions of ksv_rule_meaning alone.
-use Rattle.std.specs.Prelude.{◌≡◌, ℕ, Bool, true, false, ◌||◌, List, [], ◌∷◌, ◌++◌, Option, Some, None, Ok}
+use Rattle.std.specs.Prelude.{◌≡◌, ◌+◌, ◌<◌, ◌≤◌, ℕ, Bool, true, false, ◌||◌, List, [], ◌∷◌, ◌++◌, length, Option, Some, None, Result, Ok}
 use Rattle.std.specs.List.{AllByRecursion, flat_map, list_any}
 use Rattle.ksv_bytes.specs.declared.uses.Use.{Use}
 use Rattle.ksv_bytes.specs.declared.uses.Change.{Change}
@@ -8,7 +8,9 @@ use Rattle.ksv_bytes.specs.Uses.{is_use_touched}
 use Rattle.ksv_desc.specs.Description.{Description}
 use Rattle.ksv_memo_rules.specs.Evaluation.{is_among}
 use Rattle.ksv_memo_rules.specs.Meaning.{on}
-use Rattle.ksv_memo_rules.specs.Right.{StandsIn}
+use Rattle.ksv_memo_rules.specs.Entry.{Entry}
+use Rattle.ksv_memo_rules.specs.Right.{IsRight, StandsIn, cost, fresh}
+use Rattle.ksv_memo_rules.specs.Right as right
 use Rattle.ksv_nodes.specs.declared.node.Node.{Node}
 use Rattle.ksv_nodes.specs.declared.given.Given.{Given}
 use Rattle.ksv_nodes.specs.Numbers.{node_number}
@@ -17,7 +19,8 @@ use Rattle.ksv_rule_meaning.specs.Completed.{completed}
 use Rattle.ksv_rule_meaning.specs.Described.{described}
 use Rattle.ksv_rule_meaning.specs.FromNothing.{from_nothing, asks, uses}
 use Rattle.ksv_rule_meaning.specs.Kept.{is_touched}
-use Rattle.ksv_list_laws.specs.Nodes.{Listing, Which, SizeValue, node_at, nodes_of, answer_at, asked_by, uses_at, guard_of, reach_of, IsPlain, IsThere}
+use Rattle.ksv_expr_value.specs.declared.fault.Fault.{Fault}
+use Rattle.ksv_list_laws.specs.Nodes.{Listing, Which, ElementEnd, SizeValue, element_of, is_in_element, node_at, nodes_of, answer_at, asked_by, uses_at, guard_of, reach_of, IsPlain, IsThere}
 
 -- what a node answers, asks and uses from nothing
 pub record Tells (d : Description) (bytes : List ℕ) (opened : List Node) (n : Node) (g : Given) (ns : List Node) (us : List Use) : Type 0 where
@@ -74,3 +77,21 @@ FoldedStandIn = (d : Description) (bytes : List ℕ) (x : Listing) → IsPlain d
     → node_at x k ≡ Some n → guard_node x (guard_of x k) ≡ Some m
     → (kept : List Node) → AllByRecursion (λ o. is_among node_number kept o ≡ true) (nodes_of x (asked_by x k)) → is_among node_number kept m ≡ true
     → StandsIn (on (described d) bytes) kept (record { node = n; answer = Ok (answer_at bytes x k); asked = m ∷ []; uses = reach_of bytes x k })
+
+-- A question for a node completes it alone, by one call more than it asks, where an engine keeps all that it asks.
+pub record Grows (d : Description) (bytes : List ℕ) (es : List (Entry Node (Result Given Fault))) (n : Node) (ns : List Node) : Type 0 where
+  pub alone : fresh node_number (right.nodes_of es) (completed d bytes [] n) ≡ n ∷ []
+  pub calls : cost (on (described d) bytes) n ≡ length ns + 1
+
+-- So an engine that is right may keep the nodes of a plain list one after the other, with what they tell.
+abbrev pub NodesGrow : Type 0
+NodesGrow = (d : Description) (bytes : List ℕ) (x : Listing) → IsPlain d bytes x → (k : Which) → IsThere bytes x k → (n : Node) → node_at x k ≡ Some n
+    → (es : List (Entry Node (Result Given Fault))) → IsRight (on (described d) bytes) es
+    → AllByRecursion (λ o. is_among node_number (right.nodes_of es) o ≡ true) (nodes_of x (asked_by x k)) → is_among node_number (right.nodes_of es) n ≡ false
+    → Grows d bytes es n (nodes_of x (asked_by x k))
+
+-- And it may do so before they are asked: a question for an element's end completes all nodes of that element and of those before it, but rests.
+abbrev pub EarlierAreCompleted : Type 0
+EarlierAreCompleted = (d : Description) (bytes : List ℕ) (x : Listing) → IsPlain d bytes x → (k : Which) → IsThere bytes x k → is_in_element k ≡ true
+    → (m : ℕ) → element_of k ≤ m → m < x.count → (n e : Node) → node_at x k ≡ Some n → node_at x (ElementEnd m) ≡ Some e
+    → is_among node_number (completed d bytes [] e) n ≡ true

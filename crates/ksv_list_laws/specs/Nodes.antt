@@ -67,6 +67,19 @@ pub data Which : Type 0 where
   FieldEnd : ℕ → ℕ → Which
   SizeValue : ℕ → Which
 
+-- the element that a node is of, from which on a rest is; and whether a node is more than a rest
+abbrev pub element_of : Which → ℕ
+element_of (ElementHead i) = i
+element_of (ElementEnd i) = i
+element_of (Rest i) = i
+element_of (FieldHead i j) = i
+element_of (FieldEnd i j) = i
+element_of (SizeValue i) = i
+
+abbrev pub is_in_element : Which → Bool
+is_in_element (Rest i) = false
+is_in_element _ = true
+
 abbrev pub element_path : Listing → ℕ → Option Trail
 element_path x i = child x.path (steps.Index i)
 

@@ -1,7 +1,7 @@
 //! The laws, each a contract of a function that does nothing.
 
 ghost use Rattle.ksv_list_laws.specs.Examples.{NumbersArePlain, CountedArePlain, ItemsArePlain, ItemsAreNamed};
-ghost use Rattle.ksv_list_laws.specs.Laws.{NodesHavePaths, NodesTell, GuardsTell, TreesAreAsked, EntriesAreRight, FoldedStandIn};
+ghost use Rattle.ksv_list_laws.specs.Laws.{NodesHavePaths, NodesTell, GuardsTell, TreesAreAsked, EntriesAreRight, FoldedStandIn, NodesGrow, EarlierAreCompleted};
 
 /// Each node of a plain list has a path, and answers, asks and uses from nothing what numbers alone tell: the heads and ends of its
 /// elements and of their fields, the values that say sizes, and, where the last element is known, the rests.
@@ -25,6 +25,13 @@ pub fn trees_are_asked()
 pub fn entries_are_right()
     ensures own { EntriesAreRight }
     ensures folded { FoldedStandIn }
+{}
+
+/// An engine that is right may keep the nodes of a plain list one after the other: a question for one whose asked nodes are kept completes
+/// it alone. It may do so before they are asked, up to an element whose end is: a question for that completes all of them but rests.
+pub fn nodes_grow()
+    ensures alone { NodesGrow }
+    ensures earlier { EarlierAreCompleted }
 {}
 
 /// The laws are of something: three integers to the end of a file, the same by a count, and two items that say their sizes.

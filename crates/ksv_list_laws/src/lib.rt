@@ -46,6 +46,7 @@
 //! - `Examples`: the lists of the examples are plain
 //! - `Fields`: what the rules of fields say, and of the value that says their size
 //! - `Folding`: a guard and a place stand in for a node
+//! - `Growing`: how an engine may grow by these nodes
 //! - `Guards`: a change touches a node just where it touches its guard or the farthest place
 //! - `Paths`: paths of elements and of their fields
 //! - `Places`: where elements and fields begin, in order; the ranks of nodes
@@ -60,4 +61,6 @@
 
 mod laws;
 
-pub use laws::{entries_are_right, examples_are_plain, guards_tell, nodes_tell, trees_are_asked};
+pub use laws::{
+    entries_are_right, examples_are_plain, guards_tell, nodes_grow, nodes_tell, trees_are_asked,
+};

@@ -20,7 +20,6 @@
 //! - `numbers`: numbers by small indices
 //! - `parts`: parts that are made only where one is needed: pages of a table, and tables of paths
 //! - `places`: `NodePlaces`: the places of nodes
-//! - `places/visits`: tests of the five calls
 //! - `spots`: nodes by their kinds and steps
 //! - `table`: numbers by indices that may lie far apart
 //! - `tables`: tables of paths

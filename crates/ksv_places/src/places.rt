@@ -1,5 +1,5 @@
 //! The places of nodes.
-ghost use Rattle.std.specs.Prelude.{◌≡◌, ◌+◌, ◌&&◌, nat_le, reverse};
+ghost use Rattle.std.specs.Prelude.{◌≡◌, ◌+◌, ◌&&◌, length, nat_le, reverse};
 ghost use Rattle.ksv_places.specs.Tree.{EndsAt};
 
 use crate::spots::Spots;
@@ -34,6 +34,15 @@ impl Model for NodePlaces {
     ghost view = { λ places. record { nodes = all_named places.spots.nodes; paths = places.spots.paths; end = places.spots.end } };
 
     ghost invariant = { λ places. AllFit places.spots.nodes };
+}
+
+impl NodePlaces {
+    /// How many paths have numbers, also such as lead to no node; at most 2^32.
+    pub fn path_count(&self) -> usize
+        ensures counted { result ≡ length self.now.paths }
+    {
+        self.spots.path_count()
+    }
 }
 
 impl Places<Node> for NodePlaces {
@@ -77,6 +86,3 @@ impl Places<Node> for NodePlaces {
         }
     }
 }
-
-#[cfg(test)]
-mod visits;

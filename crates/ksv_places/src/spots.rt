@@ -159,9 +159,11 @@ impl Spots {
         self.paths.as_slice().len()
     }
 
-    /// How many paths there are, also such as lead to no node. Contracts do not see them.
+    /// How many paths there are, also such as lead to no node.
     #[inline(always)]
-    pub(crate) fn path_count(&self) -> usize {
+    pub(crate) fn path_count(&self) -> usize
+        ensures { result ≡ length self.now.paths }
+    {
         self.tree.len()
     }
 

@@ -59,11 +59,22 @@ fn object_in(
     ensures { SettlesHeard (λ heard. Answer (object_in (plain_pieces desc.now) object.now heard)) found_of asked result }
 {
     match asked {
-        Ok(given) => match &given {
-            Given::Head(Head::Object(found)) => Ok(Ok(found.type_number)),
-            _ => Ok(Err(kind_part(alloc, desc, object, FaultKind::BadType)?)),
-        },
-        Err(Untold::Fault(fault)) => Ok(Err(fault_part(alloc, desc, &fault)?)),
+        Ok(given) => {
+            let number = match &given {
+                Given::Head(Head::Object(found)) => Some(found.type_number),
+                _ => None,
+            };
+            drop(given);
+            match number {
+                Some(number) => Ok(Ok(number)),
+                None => Ok(Err(kind_part(alloc, desc, object, FaultKind::BadType)?)),
+            }
+        }
+        Err(Untold::Fault(fault)) => {
+            let part = fault_part(alloc, desc, &fault);
+            drop(fault);
+            Ok(Err(part?))
+        }
         Err(untold) => Err(untold),
     }
 }
@@ -92,11 +103,22 @@ fn count_in(
     ensures { SettlesHeard (λ heard. Answer (count_in (plain_pieces desc.now) list.now heard)) found_of asked result }
 {
     match asked {
-        Ok(given) => match &given {
-            Given::Rest { count, .. } => Ok(Ok(*count)),
-            _ => Ok(Err(kind_part(alloc, desc, list, FaultKind::BadType)?)),
-        },
-        Err(Untold::Fault(fault)) => Ok(Err(fault_part(alloc, desc, &fault)?)),
+        Ok(given) => {
+            let number = match &given {
+                Given::Rest { count, .. } => Some(*count),
+                _ => None,
+            };
+            drop(given);
+            match number {
+                Some(number) => Ok(Ok(number)),
+                None => Ok(Err(kind_part(alloc, desc, list, FaultKind::BadType)?)),
+            }
+        }
+        Err(Untold::Fault(fault)) => {
+            let part = fault_part(alloc, desc, &fault);
+            drop(fault);
+            Ok(Err(part?))
+        }
         Err(untold) => Err(untold),
     }
 }

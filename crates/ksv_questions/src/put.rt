@@ -160,6 +160,10 @@ pub fn overwrite_for<N: NodeRules>(
     };
     match put_question(&file, engine, path, number) {
         Ok(overwrite) => Ok(Ok(overwrite)),
-        Err(why) => Ok(Err(failure_told(alloc, described.desc(), &why)?)),
+        Err(why) => {
+            let told = failure_told(alloc, described.desc(), &why);
+            drop(why);
+            Ok(Err(told?))
+        }
     }
 }

@@ -4,7 +4,7 @@ use std::alloc::{AllocError, Global};
 
 /// The bytes of words, each some hexadecimal digits, or `N*HEX` for N times these. There are none if a word is
 /// anything else.
-pub fn bytes_of(alloc: Global, words: &str) -> Result<Option<Vec<u8>>, AllocError> {
+pub(crate) fn bytes_of(alloc: Global, words: &str) -> Result<Option<Vec<u8>>, AllocError> {
     let mut bytes = Vec::new(alloc);
     for word in words.split(' ') {
         if !add_word(alloc, &mut bytes, word)? {

@@ -2,6 +2,23 @@
 
 use std::alloc::AllocError;
 
+/// A row, as it is answered.
+#[derive(Clone, Copy)]
+pub(crate) struct Row<'a> {
+    /// The lines of its description, each with its end.
+    pub(crate) text: &'a [u8],
+    /// What is done with it.
+    pub(crate) kind: &'a str,
+    /// The lines of its questions, each with its end.
+    pub(crate) questions: &'a str,
+}
+
+/// That a kind is known, after the answers were added.
+pub(crate) fn known(added: Result<(), AllocError>) -> Result<bool, AllocError> {
+    added?;
+    Ok(true)
+}
+
 /// A description, what is done with it, and questions with their replies.
 #[derive(Clone, Copy)]
 pub(crate) struct Parts<'a> {

@@ -1,46 +1,32 @@
 //! Tables: their rows are read, answered and counted.
 
 use crate::described::add_described;
-use crate::row::{Parts, parts_of};
+use crate::descriptions;
+use crate::dialogues::add_served;
+use crate::pairs::run_pairs;
+use crate::row::{Parts, Row, parts_of};
 use std::alloc::{AllocError, Global};
 use std::process::ExitCode;
 use std::{env, fs, io};
 
-/// A row, as a program answers it.
-#[derive(Clone, Copy)]
-pub struct Row<'a> {
-    /// The lines of its description, each with its end.
-    pub text: &'a [u8],
-    /// What is done with it.
-    pub kind: &'a str,
-    /// The lines of its questions, each with its end.
-    pub questions: &'a str,
-}
-
-/// What a program answers to rows.
-pub trait Answers {
-    /// Adds the answers to a row, a line for each reply; `false` if the row's kind is none of the program's.
-    fn answer(&self, alloc: Global, row: Row<'_>, found: &mut String) -> Result<bool, AllocError>;
-}
-
 /// How many rows and replies a table has, and how many things are wrong with it.
 #[derive(Clone, Copy)]
-struct Tally {
-    rows: usize,
-    replies: usize,
+pub(crate) struct Tally {
+    pub(crate) rows: usize,
+    pub(crate) replies: usize,
     wrong: usize,
 }
 
 /// Where something is: a table, and a line of it.
 #[derive(Clone, Copy)]
-struct Place<'a> {
+pub(crate) struct Place<'a> {
     path: &'a str,
     line: usize,
 }
 
 impl<'a> Place<'a> {
     /// The place this many lines below.
-    fn below(self, count: usize) -> Place<'a> {
+    pub(crate) fn below(self, count: usize) -> Place<'a> {
         Place {
             path: self.path,
             line: self.line.saturating_add(count),
@@ -49,7 +35,12 @@ impl<'a> Place<'a> {
 }
 
 /// Counts and prints what is wrong with a place of a table.
-fn blame(rt: &HostRuntime, tally: &mut Tally, place: Place<'_>, what: &str) -> io::Result<()> {
+pub(crate) fn blame(
+    rt: &HostRuntime,
+    tally: &mut Tally,
+    place: Place<'_>,
+    what: &str,
+) -> io::Result<()> {
     tally.wrong = tally.wrong.saturating_add(1);
     println!(rt; "{}: line {}: {what}", place.path, place.line)
 }
@@ -77,9 +68,8 @@ fn read_head(rt: &HostRuntime, tally: &mut Tally, path: &str, head: &str) -> io:
 }
 
 /// Adds the answers to a row, whose description is written out; whether its kind is known.
-fn add_answers<A: Answers>(
+fn add_answers(
     alloc: Global,
-    answers: &A,
     parts: Parts<'_>,
     questions: &str,
     found: &mut String,
@@ -91,13 +81,12 @@ fn add_answers<A: Answers>(
         kind: parts.kind,
         questions,
     };
-    answers.answer(alloc, row, found)
+    Ok(descriptions::add_described(alloc, row, found)? || add_served(alloc, row, found)?)
 }
 
 /// Answers a row at a place; counts it, and prints the answers where they differ.
-fn run_parts<A: Answers>(
+fn run_parts(
     rt: &HostRuntime,
-    answers: &A,
     tally: &mut Tally,
     place: Place<'_>,
     parts: Parts<'_>,
@@ -106,7 +95,7 @@ fn run_parts<A: Answers>(
     let mut wanted = String::new(rt.alloc());
     let mut found = String::new(rt.alloc());
     parts.add_lines(&mut questions, &mut wanted)?;
-    let is_known = add_answers(rt.alloc(), answers, parts, questions.as_str(), &mut found)?;
+    let is_known = add_answers(rt.alloc(), parts, questions.as_str(), &mut found)?;
     let replies = wanted.as_str().lines().count();
     tally.replies = tally.replies.saturating_add(replies);
     if !is_known {
@@ -119,18 +108,12 @@ fn run_parts<A: Answers>(
     Ok(())
 }
 
-/// Runs a row whose heading is at a place of a table.
-fn run_row<A: Answers>(
-    rt: &HostRuntime,
-    answers: &A,
-    tally: &mut Tally,
-    place: Place<'_>,
-    text: &str,
-) -> io::Result<()> {
-    tally.rows = tally.rows.saturating_add(1);
+/// Runs what is below a heading, which is at a place of a table: a row, or one on each line.
+fn run_row(rt: &HostRuntime, tally: &mut Tally, place: Place<'_>, text: &str) -> io::Result<()> {
     let Some(parts) = parts_of(text) else {
-        return blame(rt, tally, place, "a row without a line `-- KIND`");
+        return run_pairs(rt, tally, place, text);
     };
+    tally.rows = tally.rows.saturating_add(1);
     if let Some(count) = parts.misspelt_reply() {
         let below = parts.lines_above().saturating_add(count);
         blame(
@@ -140,16 +123,11 @@ fn run_row<A: Answers>(
             "neither a question nor `> ` and a reply",
         )?;
     }
-    run_parts(rt, answers, tally, place, parts)
+    run_parts(rt, tally, place, parts)
 }
 
 /// Runs a table.
-fn run_table<A: Answers>(
-    rt: &HostRuntime,
-    answers: &A,
-    path: &str,
-    table: &str,
-) -> io::Result<Tally> {
+fn run_table(rt: &HostRuntime, path: &str, table: &str) -> io::Result<Tally> {
     let mut tally = Tally {
         rows: 0,
         replies: 0,
@@ -159,26 +137,31 @@ fn run_table<A: Answers>(
     read_head(rt, &mut tally, path, head)?;
     let mut place = Place { path, line: 1 }.below(head.split('\n').count());
     for text in rows.split("\n== ") {
-        run_row(rt, answers, &mut tally, place, text)?;
+        run_row(rt, &mut tally, place, text)?;
         place = place.below(text.split('\n').count());
     }
     Ok(tally)
 }
 
+/// Runs the table of a file, and prints its counts; how much is wrong.
+fn run_file(rt: &HostRuntime, path: &str) -> io::Result<usize> {
+    let table = fs::read_to_string(rt, path)?;
+    let Tally {
+        rows,
+        replies,
+        wrong,
+    } = run_table(rt, path, table.as_str())?;
+    println!(rt; "{path}: {rows} rows, {replies} replies, {wrong} wrong")?;
+    Ok(wrong)
+}
+
 /// Runs the tables that the program's arguments name. It prints each row whose answers differ or that can't be read,
 /// with its table and line, and for each table how many rows and replies it has, and how much is wrong. The program
 /// succeeds if nothing is.
-pub fn run_tables<A: Answers>(rt: &HostRuntime, answers: &A) -> io::Result<ExitCode> {
+pub(crate) fn run_tables(rt: &HostRuntime) -> io::Result<ExitCode> {
     let mut wrong = 0usize;
     for path in env::args(rt)?.skip(1) {
-        let table = fs::read_to_string(rt, path.as_str())?;
-        let tally = run_table(rt, answers, path.as_str(), table.as_str())?;
-        let Tally { rows, replies, .. } = tally;
-        println!(rt;
-            "{path}: {rows} rows, {replies} replies, {} wrong",
-            tally.wrong
-        )?;
-        wrong = wrong.saturating_add(tally.wrong);
+        wrong = wrong.saturating_add(run_file(rt, path.as_str())?);
     }
     Ok(if wrong == 0 {
         ExitCode::SUCCESS

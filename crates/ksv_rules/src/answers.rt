@@ -3,7 +3,7 @@
 ghost use Rattle.ksv_expr_value.specs.Bytes.{content};
 ghost use Rattle.ksv_expr_eval.specs.Said.{said};
 ghost use Rattle.ksv_nodes.specs.Turning.{Runs};
-ghost use Rattle.ksv_rules.specs.Code.{ask_opened, ask_valued};
+ghost use Rattle.ksv_rules.specs.Code.{ask_opened, ask_rested, ask_valued, bytes_between, file_size, is_done};
 ghost use Rattle.ksv_rule_meaning.specs.Wanted.{wanted};
 
 use crate::wanted::in_object;
@@ -35,6 +35,50 @@ fn opened<'a>(turn: &mut Turn<'a>, path: &Path) -> Result<Answer<Parts<'a>>, Hal
     }))
 }
 
+/// How many elements a list has from one on.
+#[inline(always)]
+#[tactic(auto, using(ksv_basics::proofs::Running::run_bind))]
+fn rested<'a>(turn: &mut Turn<'a>, path: &Path) -> Result<Answer<Parts<'a>>, Halt>
+    ensures { Runs (ask_rested path.now) (said content) turn.old turn.new result }
+{
+    let rested = turn.rest(path)?;
+    Ok(Answer::Number(u64::from(rested.count)))
+}
+
+/// The file's size.
+#[inline(always)]
+#[tactic(auto, using(ksv_basics::proofs::Running::run_bind))]
+fn sized<'a>(turn: &mut Turn<'a>) -> Result<Answer<Parts<'a>>, Halt>
+    ensures { Runs file_size (said content) turn.old turn.new result }
+{
+    let whole = Stream {
+        from: 0,
+        to: StreamEnd::open(),
+    };
+    let size = turn.finish(whole)?;
+    Ok(Answer::Number(u64::from(size)))
+}
+
+/// Whether the place of an expression is its stream's end.
+#[inline(always)]
+#[tactic(auto, using(ksv_basics::proofs::Running::run_bind))]
+fn ended<'a>(turn: &mut Turn<'a>, ctx: &Ctx) -> Result<Answer<Parts<'a>>, Halt>
+    ensures { Runs (is_done ctx.now) (said content) turn.old turn.new result }
+{
+    let is_done = turn.done(ctx.stream, ctx.place)?;
+    Ok(Answer::Truth(is_done))
+}
+
+/// Bytes of the file.
+#[inline(always)]
+#[tactic(auto, using(ksv_basics::proofs::Running::run_bind))]
+fn peeked<'a>(turn: &mut Turn<'a>, from: u32, to: u32) -> Result<Answer<Parts<'a>>, Halt>
+    ensures { Runs (bytes_between from to) (said content) turn.old turn.new result }
+{
+    let bytes = turn.peek(from, to)?;
+    Ok(Answer::Bytes(bytes))
+}
+
 /// The answer to a want. A fault of a node that it asks ends the rule.
 #[tactic(auto, using(ksv_basics::proofs::Running::run_bind), unfolding(ksv_rule_meaning::specs::Wanted::wanted))]
 fn answer<'a>(turn: &mut Turn<'a>, ctx: &Ctx, want: Want) -> Result<Answer<Parts<'a>>, Halt>
@@ -43,26 +87,10 @@ fn answer<'a>(turn: &mut Turn<'a>, ctx: &Ctx, want: Want) -> Result<Answer<Parts
     match want {
         Want::Value(path) => valued(turn, &path),
         Want::Head(path) => opened(turn, &path),
-        Want::Rest(path) => {
-            let rested = turn.rest(&path)?;
-            Ok(Answer::Number(u64::from(rested.count)))
-        }
-        Want::Size => {
-            let whole = Stream {
-                from: 0,
-                to: StreamEnd::open(),
-            };
-            let size = turn.finish(whole)?;
-            Ok(Answer::Number(u64::from(size)))
-        }
-        Want::Done => {
-            let is_done = turn.done(ctx.stream, ctx.place)?;
-            Ok(Answer::Truth(is_done))
-        }
-        Want::Bytes { from, to } => {
-            let bytes = turn.peek(from, to)?;
-            Ok(Answer::Bytes(bytes))
-        }
+        Want::Rest(path) => rested(turn, &path),
+        Want::Size => sized(turn),
+        Want::Done => ended(turn, ctx),
+        Want::Bytes { from, to } => peeked(turn, from, to),
     }
 }
 

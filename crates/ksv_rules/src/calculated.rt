@@ -15,9 +15,10 @@ ghost use Rattle.ksv_rule_meaning.specs.Values.{in_no_stream, in_enum, instance_
 use crate::choosing::content_of;
 use crate::evaluation::value_of_expression;
 use crate::fields::{field_of, kind_of, members_of, parameters_before};
+use crate::settings::{home_of, member_ctx};
 use ksv_desc::{Content, Desc, MemberKind};
 use ksv_expr_tree::Expr;
-use ksv_expr_value::{Ctx, FaultKind, Path, Place, Step, Value};
+use ksv_expr_value::{Ctx, FaultKind, Path, Place, Value};
 use ksv_nodes::{Calc, Halt, MemberRef, Object, Origin, Turn};
 
 /// No member's value is a stream.
@@ -110,18 +111,9 @@ fn evaluated(
 ) -> Result<Value, Halt>
     ensures { Runs (plain_value (argument_setting path.now holder.now origin start) (view argument.now)) (λ value. value) turn.old turn.new result }
 {
-    let above = holder.parent(turn.alloc())?;
-    match holder.last() {
-        Some(Step::Index(index)) => {
-            let home = above.parent(turn.alloc())?;
-            let ctx = Ctx::new(&home, origin.home, start, path).within(index);
-            plain_value(turn, &ctx, argument)
-        }
-        _ => {
-            let ctx = Ctx::new(&above, origin.home, start, path);
-            plain_value(turn, &ctx, argument)
-        }
-    }
+    let home = home_of(turn.alloc(), holder)?;
+    let ctx = member_ctx(&home, path, holder, origin, start);
+    plain_value(turn, &ctx, argument)
 }
 
 /// The value of a parameter of the object at `holder`: its argument's.

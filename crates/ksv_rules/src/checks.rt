@@ -11,10 +11,11 @@ ghost use Rattle.ksv_rule_meaning.specs.Checks.{meets_one, meets_each, meets, ch
 ghost use Rattle.ksv_rule_meaning.specs.Heads.{member_setting};
 
 use crate::fields::kind_of;
+use crate::settings::{home_of, member_ctx};
 use crate::wanted::truth_of;
 use ksv_desc::{Desc, Valid};
 use ksv_expr_tree::Expr;
-use ksv_expr_value::{Ctx, FaultKind, Path, Place, Step, Value};
+use ksv_expr_value::{Ctx, FaultKind, Path, Place, Value};
 use ksv_nodes::{Calc, Halt, Head, MemberRef, Object, Origin, Turn};
 
 /// Whether one of some conditions is true: they are evaluated in their order, up to the first that is.
@@ -74,18 +75,9 @@ fn checked_in(
 ) -> Result<(), Halt>
     ensures { Runs (checked (member_setting path.now path.now (last path.now) origin start) (plain_valid valid.now) value.now) (λ unit. unit) turn.old turn.new result }
 {
-    let holder = path.parent(turn.alloc())?;
-    match path.last() {
-        Some(Step::Index(index)) => {
-            let home = holder.parent(turn.alloc())?;
-            let ctx = Ctx::new(&home, origin.home, start, path).within(index);
-            checked(turn, ctx, valid, value)
-        }
-        _ => {
-            let ctx = Ctx::new(&holder, origin.home, start, path);
-            checked(turn, ctx, valid, value)
-        }
-    }
+    let home = home_of(turn.alloc(), path)?;
+    let ctx = member_ctx(&home, path, path, origin, start);
+    checked(turn, ctx, valid, value)
 }
 
 /// The value of a member that is read, or of an element of it.

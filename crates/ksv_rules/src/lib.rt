@@ -24,6 +24,7 @@
 //! - `lent`: bytes that are lent in two slices
 //! - `parts`: where a member or an element ends, and the list that has it
 //! - `rules`: the rule of a node, and `DescriptionRules`, the code of all rules
+//! - `settings`: where the expressions of a member are evaluated
 //! - `shapes`: what is read at a place in the bytes
 //! - `values`: the value of what is at a path
 //! - `wanted`: integers, truth values, sizes and objects that expressions give
@@ -56,6 +57,7 @@ mod integer;
 mod lent;
 mod parts;
 mod rules;
+mod settings;
 mod shapes;
 mod values;
 mod wanted;

@@ -8,7 +8,7 @@ ghost use Rattle.ksv_commands.specs.declared.command.Command.TheVariants as comm
 ghost use Rattle.ksv_session.specs.Kept.{Holds, HoldsSome, Memory, Remembers, after_asking, after_edit, nothing_kept};
 ghost use Rattle.ksv_questions.specs.Answers.{asking, asks, outcome, question_text, question_told};
 ghost use Rattle.ksv_questions.specs.Writing.{put_question};
-ghost use Rattle.ksv_session.specs.Replies.{LongText, OutOfMemory, ShortText, answer, form, has, may_be_refused, no_memory_text, put_answer, put_form, said, shown_text, told_form};
+ghost use Rattle.ksv_session.specs.Replies.{LongText, OutOfMemory, ShortText, answer, answer_to, form, form_to, has, may_be_refused, no_memory_text, put_answer, put_form, said, shown_text, told_form};
 ghost use Rattle.ksv_session.specs.Code.{IsReply, PutSays, edit_text, wants_memory};
 ghost use Rattle.ksv_session.specs.Seen.{answer_seen, form_of, is_last, is_refusal, reply_text};
 
@@ -111,6 +111,19 @@ impl<N: NodeRules> Session<N> {
             self.turns = None;
             return Reply::NoMemory;
         };
+        self.obeyed(command)
+    }
+
+    /// Does what a command says; its reply.
+    #[inline(always)]
+    #[tactic(auto, using(crate::proofs::QuestionLemmas::question_may), unfolding(crate::specs::Explored::description_of))]
+    fn obeyed(&mut self, command: Command<'_>) -> Reply
+        ensures answer { answer_seen self.new.bytes result ≡ (if is_refusal result then said self.old.bytes no_memory_text else answer_to (description_of self.old) self.old.bytes (tally_of self.old) command.entry) }
+        ensures fair { IsTrue (is_refusal result) → may_be_refused self.old.bytes command.entry ≡ true }
+        ensures form { form_of result ≡ (if is_refusal result then OutOfMemory else form_to (description_of self.old) self.old.bytes command.entry) }
+        ensures kept { description_of self.new ≡ description_of self.old }
+        ensures memory { (m : Memory) → Holds self.old m → Remembers (description_of self.old) self.old.bytes command.entry (is_refusal result) m self.new }
+    {
         match command {
             Command::Blank => Reply::None,
             Command::Refused(refusal) => Reply::Short(refused_line(refusal)),

@@ -1,5 +1,5 @@
-//! Tests that call what is below sessions: a node's turn, nodes of a described file, how many looks an overwrite takes,
-//! trees and descriptions.
+//! Tests that call what is below sessions: what expressions depend on, places of nodes, a node's turn, nodes of a described file,
+//! how many looks an overwrite takes, trees and descriptions.
 //!
 //! A function that owns a turn, or what a turn reads, lends it to another function and then drops it by name. So the drop
 //! is proved once, and not in each function and for each way out of it.
@@ -13,16 +13,22 @@
 //! Modules:
 //!
 //! - `descriptions`: trees of YAML, and what a description holds
+//! - `expressions`: paths, integers, bytes in parts, encodings, faults and refused texts
 //! - `near`: how many looks an overwrite takes where the nodes of a described file are kept
 //! - `nodes`: paths from texts, answers of nodes, decimal numbers
+//! - `places`: places of nodes, by the five calls
 //! - `turns`: each call of a turn, with and without a fault, and what each reading depends on
 #![tactic(auto)]
 
 #[cfg(test)]
 mod descriptions;
 #[cfg(test)]
+mod expressions;
+#[cfg(test)]
 mod near;
 #[cfg(test)]
 mod nodes;
+#[cfg(test)]
+mod places;
 #[cfg(test)]
 mod turns;

@@ -111,29 +111,37 @@ fn is_asked_near<R: Rules>(
     is_asked && is_kept && are_near
 }
 
-/// Whether an engine that was asked for `/s` of a described file keeps this many nodes, and overwrites are near.
+/// Whether an engine that was asked for the value at a path of a described file keeps this many nodes, and overwrites are near.
 fn is_near(
     alloc: Global,
     text: &str,
     bytes: &[u8],
+    path: &str,
     kept: usize,
     overwrites: &[Overwrite],
 ) -> Result<bool, Fail> {
     let bytes = Buffer::new(bytes.to_vec(alloc)?)?;
     let rules = Described::new(described(alloc, text)?);
-    is_near_in(alloc, &rules, &bytes, kept, overwrites)
+    let file = File {
+        alloc,
+        rules: &rules,
+        bytes: &bytes,
+    };
+    let is_near = is_near_in(file, path, kept, overwrites);
+    drop(rules);
+    drop(bytes);
+    is_near
 }
 
 /// The same in a file.
 fn is_near_in(
-    alloc: Global,
-    rules: &Described,
-    bytes: &Buffer,
+    file: File<'_>,
+    path: &str,
     kept: usize,
     overwrites: &[Overwrite],
 ) -> Result<bool, Fail> {
-    let node = node_at(alloc, rules, NodeKind::Value, "/s")?;
-    Ok(is_asked_near(alloc, rules, bytes, node, kept, overwrites))
+    let node = node_at(file.alloc, file.rules, NodeKind::Value, path)?;
+    Ok(is_asked_near(file.alloc, file.rules, file.bytes, node, kept, overwrites))
 }
 
 /// A byte after an object of four bytes.
@@ -174,11 +182,8 @@ static BESIDE: [Overwrite; 2] = [
 
 #[test]
 fn an_overwrite_beside_looks_at_its_page_alone(rt: HostRuntime) -> Result<(), Fail> {
-    let alloc = rt.alloc();
-    let bytes = Buffer::new(b"\x00\x00\x00\x07\x09\x0a".to_vec(alloc)?)?;
-    let rules = Described::new(described(alloc, BEHIND)?);
-    let behind = node_at(alloc, &rules, NodeKind::Value, "/z")?;
-    let is_near = is_asked_near(alloc, &rules, &bytes, behind, 5, &BESIDE);
+    let bytes = b"\x00\x00\x00\x07\x09\x0a";
+    let is_near = is_near(rt.alloc(), BEHIND, bytes, "/z", 5, &BESIDE)?;
     assert!(rt; is_near);
     Ok(())
 }
@@ -210,8 +215,10 @@ fn an_overwrite_of_one_of_64000_elements_looks_only_near(rt: HostRuntime) -> Res
         rules: &rules,
         bytes: &bytes,
     };
-    let is_near = is_last_of_list_near(file)?;
-    assert!(rt; is_near);
+    let is_near = is_last_of_list_near(file);
+    drop(rules);
+    drop(bytes);
+    assert!(rt; is_near?);
     Ok(())
 }
 
@@ -237,7 +244,7 @@ static OF_A_SUM: [Overwrite; 1] = [Overwrite {
 
 #[test]
 fn an_overwrite_takes_a_sum_of_a_node_and_itself(rt: HostRuntime) -> Result<(), Fail> {
-    let is_near = is_near(rt.alloc(), TWICE, b"a", 5, &OF_A_SUM)?;
+    let is_near = is_near(rt.alloc(), TWICE, b"a", "/s", 5, &OF_A_SUM)?;
     assert!(rt; is_near);
     Ok(())
 }
@@ -282,7 +289,7 @@ static OF_A_TEXT: [[Overwrite; 1]; 3] = [
 fn an_overwrite_takes_a_text_over_several_pages(rt: HostRuntime) -> Result<(), Fail> {
     let mut are_near = true;
     for overwrites in &OF_A_TEXT {
-        are_near &= is_near(rt.alloc(), WIDE, &[b'a'; 300], 3, overwrites)?;
+        are_near &= is_near(rt.alloc(), WIDE, &[b'a'; 300], "/s", 3, overwrites)?;
     }
     assert!(rt; are_near);
     Ok(())

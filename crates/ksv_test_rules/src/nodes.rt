@@ -308,8 +308,10 @@ fn nodes_answer(rt: HostRuntime) -> Result<(), Fail> {
         rules: &rules,
         bytes: &bytes,
     };
-    let are_right = is_list_answered(file)?;
-    assert!(rt; are_right);
+    let are_right = is_list_answered(file);
+    drop(rules);
+    drop(bytes);
+    assert!(rt; are_right?);
     Ok(())
 }
 
@@ -323,8 +325,10 @@ fn a_size_behind_is_a_circle(rt: HostRuntime) -> Result<(), Fail> {
         rules: &rules,
         bytes: &bytes,
     };
-    let is_circle = is_answered(file, NodeKind::Value, "/a => circle at /a")?;
-    assert!(rt; is_circle);
+    let is_circle = is_answered(file, NodeKind::Value, "/a => circle at /a");
+    drop(rules);
+    drop(bytes);
+    assert!(rt; is_circle?);
     Ok(())
 }
 
@@ -345,8 +349,10 @@ fn an_engine_keeps_and_counts(rt: HostRuntime) -> Result<(), Fail> {
         rules: &rules,
         bytes: &bytes,
     };
-    let are_right = are_counted(file)?;
-    assert!(rt; are_right);
+    let are_right = are_counted(file);
+    drop(rules);
+    drop(bytes);
+    assert!(rt; are_right?);
     Ok(())
 }
 

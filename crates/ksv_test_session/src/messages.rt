@@ -53,19 +53,32 @@ fn add_message(alloc: Global, stop: &Stop, messages: &mut Vec<u8>) -> Result<(),
     Ok(())
 }
 
+/// Adds whether the status of a stop is 3, and whether it is 1.
+fn add_status(stop: &Stop, statuses: &mut String) -> Result<(), AllocError> {
+    statuses.push_str(if stop.status() == 3 { "3" } else { "-" })?;
+    statuses.push_str(if stop.status() == 1 { "1" } else { "-" })
+}
+
+/// Whether each stop has its message and its status.
+fn are_told(alloc: Global) -> Result<bool, Fail> {
+    let (mut messages, mut statuses) = (Vec::new(alloc), String::new(alloc));
+    for stop in &STOPS {
+        add_message(alloc, stop, &mut messages)?;
+        add_status(stop, &mut statuses)?;
+    }
+    Ok(messages.as_slice() == MESSAGES && statuses.as_str() == "-1-1-1-1-1-13-3-3-3-")
+}
+
+/// Whether a message fails on a device that takes three bytes.
+fn is_cut_off(alloc: Global) -> Result<bool, AllocError> {
+    let mut full = Memory::new(Vec::with_capacity(alloc, 3)?);
+    Ok(say(&Stop::NoMemory, ["f", "k", "o"], &mut full).is_err())
+}
+
 #[test]
 fn each_stop_has_its_message_and_status(rt: HostRuntime) -> Result<(), Fail> {
-    let mut messages = Vec::new(rt.alloc());
-    let mut statuses = String::new(rt.alloc());
-    for stop in &STOPS {
-        add_message(rt.alloc(), stop, &mut messages)?;
-        statuses.push_str(if stop.status() == 3 { "3" } else { "-" })?;
-        statuses.push_str(if stop.status() == 1 { "1" } else { "-" })?;
-    }
-    assert!(rt; messages.as_slice() == MESSAGES);
-    assert!(rt; statuses.as_str() == "-1-1-1-1-1-13-3-3-3-");
-    let mut full = Memory::new(Vec::with_capacity(rt.alloc(), 3)?);
-    assert!(rt; say(&Stop::NoMemory, ["f", "k", "o"], &mut full).is_err());
+    let is_right = are_told(rt.alloc())? && is_cut_off(rt.alloc())?;
+    assert!(rt; is_right);
     Ok(())
 }
 

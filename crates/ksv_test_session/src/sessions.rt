@@ -82,15 +82,19 @@ fn is_named(desc: &Desc) -> bool {
     desc.type_id(0) == "p" && desc.number_of("b") == Some(1)
 }
 
-#[test]
-fn a_session_answers_line_by_line(rt: HostRuntime) -> Result<(), Fail> {
-    let alloc = rt.alloc();
+/// Whether a session over the first dialogue's description answers it, and has a byte more then.
+fn is_right(alloc: Global) -> Result<bool, Fail> {
     let file = b"\x07\xfe\xff".to_vec(alloc)?;
     let desc = accepted(alloc, FIRST)?;
-    let mut is_right = is_named(&desc);
+    let is_named = is_named(&desc);
     let mut session = Session::new(alloc, desc, file)?;
-    is_right &= are_answered(&mut session);
-    is_right &= session.into_buffer().len() == 4;
+    let are_answered = are_answered(&mut session);
+    Ok(session.into_buffer().len() == 4 && is_named && are_answered)
+}
+
+#[test]
+fn a_session_answers_line_by_line(rt: HostRuntime) -> Result<(), Fail> {
+    let is_right = is_right(rt.alloc())?;
     assert!(rt; is_right);
     Ok(())
 }

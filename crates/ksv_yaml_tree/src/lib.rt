@@ -3,7 +3,7 @@
 //! A node is a text, a sequence or a mapping, each with the line on which it begins. Contracts see it as a plain
 //! tree (`specs/Tree`), by `view` of `specs/View`.
 //!
-//! A tree, read, in `crates/ksv_rows_descriptions/src/trees.rt`:
+//! A tree, read, in `crates/ksv_rows/src/descriptions/trees.rt`:
 //!
 //! ```
 //! Yaml::Text { quoted, text, .. } => {

@@ -5,11 +5,11 @@ ghost use Rattle.ksv_schema.specs.Faults.{is_below, noted, fault, fault_if};
 ghost use Rattle.ksv_schema.specs.Code.{number_of, code_of, text_of, plain, seen_fault};
 
 use ksv_expr_syntax::ExprFault;
+use std::fmt::{self, Display, Formatter, Write};
 use thiserror::Error;
 
 /// What is wrong with a description.
 #[derive(Clone, Copy, PartialEq, Eq, Debug, Error)]
-#[error("{}", self.text())]
 pub enum DescFaultKind {
     /// S1: the mapping has no such key.
     UnknownKey,
@@ -30,7 +30,6 @@ pub enum DescFaultKind {
     /// S9: more than 1,024 types, 256 members of a type, or 65,536 entries of enums.
     OverLimit,
     /// S10: a text is no expression or no type.
-    #[error("{} at {}", .0.kind, .0.at)]
     NoExpression(ExprFault),
     /// S11: memory was refused.
     NoMemory,
@@ -91,6 +90,15 @@ impl DescFaultKind {
             DescFaultKind::OverLimit => 9,
             DescFaultKind::NoExpression(_) => 10,
             DescFaultKind::NoMemory => 11,
+        }
+    }
+}
+
+impl Display for DescFaultKind {
+    fn fmt<W: Write>(&self, f: &mut Formatter<W>) -> fmt::Result {
+        match self {
+            DescFaultKind::NoExpression(fault) => write!(f, "{} at {}", fault.kind, fault.at),
+            kind => f.write_str(kind.text()),
         }
     }
 }
