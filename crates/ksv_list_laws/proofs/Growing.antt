@@ -93,16 +93,23 @@ module _ (d : Description) (bytes : List ℕ) (x : Listing) (plain : IsPlain d b
 
   rises : Rises bytes x Completes
   rises k there q =
-      let m = node_is d bytes x plain k there in
-      (m.0, m.1, ap (λ ms. is_among node_number ms n) (trees_are_asked d bytes m.0 _ _ _ (tells d bytes x plain k there m.0 m.1))
-      ∙ is_among-append node_number (flat_map (completed d bytes []) (nodes_of x (asked_by x k))) (m.0 ∷ []) n
-      ∙ or_true (among (nodes_of x (asked_by x k))) (is_among node_number (m.0 ∷ []) n) (inl (any_asked (asked_by x k) q)))
+      let m = node_is d bytes x plain k there in (
+        m.0,
+        m.1,
+        ap (λ ms. is_among node_number ms n) (trees_are_asked d bytes m.0 _ _ _ (tells d bytes x plain k there m.0 m.1))
+            ∙ is_among-append node_number (flat_map (completed d bytes []) (nodes_of x (asked_by x k))) (m.0 ∷ []) n
+            ∙ or_true (among (nodes_of x (asked_by x k))) (is_among node_number (m.0 ∷ []) n) (inl (any_asked (asked_by x k) q)),
+      )
 
 pub earlier_are_completed : EarlierAreCompleted
 earlier_are_completed d bytes x plain k there own m late low n e is end_is =
     let t = tells d bytes x plain k there n is in
-    let q : Completes d bytes x plain n (Some k) = (n, is, ap (λ ms. is_among node_number ms n) (trees_are_asked d bytes n _ _ _ t)
-        ∙ is_among-append node_number (flat_map (completed d bytes []) (nodes_of x (asked_by x k))) (n ∷ []) n
-        ∙ or_true (is_among node_number (flat_map (completed d bytes []) (nodes_of x (asked_by x k))) n) (is_among node_number (n ∷ []) n) (inr (itself n))) in
+    let q : Completes d bytes x plain n (Some k) = (
+      n,
+      is,
+      ap (λ ms. is_among node_number ms n) (trees_are_asked d bytes n _ _ _ t)
+          ∙ is_among-append node_number (flat_map (completed d bytes []) (nodes_of x (asked_by x k))) (n ∷ []) n
+          ∙ or_true (is_among node_number (flat_map (completed d bytes []) (nodes_of x (asked_by x k))) n) (is_among node_number (n ∷ []) n) (inr (itself n)),
+    ) in
     let found = end_rises d bytes x plain (Completes d bytes x plain n) (rises d bytes x plain n) k there own m late low q in
     subst (λ o. is_among node_number (completed d bytes [] o) n ≡ true) (some_is found.0 e (sym found.1 ∙ end_is)) found.2

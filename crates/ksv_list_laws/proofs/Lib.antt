@@ -16,3 +16,4 @@ pub mod Examples
 pub mod Rising
 pub mod Folding
 pub mod Growing
+pub mod Shorter

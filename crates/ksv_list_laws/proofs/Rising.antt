@@ -36,7 +36,7 @@ module _ (d : Description) (bytes : List ℕ) (x : Listing) (plain : IsPlain d b
       by : IsElementOf d (IsRead.field (read d bytes x plain)) x.layout None → is_named_to x.layout x.layout.last ≡ false
       by e = ap (is_named_to x.layout) e.0 ∙ first_fixed
 
-  named_some : IsNamed → is_some x.layout.type_number ≡ true
+  pub named_some : IsNamed → is_some x.layout.type_number ≡ true
   named_some named = by x.layout.type_number refl
     where
       by : (o : Option ℕ) → x.layout.type_number ≡ o → is_some o ≡ true

@@ -131,7 +131,7 @@ module _ (d : Description) (bytes : List ℕ) (x : Listing) (plain : IsPlain d b
   named_here (suc j) e = ap (λ o. is_named_to x.layout j || not (is_some o)) e ∙ or_true (is_named_to x.layout j) true (inr refl)
 
   -- the field that says them is an integer
-  sizer_is : is_some x.layout.type_number ≡ true → is_named_to x.layout x.layout.last ≡ true → IsNumber (x.layout.field x.layout.sizer) × (n : ℕ)
+  pub sizer_is : is_some x.layout.type_number ≡ true → is_named_to x.layout x.layout.last ≡ true → IsNumber (x.layout.field x.layout.sizer) × (n : ℕ)
       × (size_at x.layout x.layout.sizer ≡ Some n) × (0 < n)
   sizer_is some named =
       let z = named_field x.layout.last named in

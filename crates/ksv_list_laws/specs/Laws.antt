@@ -4,7 +4,7 @@ use Rattle.std.specs.Prelude.{◌≡◌, ◌+◌, ◌<◌, ◌≤◌, ℕ, Bool,
 use Rattle.std.specs.List.{AllByRecursion, flat_map, list_any}
 use Rattle.ksv_bytes.specs.declared.uses.Use.{Use}
 use Rattle.ksv_bytes.specs.declared.uses.Change.{Change}
-use Rattle.ksv_bytes.specs.Uses.{is_use_touched}
+use Rattle.ksv_bytes.specs.Uses.{Makes, is_use_touched}
 use Rattle.ksv_desc.specs.Description.{Description}
 use Rattle.ksv_memo_rules.specs.Evaluation.{is_among}
 use Rattle.ksv_memo_rules.specs.Meaning.{on}
@@ -13,6 +13,8 @@ use Rattle.ksv_memo_rules.specs.Right.{IsRight, StandsIn, cost, fresh}
 use Rattle.ksv_memo_rules.specs.Right as right
 use Rattle.ksv_nodes.specs.declared.node.Node.{Node}
 use Rattle.ksv_nodes.specs.declared.given.Given.{Given}
+use Rattle.ksv_nodes.specs.declared.given.Given.TheVariants as givens
+use Rattle.ksv_nodes.specs.declared.given.Head.TheVariants as heads
 use Rattle.ksv_nodes.specs.Numbers.{node_number}
 use Rattle.ksv_nodes.specs.Rule.{head_node}
 use Rattle.ksv_rule_meaning.specs.Completed.{completed}
@@ -20,7 +22,7 @@ use Rattle.ksv_rule_meaning.specs.Described.{described}
 use Rattle.ksv_rule_meaning.specs.FromNothing.{from_nothing, asks, uses}
 use Rattle.ksv_rule_meaning.specs.Kept.{is_touched}
 use Rattle.ksv_expr_value.specs.declared.fault.Fault.{Fault}
-use Rattle.ksv_list_laws.specs.Nodes.{Listing, Which, ElementEnd, SizeValue, element_of, is_in_element, node_at, nodes_of, answer_at, asked_by, uses_at, guard_of, reach_of, IsPlain, IsThere}
+use Rattle.ksv_list_laws.specs.Nodes.{Listing, Which, ElementEnd, SizeValue, element_depends, element_of, is_in_element, node_at, nodes_of, answer_at, asked_by, uses_at, guard_of, reach_of, IsPlain, IsThere}
 
 -- what a node answers, asks and uses from nothing
 pub record Tells (d : Description) (bytes : List ℕ) (opened : List Node) (n : Node) (g : Given) (ns : List Node) (us : List Use) : Type 0 where
@@ -95,3 +97,11 @@ abbrev pub EarlierAreCompleted : Type 0
 EarlierAreCompleted = (d : Description) (bytes : List ℕ) (x : Listing) → IsPlain d bytes x → (k : Which) → IsThere bytes x k → is_in_element k ≡ true
     → (m : ℕ) → element_of k ≤ m → m < x.count → (n e : Node) → node_at x k ≡ Some n → node_at x (ElementEnd m) ≡ Some e
     → is_among node_number (completed d bytes [] e) n ≡ true
+
+-- ---- edits
+
+-- After an edit that touches nothing on which the first c elements depend, and not the answer of the list's head, the list of these is plain.
+abbrev pub ShorterStaysPlain : Type 0
+ShorterStaysPlain = (d : Description) (change : Change) (before after : List ℕ) (x : Listing) (c : ℕ) → IsPlain d before x → Makes change before after
+    → c ≤ x.count → ((i : ℕ) → i < c → list_any (is_use_touched change) (element_depends x i) ≡ false)
+    → from_nothing d after [] (head_node x.path) ≡ Ok (givens.Head (heads.List x.list)) → IsPlain d after (record x { count = c })

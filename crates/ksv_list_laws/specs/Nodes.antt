@@ -211,6 +211,14 @@ uses_at bytes x (FieldHead i j) = uses_are.Reach (place x i (suc j)) ∷ []
 uses_at bytes x (FieldEnd i j) = []
 uses_at bytes x (SizeValue i) = uses_are.Bytes (place x i x.layout.sizer) (place x i (suc x.layout.sizer)) ∷ []
 
+-- what the place and the size of an element depend on: the bytes up to its end, and of these those of the value that says its size
+abbrev pub sizer_uses : Listing → ℕ → Bool → List Use
+sizer_uses x i true = uses_are.Bytes (place x i x.layout.sizer) (place x i (suc x.layout.sizer)) ∷ []
+sizer_uses x i false = []
+
+abbrev pub element_depends : Listing → ℕ → List Use
+element_depends x i = uses_are.Reach (start x (suc i)) ∷ sizer_uses x i (is_named_to x.layout x.layout.last)
+
 -- ---- guards
 
 -- The guard of a node: the last value behind which it is that says a size, or else the list's head. Where the element before says sizes, the

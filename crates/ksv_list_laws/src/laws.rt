@@ -1,7 +1,7 @@
 //! The laws, each a contract of a function that does nothing.
 
 ghost use Rattle.ksv_list_laws.specs.Examples.{NumbersArePlain, CountedArePlain, ItemsArePlain, ItemsAreNamed};
-ghost use Rattle.ksv_list_laws.specs.Laws.{NodesHavePaths, NodesTell, GuardsTell, TreesAreAsked, EntriesAreRight, FoldedStandIn, NodesGrow, EarlierAreCompleted};
+ghost use Rattle.ksv_list_laws.specs.Laws.{NodesHavePaths, NodesTell, GuardsTell, TreesAreAsked, EntriesAreRight, FoldedStandIn, NodesGrow, EarlierAreCompleted, ShorterStaysPlain};
 
 /// Each node of a plain list has a path, and answers, asks and uses from nothing what numbers alone tell: the heads and ends of its
 /// elements and of their fields, the values that say sizes, and, where the last element is known, the rests.
@@ -32,6 +32,11 @@ pub fn entries_are_right()
 pub fn nodes_grow()
     ensures alone { NodesGrow }
     ensures earlier { EarlierAreCompleted }
+{}
+
+/// After an edit that touches nothing on which the first elements depend, the list of these is plain, if its head answers the same.
+pub fn shorter_stays_plain()
+    ensures { ShorterStaysPlain }
 {}
 
 /// The laws are of something: three integers to the end of a file, the same by a count, and two items that say their sizes.

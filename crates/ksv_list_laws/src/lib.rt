@@ -54,6 +54,7 @@
 //! - `Rising`: what is so of a node where it is so of one that it asks
 //! - `Rules`: what the rules of elements and rests say
 //! - `Says`: what a rule answers, asks and uses where the nodes that it asks have known answers
+//! - `Shorter`: what an edit leaves of a list
 //! - `Telling`: the nodes of a plain list are a chain
 //! - `Trees`: the tree of a node, and what touches it
 //! - `Truth`: truth values, and what there may be
@@ -62,5 +63,6 @@
 mod laws;
 
 pub use laws::{
-    entries_are_right, examples_are_plain, guards_tell, nodes_grow, nodes_tell, trees_are_asked,
+    entries_are_right, examples_are_plain, guards_tell, nodes_grow, nodes_tell,
+    shorter_stays_plain, trees_are_asked,
 };
