@@ -29,7 +29,7 @@ fn add_whole(alloc: Global, row: Row<'_>, found: &mut String) -> Result<(), Allo
 }
 
 /// Adds the answers to a row that needs no session; whether it is one.
-pub(crate) fn add_described(
+pub(crate) fn add_unserved(
     alloc: Global,
     row: Row<'_>,
     found: &mut String,

@@ -1,7 +1,7 @@
 //! Tables: their rows are read, answered and counted.
 
 use crate::described::add_described;
-use crate::descriptions;
+use crate::descriptions::add_unserved;
 use crate::dialogues::add_served;
 use crate::pairs::run_pairs;
 use crate::row::{Parts, Row, parts_of};
@@ -81,7 +81,7 @@ fn add_answers(
         kind: parts.kind,
         questions,
     };
-    Ok(descriptions::add_described(alloc, row, found)? || add_served(alloc, row, found)?)
+    Ok(add_unserved(alloc, row, found)? || add_served(alloc, row, found)?)
 }
 
 /// Answers a row at a place; counts it, and prints the answers where they differ.
