@@ -1,5 +1,5 @@
 -- Laws of plain lists: what the nodes of their elements answer, ask and use from nothing, and which changes touch them. They are stated over
--- the definitions of ksv_rule_meaning alone.
+-- the definitions of ksv_rule_meaning, and of ksv_memo_rules what is right to keep.
 use Rattle.std.specs.Prelude.{◌≡◌, ◌+◌, ◌<◌, ◌≤◌, ℕ, Bool, true, false, ◌||◌, List, [], ◌∷◌, ◌++◌, length, Option, Some, None, Result, Ok}
 use Rattle.std.specs.List.{AllByRecursion, flat_map, list_any}
 use Rattle.ksv_bytes.specs.declared.uses.Use.{Use}

@@ -1,4 +1,4 @@
-//! What the nodes of a plain list tell, in closed form: laws over the definitions of ksv_rule_meaning alone.
+//! What the nodes of a plain list tell, in closed form: laws over definitions alone.
 //!
 //! A list is plain if its elements always take the same bytes, or are objects of fields that do, but for those whose size one
 //! earlier integer says (`list_layout`, in `specs/Lists`). It goes on to the end of its stream, or has a count. What such a list's
