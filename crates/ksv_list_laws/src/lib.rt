@@ -3,7 +3,7 @@
 //! A list is plain if its elements always take the same bytes, or are objects of fields that do, but for those whose size one
 //! earlier integer says (`list_layout`, in `specs/Lists`). It goes on to the end of its stream, or has a count. What such a list's
 //! nodes answer, ask and use follows from where it begins and from the sizes that its elements say. So an engine could hold these
-//! numbers in place of the nodes. No program uses this crate yet.
+//! numbers in place of the nodes. ksv_folds has the numbers of lists whose elements are of one size.
 //!
 //! In
 //!

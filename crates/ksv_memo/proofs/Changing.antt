@@ -11,16 +11,10 @@ use Rattle.ksv_memo_links.specs.Links.{Keeps as LinksKeep}
 use Rattle.ksv_memo_rules.specs.declared.replies.Slot.TheVariants.{Empty as emptied, Open as opened}
 use Rattle.ksv_memo.specs.Open.{heard}
 use Rattle.ksv_memo.specs.Moves.{Popped}
+use Rattle.ksv_memo.specs.Nodes.{IsPut}
 use Rattle.ksv_memo.proofs.Finding.{slot_there, node_there, answer_there}
 use Rattle.ksv_memo.proofs.Laying.{All-take, same_or, nodes_at-append, answers_at-append, Keeps, IsUsed, HasNode, slot_has_node, stays_kept, same_nodes}
 use Rattle.ksv_memo.proofs.Laying.{same_entry, same_opens, no_entry_at, entries_at-append, entries_at-same, All-numbers, numbers-split}
-
--- an entry was put somewhere among others
-pub record IsPut {X : Type 0} (x : X) (before after : List X) : Type 0 where
-  pub front : List X
-  pub back : List X
-  pub was : before ≡ front ++ back
-  pub now : after ≡ front ++ x ∷ back
 
 pub map_all : {X Y : Type 0} (f : X → Y) (P : Y → Type 0) (xs : List X) → AllByRecursion (λ x. P (f x)) xs → AllByRecursion P (map f xs)
 map_all f P [] h = tt

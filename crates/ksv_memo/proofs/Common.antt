@@ -10,7 +10,8 @@ pub use Rattle.std.proofs.lemmas.List.Sums.{sum_by-cons}
 pub use Rattle.std.proofs.lemmas.Map.Keys.{IsDistinct-head, IsDistinct-tail}
 pub use Rattle.std.proofs.lemmas.Option.{slice_get-map, slice_get_within}
 pub use Rattle.std.specs.Cmp.{IsEquivalence}
-pub use Rattle.std.specs.List.{AllByRecursion, list_any, IsDistinct, zip}
+pub use Rattle.std.specs.List.{AllByRecursion, list_any, zip}
+unfoldable pub use Rattle.std.specs.List.{IsDistinct}
 pub use Rattle.std.specs.Option.{option_map}
 pub use Rattle.ksv_bytes.specs.Uses.{Makes, is_use_touched}
 pub use Rattle.ksv_bytes.specs.declared.uses.Change.{Change}

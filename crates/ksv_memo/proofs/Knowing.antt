@@ -1,13 +1,22 @@
 -- What the slots have of a node is what is kept and open.
 use Rattle.ksv_memo.proofs.Common.{sum_by-cons, ◌≡◌, ◌≢◌, ℕ, zero, suc, ◌+◌, ◌<◌, ◌≤◌, sum_by, count_by, cond, arith, Bool, true, false, List, [], ◌∷◌, length}
 use Rattle.ksv_memo.proofs.Common.{map, take, drop, Option, Some, None, is_some, refl, sym, ◌∙◌, ap, subst, Result, inl, inr, IsEquivalence}
-use Rattle.ksv_memo.proofs.Common.{AllByRecursion, list_any, IsDistinct, IsDistinct-head, IsDistinct-tail, Use, row, numbers_from, is_kept, Linked, Slot, Frame}
+use Rattle.ksv_memo.proofs.Common.{AllByRecursion, list_any, IsDistinct-head, IsDistinct-tail, Use, row, numbers_from, is_kept, Linked, Slot, Frame}
 use Rattle.ksv_memo.proofs.Common.{answer_at, answers_at, with_first, Entry, Open, IsOneOf, slots_of, node_at, nodes_at, IsOpen, IsKept, entry_with, entry_at}
-use Rattle.ksv_memo.proofs.Common.{entries_at, entries_of, open_before, opens_in, AreLinked, or_parts}
+use Rattle.ksv_memo.proofs.Common.{entries_at, entries_of, open_before, opens_in, AreLinked, or_parts, none_pass, IsDistinct}
 use Rattle.std.proofs.lemmas.List.{get_or_past}
 use Rattle.std.specs.Map.{keys_of}
 use Rattle.std.proofs.lemmas.Bool.{or_left, or_right}
+use Rattle.std.proofs.lemmas.Map.Keys.{IsDistinct-cons}
 use Rattle.ksv_memo.proofs.Laying.{HasNode, kept_node, number_in}
+
+none_distinct : {X : Type 0} (eq : X → X → Bool) → IsDistinct eq []
+unfolding IsDistinct
+none_distinct eq = tt
+
+map_all : {X Y : Type 0} (f : X → Y) (P : Y → Type 0) (xs : List X) → AllByRecursion (λ x. P (f x)) xs → AllByRecursion P (map f xs)
+map_all f P [] h = tt
+map_all f P (x ∷ xs) h = (h.0, map_all f P xs h.1)
 
 sum_by-same : (f g : ℕ → ℕ) → ((i : ℕ) → f i ≡ g i) → (is : List ℕ) → sum_by f is ≡ sum_by g is
 sum_by-same f g h [] = refl
@@ -89,6 +98,12 @@ module _ {N V F : Type 0} where
 
     pub no_entry : (t : N → Bool) → ((j : ℕ) (m : N) → IsKept ps j → node_at ps j ≡ Some m → t m ≡ false) → list_any (λ e. t e.node) (entries_of ps l) ≡ false
     no_entry t each = none_of t each (numbers_from 0 (length ps))
+
+    none_from : (t : N → Bool) (k n : ℕ) → ((j : ℕ) (m : N) → k ≤ j → node_at ps j ≡ Some m → t m ≡ false)
+        → list_any (λ e. t e.node) (entries_at ps l (numbers_from k n)) ≡ false
+    none_from t k zero each = refl
+    none_from t k (suc n) each = no_entry_here t k (node_at ps k) (answer_at (slots_of ps) k) (λ kept m e. each k m (omega arith) e)
+        (entries_at ps l (numbers_from (k + 1) n)) (none_from t (k + 1) n (λ j m le e. each j m (omega arith) e))
 
     -- ---- how many are kept
     count_here : (j : ℕ) (o : Option N) (b : Option (Result V F)) → (is_some b ≡ true → is_some o ≡ true) → (es : List (Entry N (Result V F)))
@@ -205,3 +220,22 @@ module _ {N V F : Type 0} where
       by : (b : Bool) → eq n k ≡ b → eq n k ≡ false
       by false q = q
       by true q = absurd (apart (one_slot eq laws ps h i j m k e f (sym (laws.congr n m k same) ∙ q)))
+
+  -- no kept node comes twice
+  pub kept_once : (eq : N → N → Bool) → IsEquivalence eq → (ps : List (N × Slot V F)) (l : Linked) → IsDistinct eq (keys_of ps)
+      → IsDistinct eq (map (λ e. e.node) (entries_of ps l))
+  kept_once eq laws ps l h = from 0 (length ps)
+    where
+      one : (k n : ℕ) (o : Option N) (b : Option (Result V F)) → node_at ps k ≡ o → IsDistinct eq (map (λ e. e.node) (entries_at ps l (numbers_from (k + 1) n)))
+          → IsDistinct eq (map (λ e. e.node)
+          (with_first (entry_with o b (nodes_at ps (row l.asked k)) (row l.uses k)) (entries_at ps l (numbers_from (k + 1) n))))
+      one k n (Some m) (Some a) is rest = IsDistinct-cons eq m (map (λ e. e.node) (entries_at ps l (numbers_from (k + 1) n)))
+          (map_all (λ e. e.node) (λ y. eq m y ≡ false) (entries_at ps l (numbers_from (k + 1) n)) (none_pass (λ e. eq m e.node)
+          (entries_at ps l (numbers_from (k + 1) n)) (none_from ps l (eq m) (k + 1) n
+          (λ j x le e. not_other eq laws ps h m k m is (laws.refl m) j x (λ same. omega arith) e)))) rest
+      one k n None b is rest = rest
+      one k n (Some m) None is rest = rest
+
+      from : (k n : ℕ) → IsDistinct eq (map (λ e. e.node) (entries_at ps l (numbers_from k n)))
+      from k zero = none_distinct eq
+      from k (suc n) = one k n (node_at ps k) (answer_at (slots_of ps) k) refl (from (k + 1) n)

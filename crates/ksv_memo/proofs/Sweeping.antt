@@ -3,7 +3,7 @@ use Rattle.ksv_memo.proofs.Common.{◌≡◌, ◌⊎◌, inl, inr, Bool, true, f
 use Rattle.ksv_memo.proofs.Common.{map, filter, get_or, Option, Some, None, is_some, Contains, refl, sym, ◌∙◌, ap, subst, arith, Result, sum_by, count_by}
 use Rattle.ksv_memo.proofs.Common.{option_map, AllByRecursion, list_any, sum_by-cons, Use, Change, Overwrite, row, is_use_touched}
 use Rattle.ksv_memo.proofs.Common.{pages_in, numbers_from, AreWithin, is_kept, Linked, Slot, answer_at, with_first, Entry, IsOneOf, slots_of, node_at, nodes_at}
-use Rattle.ksv_memo.proofs.Common.{IsKept, entry_with, entry_at, entries_at, entries_of, AreLinked, Mark, IsMarked, entries_left}
+use Rattle.ksv_memo.proofs.Common.{IsKept, entry_with, entry_at, entries_at, entries_of, AreLinked, Mark, IsMarked, Sweeps, entries_left}
 use Rattle.std.proofs.Common.{max, All}
 use Rattle.std.proofs.lemmas.Bool.{and_parts, cases_Bool, not-true}
 use Rattle.std.proofs.lemmas.List.{get_or_default}
@@ -498,3 +498,21 @@ module _ {N V F : Type 0} where
           two_sums (λ s. length (row l.asked s)) (λ s. length (pages_in (row l.uses s))) m.waits,
           gone-most,
         )
+
+    -- what the pass leaves, if at most two looks more are told than were made
+    pub swept : (pages : ℕ) → ((s : ℕ) → is_kept l.kept s ≡ false → row l.uses s ≡ [])
+        → (IsOverwrite change → m.looks ≤ l.looks + pages_met change + 3 * sum_by (met_by change) l.uses + 1 + 4 * length m.waits
+        + 2 * asks_of l.asked m.waits)
+        → (IsMove change → m.looks ≤ l.looks + 2 * pages_behind change pages + 3 * sum_by (behind_by change) l.uses + 3 * sum_by (ended_by change) l.uses + 2
+        + 4 * length m.waits + 2 * asks_of l.asked m.waits) → (looked : ℕ) → length m.waits ≤ looked
+        → looked ≤ max (n.looks + count - (l.looks + from)) (length m.waits) → (told : ℕ) → looked ≤ told → told ≤ looked + 2
+        → Sweeps change pages (entries_of ps l) (entries_of qs n) told
+    swept pages vacant most behind looked all le told less more = record {
+      marks = all_marks;
+      entries = entries (numbers_from 0 (length ps));
+      marked = marked (numbers_from 0 (length ps));
+      stays = ap (λ k. entries_at qs n (numbers_from 0 k)) g.taken.slots ∙ stays (numbers_from 0 (length ps));
+      least = omega (arith, gone-least);
+      most = λ over. omega (arith, looks-most vacant most looked le over);
+      behind = λ moves. omega (arith, looks-behind pages vacant behind looked le moves);
+    }

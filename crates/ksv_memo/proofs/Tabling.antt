@@ -1,14 +1,16 @@
 -- What a look-up says of the kept and the open nodes.
-use Rattle.ksv_memo.proofs.Common.{◌≡◌, ◌≢◌, ℕ, ◌+◌, ◌≤◌, arith, Bool, true, false, List, reverse, length, Some, None, is_some, refl, sym, ◌∙◌, ap, subst}
-use Rattle.ksv_memo.proofs.Common.{Result, slice_get, option_map, slice_get-map, slice_get_within, IsEquivalence, AllByRecursion, list_any, IsDistinct}
-use Rattle.ksv_memo.proofs.Common.{numbers_from, Linked, Slot, Frames, answer_in, answer_of, answer_at, Entry, slots_of, node_at, nodes_at, IsOpen, IsKept}
-use Rattle.ksv_memo.proofs.Common.{entry_with, entry_at, entries_of, opens_of, AreLinked, AreFrames, IsLaidOut, IsVacant, Heard, Framed, Replies, Opens}
+use Rattle.ksv_memo.proofs.Common.{or_parts, ◌≡◌, ◌≢◌, ℕ, ◌+◌, ◌≤◌, arith, Bool, true, false, List, [], ◌∷◌, inl, inr, reverse, length, Some, None, is_some}
+use Rattle.ksv_memo.proofs.Common.{refl, sym, ◌∙◌, ap, subst, Result, slice_get, option_map, slice_get-map, slice_get_within, IsEquivalence, AllByRecursion}
+use Rattle.ksv_memo.proofs.Common.{list_any, IsDistinct, numbers_from, Linked, Slot, Frames, answer_in, answer_of, answer_at, Entry, slots_of, node_at}
+use Rattle.ksv_memo.proofs.Common.{nodes_at, IsOpen, IsKept, entry_with, entry_at, entries_of, opens_of, AreLinked, AreFrames, IsLaidOut, IsVacant, Heard}
+use Rattle.ksv_memo.proofs.Common.{Framed, Replies, Opens}
 use Rattle.std.specs.Map.{keys_of}
 use Rattle.ksv_memo_links.specs.Links.{Grows}
 use Rattle.ksv_memo_rules.specs.declared.replies.Slot.TheVariants.{Empty as emptied, Open as opened}
+use Rattle.ksv_memo.specs.declared.slots.Known.{Known}
 use Rattle.ksv_memo.specs.declared.slots.Known.TheVariants.{New, Empty, Open, Kept}
 use Rattle.ksv_memo.specs.Moves.{Knows, IsTheSlot}
-use Rattle.ksv_memo.specs.Nodes.{Nodes, IsEntry, HasNoEntry}
+use Rattle.ksv_memo.specs.Nodes.{Nodes, IsEntry, HasNoEntry, KeepsNode}
 use Rattle.ksv_memo.proofs.Finding.{slot_there, node_there, answer_there}
 use Rattle.ksv_memo.proofs.Laying.{some-of, entries_at-same, All-numbers}
 use Rattle.ksv_memo.proofs.Changing.{ChangesAt, none_past, links-stay, entries-stay, frames-push, frames-hear, opens-push, opens-hear}
@@ -73,10 +75,25 @@ module _ {N V F : Type 0} (eq : N → N → Bool) (ps : List (N × Slot V F)) (l
         (λ j m o e. not_other eq laws ps unique n i n (node_there ps i n emptied at) (laws.refl n) j m (apart_open i n at j o) e)
         (reverse frames.frames.items) frames.asked.items frames.uses.items waits.waits
 
+    -- nor is any that a look-up doesn't find kept
+    pub not_kept : (k : Known) → Knows eq ps n k → ((i : ℕ) → k ≡ Kept i → ⊥) → HasNoEntry eq (entries_of ps l) n
+    not_kept New h other = new_out h
+    not_kept (Empty i) h other = slot_out i emptied h refl
+    not_kept Open (i, at) other = slot_out i opened at refl
+    not_kept (Kept i) h other = absurd (other i refl)
+
   -- an open node waits
   pub open_waits : eq n n ≡ true → Knows eq ps n Open → list_any (λ o. eq n o.node) (opens_of ps frames) ≡ true
   open_waits itself (i, at) = some_open ps (eq n) (reverse frames.frames.items) frames.asked.items frames.uses.items i n
       (waits.all i (slot_there ps i n opened at)) (node_there ps i n opened at) itself
+
+-- a node isn't kept and not kept
+pub keeps_or_not : {N A : Type 0} (eq : N → N → Bool) (es : List (Entry N A)) (n : N) → KeepsNode eq es n → HasNoEntry eq es n → ⊥
+keeps_or_not eq [] n h none = h.1.there
+keeps_or_not eq (x ∷ es) n h none = elim h.1.there [
+  | inl same ↦ let yes : eq n x.node ≡ true = ap (λ e. eq n e.node) same ∙ h.1.passes in absurd (cc)
+  | inr more ↦ keeps_or_not eq es n (h.0, record { there = more; passes = h.1.passes }) (or_parts _ _ none).1
+]
 
 -- ---- the moves of the table
 module _ {N V F : Type 0} (eq : N → N → Bool) (ps : List (N × Slot V F)) (l : Linked) (frames : Frames N) (laid : IsLaidOut ps l frames) (n : N) where

@@ -1,9 +1,9 @@
 -- What the moves of the table come to for a question.
-use Rattle.ksv_memo.proofs.Common.{◌⊎◌, ◌≡◌, ℕ, ◌+◌, ◌<◌, nat_lt, arith, Bool, true, false, List, [], ◌∷◌, length, Option, Some, None, refl, sym, ◌∙◌, ap}
-use Rattle.ksv_memo.proofs.Common.{subst, inl, inr, Decides-ltb, IsEquivalence, list_any, Next, Need, Done, Outcome, Answered, Circle, IsLawful, Meaning}
-use Rattle.ksv_memo.proofs.Common.{Standing, IsSettled, on, law_on, is_among, tells, done, answering, Entry, Open, newly, with_uses, with_answer, Replies}
-use Rattle.ksv_memo.proofs.Common.{Opens, Circles, Closes, MayKeep, nodes_of, IsRight, Agrees, GoesOn, HasFinished, IsLeft, rest_of, to_keep, debt, AreSame}
-use Rattle.ksv_memo.proofs.Common.{IsOut, IsIn, agrees, self_in}
+use Rattle.ksv_memo.proofs.Common.{◌⊎◌, ◌≡◌, ℕ, ◌+◌, ◌<◌, ◌≤◌, nodes_in, nat_lt, arith, Bool, true, false, List, [], ◌∷◌, length, Option, Some, None, refl, sym}
+use Rattle.ksv_memo.proofs.Common.{◌∙◌, ap, subst, inl, inr, Decides-ltb, IsEquivalence, list_any, Next, Need, Done, Outcome, Answered, Circle, IsLawful}
+use Rattle.ksv_memo.proofs.Common.{Meaning, Standing, IsSettled, on, law_on, is_among, tells, done, answering, Entry, Open, newly, with_uses, with_answer}
+use Rattle.ksv_memo.proofs.Common.{Replies, Opens, Circles, Closes, MayKeep, nodes_of, IsRight, Agrees, GoesOn, HasFinished, IsLeft, rest_of, to_keep, debt}
+use Rattle.ksv_memo.proofs.Common.{AreSame, IsOut, IsIn, agrees, self_in}
 use Rattle.std.proofs.Common.{true≢false}
 use Rattle.ksv_memo_rules.specs.Evaluation.{IsAnswered}
 use Rattle.ksv_memo.specs.Nodes.{Nodes, IsEntry, HasNoEntry, Starts, Steps}
@@ -11,6 +11,8 @@ use Rattle.ksv_memo_rules.specs.Right.{counted}
 use Rattle.ksv_memo.specs.Running.{account_at, GoesOnWith, IsRunning, HasReached, AdvancesFrom, AdvancesAt, LeftFrom, LeftAt, Holds, HoldsWith}
 use Rattle.ksv_memo.specs.Running.{Counts, CountsWith, turns_left}
 use Rattle.ksv_memo.proofs.Laying.{one_of-all}
+use Rattle.ksv_memo.specs.Growing.{GrowsBy}
+use Rattle.ksv_memo.proofs.Growing.{counted-swap, counts-ahead, grown-all, grown-came-on, grown-debt, grown-in, grown-left, grown-stack}
 use Rattle.ksv_memo.proofs.Turns.{any_entry, waits_among, need-replies, need-opens, need-ends, finish-goes, finish-ends, finish-left, left-same, turn-account}
 use Rattle.ksv_memo.proofs.Turns.{turn-steps, begins, comes, covers-begins, turns-begin, value-begins, counts-end, counts-step, covers-kept, none-owed}
 
@@ -148,6 +150,11 @@ module _ {N A : Type 0} (q : Asking N A) where
   running es ks n [] h = absurd h
   running es ks n (o ∷ st) h = (h.stack, h.came)
 
+  -- what is kept is right
+  pub right_with : (es ks : List (Entry N A)) (n : N) (st : List (Open N A)) → HoldsWith q.world n es ks st → IsRight q.world ks
+  right_with es ks n [] h = absurd h
+  right_with es ks n (o ∷ st) h = h.stack.right
+
   -- what has come of the call
   pub reached : {n : N} {es : List (Entry N A)} {first : Option ℕ} {s : Next N A} (t : Turn n es first s) → HasReached q.world t.now.kept t.now.opened s
   reached {n} {es} {first} {s} t =
@@ -217,6 +224,70 @@ module _ {N A : Type 0} (q : Asking N A) where
         kept = λ x. ends.all x ∙ h.all x;
         turns = λ answered. counts-end first t.turns _ _ _ _ c (ends.calls answered) counted;
       }
+
+  -- after the call the table grew, by nodes that the asked one completes: so it is a turn before whose call it had grown
+  module _ {n m : N} {es : List (Entry N A)} {first : Option ℕ} (t : Turn n es first (Need m)) (now : Nodes N A) (count : ℕ)
+      (same : now.opened ≡ t.now.opened) (g : GrowsBy q.world m (nodes_in t.now.opened) t.now.kept now.kept count) where
+    holds-grown : HoldsWith q.world n es now.kept t.old.opened × CountsWith q.world n es first now.kept t.old.opened (counted count t.turns)
+    holds-grown = by t.old.opened t.now.opened t.holds t.counts t.steps from
+      where
+        from : GrowsBy q.world m (nodes_in t.now.opened) t.old.kept now.kept count
+        from = subst (λ xs. GrowsBy q.world m (nodes_in t.now.opened) xs now.kept count) t.same g
+
+        by : (st next : List (Open N A)) → HoldsWith q.world n es t.old.kept st → CountsWith q.world n es first t.old.kept st t.turns
+            → Steps q.world st next (Need m) → GrowsBy q.world m (nodes_in next) t.old.kept now.kept count
+            → HoldsWith q.world n es now.kept st × CountsWith q.world n es first now.kept st (counted count t.turns)
+        by [] next h c steps g = absurd h
+        by (o ∷ st) next h c steps g =
+            let ahead : GrowsBy q.world m (o.node ∷ nodes_in st) t.old.kept now.kept count =
+            subst (λ xs. GrowsBy q.world m (nodes_in xs) t.old.kept now.kept count) steps.1 g in (
+              record {
+                stack = grown-stack _ q.law _ _ _ _ _ _ h.stack h.came steps.0 ahead;
+                came = grown-came-on _ q.law _ _ _ _ _ _ h.stack h.came steps.0 ahead;
+                grown = λ x k. grown-in _ q.law _ _ _ _ _ ahead x (h.grown x k);
+                all = λ x. grown-all _ q.law _ _ _ _ _ _ h.stack h.came steps.0 ahead x ∙ h.all x;
+                value = h.value;
+              },
+              counts-ahead first t.turns count _ _ _ _ c (grown-debt _ q.law _ _ _ _ _ _ h.stack h.came steps.0 ahead),
+            )
+
+    abbrev grown : Turn n es first (Need m)
+    grown = record {
+      old = record { kept = now.kept; opened = t.old.opened };
+      now = now;
+      turns = counted count t.turns;
+      holds = holds-grown.0;
+      counts = holds-grown.1;
+      steps = subst (λ st. Steps q.world t.old.opened st (Need m)) (sym same) t.steps;
+      same = refl;
+    }
+
+    -- no more turns are left than before
+    grown-fewer : turns_left q.world now.kept t.old.opened ≤ turns_left q.world t.old.kept t.old.opened
+    grown-fewer = by t.old.opened
+      where
+        by : (st : List (Open N A)) → turns_left q.world now.kept st ≤ turns_left q.world t.old.kept st
+        by [] = omega arith
+        by (o ∷ st) = grown-left _ q.law _ _ _ _ _ (subst (λ xs. GrowsBy q.world m (nodes_in t.now.opened) xs now.kept count) t.same g) o st
+
+    -- the node is kept or opened: it goes on
+    pub grown-goes : (next : Nodes N A) (after : Option ℕ) → Replies q.eq m now next ⊎ Opens q.eq m now next
+        → after ≡ counted count (counted 1 t.turns) → GoesOnFrom n es first t.old.kept t.old.opened next after
+    grown-goes next after asks counts =
+        let goes = goes_on grown next after (hears_or_opens now.kept now.opened m next (reached grown) asks) (counts ∙ counted-swap count t.turns) in
+        let less = goes.smaller in
+        let fewer = grown-fewer in
+        record { holds = goes.holds; turns = goes.turns; smaller = omega arith }
+
+    -- it is open: the question ends
+    pub grown-ends : (k : N) (next : Nodes N A) (after : Option ℕ) → Circles q.eq m k now next → after ≡ counted count (counted 1 t.turns)
+        → HasEnd n es first after next.kept (Circle k)
+    grown-ends k next after is counts =
+        ended grown next (Circle k) after (circles now.kept now.opened m k next (reached grown) is) (counts ∙ counted-swap count t.turns)
+
+    -- memory was refused
+    pub grown-same : (next : List (Entry N A)) → next ≡ now.kept → IsLeft q.world (to_keep q.world es (done q.world [] n)) es next
+    grown-same next kept = left_same es now.kept n t.old.opened next holds-grown.0 kept
 
   -- ---- the first of them
   -- a node that is kept or open ends it at once

@@ -1,8 +1,9 @@
 -- The last open node: how it is run, kept and taken out.
 use Rattle.ksv_memo.proofs.Common.{◌≡◌, ℕ, ◌+◌, ◌-◌, ◌≤◌, ◌<◌, true, false, List, [], ◌∷◌, ◌++◌, length, take, drop, reverse, Option, Some, None}
 use Rattle.ksv_memo.proofs.Common.{IfOk, OnOk, length-append, is_some, refl, sym, ◌∙◌, ap, subst, Result, slice_get, inr, arith, option_map, AllByRecursion}
-use Rattle.ksv_memo.proofs.Common.{slice_get-map, slice_get_within, Use, Linked, row, is_kept, Slot, Frame, Frames, answer_in, answer_at, answers_at, Open}
-use Rattle.ksv_memo.proofs.Common.{Standing, Next, HasEachOnce, slots_of, node_at, nodes_at, IsOpen, IsKept, entries_of}
+use Rattle.ksv_memo.proofs.Common.{slice_get-map, slice_get_within, Use, Linked, row, is_kept, Slot, Frame, Frames, answer_in, answer_at, answers_at}
+use Rattle.ksv_memo.proofs.Common.{with_first, Open, Standing, Next, HasEachOnce, slots_of, node_at, nodes_at, IsOpen, IsKept, entries_of}
+use Rattle.ksv_memo.proofs.Common.{numbers_from, entry_at, entry_with, open_before, nodes_in}
 use Rattle.ksv_memo.proofs.Common.{opens_in, opens_of, AreNested, AreLinked, AreFrames, IsLaidOut, EndsWith, with_slot, Framed, Heard, Closes, MayKeep}
 use Rattle.ksv_memo.proofs.Common.{All-from_recursion, All-map, eqb_true}
 use Rattle.std.proofs.Common.{All, OnErr, Ok, Err, ◌==◌}
@@ -14,9 +15,11 @@ use Rattle.ksv_memo.specs.Open.{heard}
 use Rattle.ksv_memo.specs.Calls.{Runs, replies_of}
 use Rattle.ksv_memo_rules.specs.Meaning.{IsAddedTo}
 use Rattle.ksv_memo.specs.Moves.{SameFrames, IsPart, Popped}
-use Rattle.ksv_memo.specs.Nodes.{Keeps, TakesFirst}
+use Rattle.ksv_memo_rules.specs.Folds.{Fold}
+use Rattle.ksv_memo.specs.Folding.{ClosesAs, LosesFirst, entry_as}
+use Rattle.ksv_memo.specs.Nodes.{Keeps, IsPut, MayLose, TakesFirst}
 use Rattle.ksv_memo.proofs.Finding.{node_there, answer_there}
-use Rattle.ksv_memo.proofs.Laying.{All-drop}
+use Rattle.ksv_memo.proofs.Laying.{All-drop, All-numbers, entries_at-same}
 use Rattle.ksv_memo.proofs.Changing.{ChangesAt, set_at, set_count, grown, links-stay, links-keep, entries-stay, entries-keep, frames-pop, frames-hear}
 use Rattle.ksv_memo.proofs.Changing.{opens-pop, opens-hear}
 
@@ -46,6 +49,9 @@ pub kept_part : (l m : Linked) (slot k : ℕ) (asked held : List ℕ) (given onc
 kept_part l m slot k asked held given once e f h =
     subst (LinksKeep l m slot (drop k asked)) f
     (rw e at (rw (take_rest held k) at h))
+
+same-opens-in : {N V F : Type 0} (ps : List (N × Slot V F)) (old new : Frames N) → SameFrames old new → opens_of ps new ≡ opens_of ps old
+same-opens-in ps old new same = λ i. opens_in ps (reverse (same.frames i)) (same.asked i) (same.uses i)
 
 module _ {N V F : Type 0} (ps : List (N × Slot V F)) where
   open_pair : (n : N) (o : Option (N × Slot V F)) → option_map (λ p. p.0) o ≡ Some n → option_map (λ p. p.1) o ≡ Some opened → o ≡ Some (n, opened)
@@ -99,6 +105,10 @@ module _ {N V F : Type 0} (ps : List (N × Slot V F)) where
     waits = h.waits;
   }
 
+  pub unchanged-entries : (l m : Linked) → IsUnchanged l m → entries_of ps m ≡ entries_of ps l
+  unchanged-entries l m same = entries_at-same ps ps l m (numbers_from 0 (length ps)) (All-numbers (λ i. entry_at ps m i ≡ entry_at ps l i) 0 (length ps)
+      (λ i le lt. (λ j. entry_with (node_at ps i) (answer_at (slots_of ps) i) (nodes_at ps (row (same.asked j) i)) (row (same.uses j) i))))
+
   -- after a call the frames are the same, and there are more uses
   more_uses : (w : Standing N (Result V F)) (old new : Frames N) {E : Type 0} (r : Result (Next N (Result V F)) E) → IfOk r (λ s. Runs w ps old new s)
       → OnErr r (IsAddedTo old.uses.items new.uses.items) → length old.uses.items ≤ length new.uses.items
@@ -125,6 +135,22 @@ module _ {N V F : Type 0} (ps : List (N × Slot V F)) where
           nested = rw now (grown (reverse old.frames.items) _ _ _ _ count (more_uses w old new r runs refused) h.waits.nested);
         };
       }
+
+  -- the open nodes are the same, whatever they used
+  named-same : (fs : List (Frame N)) (asked : List ℕ) (uses others : List Use) → nodes_in (opens_in ps fs asked uses) ≡ nodes_in (opens_in ps fs asked others)
+  named-same [] asked uses others = refl
+  named-same (f ∷ fs) asked uses others = by (node_at ps f.slot) (answers_at (slots_of ps) (drop f.asked asked)) (nodes_at ps (drop f.asked asked))
+      (drop f.uses uses) (drop f.uses others) _ _ (named-same fs (take f.asked asked) (take f.uses uses) (take f.uses others))
+    where
+      by : (o : Option N) (replies : List (Result V F)) (asks : List N) (us vs : List Use) (xs ys : List (Open N (Result V F))) → nodes_in xs ≡ nodes_in ys
+          → nodes_in (open_before o replies asks us xs) ≡ nodes_in (open_before o replies asks vs ys)
+      by None replies asks us vs xs ys e = e
+      by (Some n) replies asks us vs xs ys e = ap (λ ns. n ∷ ns) e
+
+  pub called-nodes : (old new : Frames N) → new.frames ≡ old.frames → new.asked ≡ old.asked → nodes_in (opens_of ps new) ≡ nodes_in (opens_of ps old)
+  called-nodes old new same asked =
+      (λ i. nodes_in (opens_in ps (reverse (same i).items) (asked i).items new.uses.items))
+      ∙ named-same (reverse old.frames.items) old.asked.items new.uses.items old.uses.items
 
   -- the last open node was run
   pub runs : (w : Standing N (Result V F)) (old new : Frames N) (f : Frame N) → EndsWith f old.frames.items
@@ -188,74 +214,125 @@ module _ {N V F : Type 0} (ps : List (N × Slot V F)) where
     abandons-kept = entries-stay _ _ _ _ _ p.changes (top_none p) refl _ p.laid.kept 0
         (let e : length ps ≡ length ps + 0 = omega arith in p.count ∙ e) tt
 
+    pub abandons-first : LosesFirst (record { kept = entries_of ps l; opened = opens_of ps frames })
+        (record { kept = entries_of qs l; opened = opens_of qs new })
+    abandons-first = record { first = top_of frames f f.node; was = cc (top-opens _ _ p.top, pops-opens p); kept = abandons-kept }
+
     pub abandons-rest : TakesFirst true (opens_of ps frames) (opens_of qs new)
     abandons-rest = (top_of frames f f.node, cc (top-opens _ _ p.top, pops-opens p))
 
-  -- ---- it is kept with its answer
-  pub record IsClosed (l : Linked) (frames new : Frames N) (f : Frame N) (qs : List (N × Slot V F)) (s : Slot V F) (a : Result V F) (all : Linked)
-      : Type 0 where
+  -- ---- it is kept with an answer, by these slots and uses
+  pub record IsShut (l : Linked) (frames new : Frames N) (f : Frame N) (qs : List (N × Slot V F)) (s : Slot V F) (a : Result V F) (all : Linked)
+      (asks : List ℕ) (once : List Use) : Type 0 where
     pub pops : IsPopped l frames new f qs s
     pub is : answer_in s ≡ Some a
-    pub once : List Use
-    pub each : HasEachOnce once (drop f.uses frames.uses.items)
+    pub asked : AllByRecursion (IsKept ps) asks
     pub in_asked : f.slot < length l.asked
     pub in_uses : f.slot < length l.uses
-    pub kept : LinksKeep l all f.slot (drop f.asked frames.asked.items) once
+    pub kept : LinksKeep l all f.slot asks once
 
-  module _ {l : Linked} {frames new : Frames N} {f : Frame N} {qs : List (N × Slot V F)} {s : Slot V F} {a : Result V F} {all : Linked}
-      (h : IsClosed l frames new f qs s a all) where
+  module _ {l : Linked} {frames new : Frames N} {f : Frame N} {qs : List (N × Slot V F)} {s : Slot V F} {a : Result V F} {all : Linked} {asks : List ℕ}
+      {once : List Use} (h : IsShut l frames new f qs s a all asks once) where
     not_open : s ≡ opened → ⊥
     not_open e = let none : answer_in s ≡ None = ap answer_in e in let is = h.is in cc
-
-    part_kept : AllByRecursion (IsKept ps) (drop f.asked frames.asked.items)
-    part_kept = All-drop (IsKept ps) f.asked frames.asked.items h.pops.laid.waits.asked
 
     slot_in : f.slot < length ps
     slot_in = slice_get_within ps f.slot (f.node, opened) h.pops.top.there
 
-    pub closes-laid : IsLaidOut qs all new
-    closes-laid = record {
-      kept = links-keep _ _ _ _ _ h.pops.changes (top_none h.pops) a h.is _ _ (drop f.asked frames.asked.items) h.once h.pops.laid.kept part_kept
+    pub shuts-laid : IsLaidOut qs all new
+    shuts-laid = record {
+      kept = links-keep _ _ _ _ _ h.pops.changes (top_none h.pops) a h.is _ _ asks once h.pops.laid.kept h.asked
           (omega (arith, slot_in)) h.in_asked
           (omega arith) h.kept;
       waits = frames-pop _ _ _ _ _ h.pops.changes (top_none h.pops) not_open _ refl _ _ h.pops.laid.waits h.pops.popped;
     }
 
-    closes-kept : Keeps (top_of frames f f.node) a (entries_of ps l) (entries_of qs all)
-    closes-kept =
-        let p = entries-keep _ _ _ _ _ h.pops.changes (top_none h.pops) a h.is _ all (drop f.asked frames.asked.items) h.once h.pops.laid.kept
-        part_kept h.in_asked h.in_uses slot_in h.pops.count h.kept in
-        record { once = h.once; each = h.each; front = p.front; back = p.back; was = p.was; kept = p.now }
+    pub shuts-put : IsPut (record { node = f.node; answer = a; asked = nodes_at ps asks; uses = once }) (entries_of ps l) (entries_of qs all)
+    shuts-put = entries-keep _ _ _ _ _ h.pops.changes (top_none h.pops) a h.is _ all asks once h.pops.laid.kept
+        h.asked h.in_asked h.in_uses slot_in h.pops.count h.kept
 
     -- no node is below it
-    pub closes-last : new.frames.items ≡ [] → Closes a (opens_of ps frames) (record { kept = entries_of ps l; opened = opens_of ps frames })
-        (record { kept = entries_of qs all; opened = opens_of qs new })
-    closes-last none =
-        let empty : below frames f h.pops.top.front ≡ [] =
-        cc (pops-opens h.pops) in
-        rw (top-opens _ _ h.pops.top ∙ ap (λ st. top_of frames f f.node ∷ st) empty) (closes-kept, pops-opens h.pops ∙ empty)
+    pub shuts-last : new.frames.items ≡ [] → (below frames f h.pops.top.front ≡ []) × (opens_of qs new ≡ [])
+    shuts-last none =
+        let empty : below frames f h.pops.top.front ≡ [] = cc (pops-opens h.pops) in
+        (empty, pops-opens h.pops ∙ empty)
 
     -- the one below gets its answer
     kept_now : IsKept qs f.slot
     kept_now = ap is_some (answer_there qs f.slot f.node s h.pops.changes.here ∙ h.is)
 
+    pub shut-hears-laid : (last : Frames N) → Heard f.slot new last → IsLaidOut qs all last
+    shut-hears-laid last heard = record { kept = shuts-laid.kept; waits = frames-hear _ _ kept_now _ _ shuts-laid.waits heard }
+
+    pub shut-hears : (last : Frames N) → Heard f.slot new last → opens_of qs last ≡ heard f.node a (below frames f h.pops.top.front)
+    shut-hears last hears =
+        cc (
+          opens-hear _ _ f.node a (node_there qs f.slot f.node s h.pops.changes.here)
+              (answer_there qs f.slot f.node s h.pops.changes.here ∙ h.is) _ _ shuts-laid.waits hears,
+          pops-opens h.pops,
+        )
+
+  -- ---- it is kept with its answer, by what it asked and used
+  pub record IsClosed (l : Linked) (frames new : Frames N) (f : Frame N) (qs : List (N × Slot V F)) (s : Slot V F) (a : Result V F) (all : Linked)
+      : Type 0 where
+    pub once : List Use
+    pub each : HasEachOnce once (drop f.uses frames.uses.items)
+    pub shut : IsShut l frames new f qs s a all (drop f.asked frames.asked.items) once
+
+  module _ {l : Linked} {frames new : Frames N} {f : Frame N} {qs : List (N × Slot V F)} {s : Slot V F} {a : Result V F} {all : Linked}
+      (h : IsClosed l frames new f qs s a all) where
+    pub closes-laid : IsLaidOut qs all new
+    closes-laid = shuts-laid h.shut
+
+    closes-kept : Keeps (top_of frames f f.node) a (entries_of ps l) (entries_of qs all)
+    closes-kept =
+        let p = shuts-put h.shut in
+        record { once = h.once; each = h.each; front = p.front; back = p.back; was = p.was; kept = p.now }
+
+    pub closes-last : new.frames.items ≡ [] → Closes a (opens_of ps frames) (record { kept = entries_of ps l; opened = opens_of ps frames })
+        (record { kept = entries_of qs all; opened = opens_of qs new })
+    closes-last none =
+        rw (top-opens _ _ h.shut.pops.top ∙ ap (λ st. top_of frames f f.node ∷ st) (shuts-last h.shut none).0) (closes-kept, (shuts-last h.shut none).1)
+
     pub hears-laid : (last : Frames N) → Heard f.slot new last → IsLaidOut qs all last
-    hears-laid last heard = record { kept = closes-laid.kept; waits = frames-hear _ _ kept_now _ _ closes-laid.waits heard }
+    hears-laid = shut-hears-laid h.shut
 
     pub closes-more : (last : Frames N) → Heard f.slot new last
         → Closes a (opens_of ps frames) (record { kept = entries_of ps l; opened = opens_of ps frames })
         (record { kept = entries_of qs all; opened = opens_of qs last })
-    closes-more last hears =
-        let opens : opens_of qs last ≡ heard f.node a (below frames f h.pops.top.front) =
-        cc (
-          opens-hear _ _ f.node a (node_there qs f.slot f.node s h.pops.changes.here)
-              (answer_there qs f.slot f.node s h.pops.changes.here ∙ h.is) _ _ closes-laid.waits hears,
-          pops-opens h.pops,
-        ) in
-        rw (top-opens _ _ h.pops.top) (closes-kept, opens)
+    closes-more last hears = rw (top-opens _ _ h.shut.pops.top) (closes-kept, shut-hears h.shut last hears)
+
+    pub may-lose : (last : Frames N) → SameFrames new last → MayLose (opens_of ps frames) (opens_of qs last)
+    may-lose last same = rw (top-opens _ _ h.shut.pops.top) (inr (same-opens-in qs new last same ∙ pops-opens h.shut.pops))
 
     pub may-keep : MayKeep a (opens_of ps frames) (entries_of ps l) (entries_of qs all)
-    may-keep = rw (top-opens _ _ h.pops.top) (inr closes-kept)
+    may-keep = rw (top-opens _ _ h.shut.pops.top) (inr closes-kept)
+
+  -- ---- it is kept as that of a number, by the root of nodes that are kept so and its use there
+  module _ {l : Linked} {frames new : Frames N} {f : Frame N} {qs : List (N × Slot V F)} {s : Slot V F} {v : V} {all : Linked} {i : ℕ}
+      (w : Fold N (Result V F)) (j : ℕ) (root : node_at ps i ≡ Some w.root)
+      (h : IsShut l frames new f qs s (Ok v) all (i ∷ []) (w.entry j).uses) where
+    named : nodes_at ps (i ∷ []) ≡ w.root ∷ []
+    named = ap (λ o. with_first o []) root
+
+    put-as : IsPut (entry_as w j v (top_of frames f f.node)) (entries_of ps l) (entries_of qs all)
+    put-as = subst (λ ns. IsPut (record { node = f.node; answer = Ok v; asked = ns; uses = (w.entry j).uses }) (entries_of ps l) (entries_of qs all)) named
+        (shuts-put h)
+
+    pub closes-as-last : new.frames.items ≡ [] → ClosesAs w j v true (opens_of ps frames) (record { kept = entries_of ps l; opened = opens_of ps frames })
+        (record { kept = entries_of qs all; opened = opens_of qs new })
+    closes-as-last none =
+        rw (top-opens _ _ h.pops.top ∙ ap (λ st. top_of frames f f.node ∷ st) (shuts-last h none).0) (put-as, (shuts-last h none).1)
+
+    pub closes-as-more : (last : Frames N) → Heard f.slot new last
+        → ClosesAs w j v true (opens_of ps frames) (record { kept = entries_of ps l; opened = opens_of ps frames })
+        (record { kept = entries_of qs all; opened = opens_of qs last })
+    closes-as-more last hears = rw (top-opens _ _ h.pops.top) (put-as, shut-hears h last hears)
+
+    pub closes-as-deaf : (last : Frames N) → SameFrames new last
+        → ClosesAs w j v false (opens_of ps frames) (record { kept = entries_of ps l; opened = opens_of ps frames })
+        (record { kept = entries_of qs all; opened = opens_of qs last })
+    closes-as-deaf last same = rw (top-opens _ _ h.pops.top) (put-as, same-opens-in qs new last same ∙ pops-opens h.pops)
 
   -- ---- what keeping it requires
   pub keep-in : (l : Linked) (frames : Frames N) (f : Frame N) → AreLinked ps l → IsTop frames f → f.slot < length l.kept

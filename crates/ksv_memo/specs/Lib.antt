@@ -5,9 +5,11 @@ pub mod Layout
 pub mod Slotted
 pub mod Moves
 pub mod Nodes
+pub mod Folding
 pub mod Calls
 pub mod Sweep
 pub mod Emptying
 pub mod Running
+pub mod Growing
 pub mod Answers
 pub mod Resting

@@ -46,6 +46,10 @@ pub record IsEntry {N A : Type 0} (eq : N → N → Bool) (es : List (Entry N A)
   pub there : IsOneOf es e
   pub passes : eq n e.node ≡ true
 
+-- a node is kept
+abbrev pub KeepsNode : {N A : Type 0} → (N → N → Bool) → List (Entry N A) → N → Type 0
+KeepsNode {N} {A} eq es n = (e : Entry N A) × IsEntry eq es n e
+
 -- a node is not kept
 abbrev pub HasNoEntry : {N A : Type 0} → (N → N → Bool) → List (Entry N A) → N → Type 0
 HasNoEntry eq es n = list_any (λ e. eq n e.node) es ≡ false
@@ -107,6 +111,13 @@ pub record Keeps {N A : Type 0} (o : Open N A) (a : A) (before after : List (Ent
   pub was : before ≡ front ++ back
   pub kept : after ≡ front ++ kept_of o a once ∷ back
 
+-- an entry was put somewhere among others
+pub record IsPut {X : Type 0} (x : X) (before after : List X) : Type 0 where
+  pub front : List X
+  pub back : List X
+  pub was : before ≡ front ++ back
+  pub now : after ≡ front ++ x ∷ back
+
 -- whether there is an element
 abbrev pub is_there : {X : Type 0} → List X → Bool
 is_there [] = false
@@ -126,6 +137,11 @@ Closes a (o ∷ st) old new = Keeps o a old.kept new.kept × (new.opened ≡ hea
 abbrev pub MayKeep : {N A : Type 0} → A → List (Open N A) → List (Entry N A) → List (Entry N A) → Type 0
 MayKeep a [] before after = ⊥
 MayKeep a (o ∷ st) before after = (after ≡ before) ⊎ Keeps o a before after
+
+-- the same nodes are open, or all but the last
+abbrev pub MayLose : {N A : Type 0} → List (Open N A) → List (Open N A) → Type 0
+MayLose [] now = now ≡ []
+MayLose (o ∷ st) now = (now ≡ o ∷ st) ⊎ (now ≡ st)
 
 -- the first element was taken, if there was one
 abbrev pub TakesFirst : {X : Type 0} → Bool → List X → List X → Type 0

@@ -54,5 +54,5 @@ pub record Sweeps {N A : Type 0} (change : Change) (pages : ℕ) (before after :
   pub marked : AllByRecursion (IsMarked change marks) marks
   pub stays : after ≡ entries_left marks
   pub least : length (entries_gone marks) ≤ looked
-  pub most : IsOverwrite change → looked ≤ pages_met change + 3 * sum_by (λ e. met_by change e.uses) before + 9 * length (entries_gone marks) + 6 * sum_by (λ e. length e.asked) (entries_gone marks) + 4 * sum_by (λ e. length (pages_in e.uses)) (entries_gone marks) + 2
-  pub behind : IsMove change → looked ≤ 2 * pages_behind change pages + 3 * sum_by (λ e. behind_by change e.uses) before + 3 * sum_by (λ e. ended_by change e.uses) before + 9 * length (entries_gone marks) + 6 * sum_by (λ e. length e.asked) (entries_gone marks) + 4 * sum_by (λ e. length (pages_in e.uses)) (entries_gone marks) + 3
+  pub most : IsOverwrite change → looked ≤ pages_met change + 3 * sum_by (λ e. met_by change e.uses) before + 9 * length (entries_gone marks) + 6 * sum_by (λ e. length e.asked) (entries_gone marks) + 4 * sum_by (λ e. length (pages_in e.uses)) (entries_gone marks) + 4
+  pub behind : IsMove change → looked ≤ 2 * pages_behind change pages + 3 * sum_by (λ e. behind_by change e.uses) before + 3 * sum_by (λ e. ended_by change e.uses) before + 9 * length (entries_gone marks) + 6 * sum_by (λ e. length e.asked) (entries_gone marks) + 4 * sum_by (λ e. length (pages_in e.uses)) (entries_gone marks) + 5

@@ -1,14 +1,15 @@
 //! What open nodes asked and used, by frames.
 ghost use Rattle.std.specs.Prelude.{◌≡◌, ◌<◌, ◌≤◌, ◌++◌, ◌∷◌, [], length, false, IfOk, IfSome, IfNone, OnOk, OnErr};
-ghost use Rattle.std.specs.List.{list_any};
+ghost use Rattle.std.specs.List.{AllByRecursion, list_any};
 ghost use Rattle.ksv_memo_rules.specs.Right.{counted};
+ghost use Rattle.ksv_memo.specs.Folding.{IsNoneBelow};
 ghost use Rattle.ksv_memo.specs.Moves.{with_slot, Heard, SameFrames, IsPart, IsNewFrame, Popped, Framed, EndsWith};
 
 use crate::machine::turns::Turns;
 use crate::slots::Slots;
 use ksv_bytes::Use;
-use ksv_memo_rules::{Held, Lent, Places, Slot};
-use std::alloc::AllocError;
+use ksv_memo_rules::{Folds, Held, Lent, Places, Rules, Slot};
+use std::alloc::{AllocError, Global};
 
 /// An open node, the number of its slot, and where its part of what open nodes asked and used begins. The node is lent for one
 /// turn at a time, by a count.
@@ -30,6 +31,38 @@ impl<N> Frame<N> {
         turns.add();
         self.node.lend()
     }
+
+    /// The nodes that can be kept by numbers alone once its node has this value.
+    pub(crate) fn fold<R: Rules<Node = N>>(
+        &self,
+        rules: &R,
+        alloc: Global,
+        value: &R::Value,
+    ) -> Result<Option<R::Fold>, AllocError>
+        ensures { IfOk result (λ found. IfSome found (λ nodes. (R.Fold.fold nodes).root ≡ self.now.node)) }
+    {
+        self.node.fold(rules, alloc, value)
+    }
+}
+
+/// The least number that an open node has among nodes that can be kept by numbers alone; this number, if none has a less one.
+pub(crate) fn least_place<N, V, F, S: Folds<N, V, F>>(
+    frames: &[Frame<N>],
+    nodes: &S,
+    most: u32,
+) -> u32
+    requires { most ≤ (S.fold nodes.now).size }
+    ensures within { result ≤ most }
+    ensures apart { AllByRecursion (λ frame. IsNoneBelow (S.fold nodes.now) result frame.node) frames.now }
+{
+    let mut least = most;
+    for frame in frames {
+        match frame.node.place_in(nodes) {
+            Some(place) => least = least.min(place),
+            None => {}
+        }
+    }
+    least
 }
 
 /// A frame without its node: the number of its slot, and where its part of what open nodes asked and used begins.

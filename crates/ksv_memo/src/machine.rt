@@ -10,7 +10,7 @@ ghost use Rattle.ksv_memo.specs.Running.{AreSame, AdvancesAt, HasReached, IsLeft
 pub(crate) mod turns;
 
 use self::turns::Turns;
-use crate::table::Table;
+use crate::folded::Folded;
 use ksv_bytes::Buffer;
 use ksv_memo_rules::{Next, Outcome, Reply, Rules};
 use std::alloc::{AllocError, Global};
@@ -29,7 +29,7 @@ fn lend<V, F>(answer: &Result<V, F>) -> Result<&V, &F>
 #[derive(Drop)]
 pub struct Machine<R: Rules> {
     alloc: Global,
-    pub table: Table<R>,
+    pub table: Folded<R>,
     turns: Turns,
 }
 
@@ -41,7 +41,7 @@ impl<R: Rules> Machine<R> {
     {
         Machine {
             alloc,
-            table: Table::new(alloc),
+            table: Folded::new(alloc),
             turns: Turns::new(),
         }
     }
@@ -97,7 +97,7 @@ impl<R: Rules> Machine<R> {
         ensures turns { self.new.turns ≡ self.old.turns }
     {
         let reply = rules.copy_answer(self.alloc, lend(&answer))?;
-        self.table.close(self.alloc, answer)?;
+        self.table.close(self.alloc, rules, bytes, answer)?;
         Ok(Outcome::Answered(reply))
     }
 
@@ -136,13 +136,16 @@ impl<R: Rules> Machine<R> {
                     if !self.table.waits() {
                         return self.end(rules, bytes, answer);
                     }
-                    self.table.close(self.alloc, answer)?;
+                    self.table.close(self.alloc, rules, bytes, answer)?;
                 }
-                Ok(Next::Need(asked)) => match self.table.ask(asked) {
-                    Ok(None) => continue,
-                    Ok(Some(node)) => return Ok(Outcome::Circle(node)),
-                    Err(refused) => return Err(refused),
-                },
+                Ok(Next::Need(asked)) => {
+                    self.table.grow(rules, bytes, &asked, &mut self.turns);
+                    match self.table.ask(self.alloc, asked) {
+                        Ok(None) => continue,
+                        Ok(Some(node)) => return Ok(Outcome::Circle(node)),
+                        Err(refused) => return Err(refused),
+                    }
+                }
                 Err(refused) => return Err(refused),
             }
         }

@@ -4,8 +4,9 @@ ghost use Rattle.std.specs.List.{AllByRecursion, list_any, zip, IsDistinct};
 ghost use Rattle.std.specs.Map.{keys_of};
 ghost use Rattle.ksv_memo_links.specs.Shelved.{ticked, ticked_by};
 ghost use Rattle.ksv_memo.specs.Layout.{slots_of};
+ghost use Rattle.ksv_memo.specs.Folding.{TellsFold};
 ghost use Rattle.ksv_memo.specs.Moves.{with_slot, IsVacant, Knows};
-ghost use Rattle.ksv_memo_rules.specs.Meaning.{IsAddedTo};
+ghost use Rattle.ksv_memo_rules.specs.Meaning.{IsAddedTo, on};
 ghost use Rattle.ksv_memo_rules.specs.Slots.{HasAnswer, answer_at, answers_at};
 
 use ksv_bytes::{Buffer, Use};
@@ -263,6 +264,22 @@ pub(crate) fn outcome_at<R: Rules>(
     match answer_at(slots.lend(), place) {
         Some(answer) => Ok(Some(Outcome::Answered(rules.copy_answer(alloc, answer)?))),
         None => Ok(None),
+    }
+}
+
+/// How many nodes can be kept by numbers alone over these bytes, whose root has its answer in the slot of a number.
+pub(crate) fn foldable_at<R: Rules>(
+    rules: &R,
+    slots: &Slots<R::Node, R::Places, R::Value, R::Fault>,
+    place: usize,
+    nodes: &R::Fold,
+    bytes: &Buffer,
+) -> u32
+    ensures { TellsFold (on (R.meaning rules.now) bytes.now) (R.Fold.fold nodes.now) (answer_at (slots_of slots.now.entries) place) result }
+{
+    match answer_at(slots.lend(), place) {
+        Some(Ok(value)) => rules.foldable(nodes, value, bytes),
+        _ => 0,
     }
 }
 

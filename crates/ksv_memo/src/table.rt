@@ -1,26 +1,29 @@
 //! The table of kept and open nodes.
-ghost use Rattle.std.specs.List.{All, AllByRecursion, AllPairs};
-ghost use Rattle.std.specs.Prelude.{◌≡◌, ◌≢◌, ◌<◌, ◌≤◌, ◌+◌, ℕ, [], Some, length, true, option_map, nat_lt, IfOk, IfSome, IfNone, OnOk, OnErr};
+ghost use Rattle.std.specs.List.{All, AllByRecursion, AllPairs, IsDistinct};
+ghost use Rattle.std.specs.Prelude.{◌≡◌, ◌≢◌, ◌<◌, ◌≤◌, ◌+◌, ◌^◌, ℕ, [], Some, length, true, false, option_map, nat_lt, IfOk, IfSome, IfNone, OnOk, OnErr};
 ghost use Rattle.ksv_memo_links.specs.Touching.{AreWithin};
 ghost use Rattle.ksv_memo_rules.specs.Meaning.{IsAddedTo, on};
-ghost use Rattle.ksv_memo_rules.specs.Right.{counted};
+ghost use Rattle.ksv_memo_rules.specs.Folds.{IsFold};
+ghost use Rattle.ksv_memo_rules.specs.Right.{counted, nodes_of};
 ghost use Rattle.ksv_memo.specs.Layout.{AreFrames, IsLaidOut};
-ghost use Rattle.ksv_memo.specs.Nodes.{Asks, Closes, MayKeep, Opens, Seeks, Starts, Steps, TakesFirst, is_there, looks_of, nodes, nodes_with};
+ghost use Rattle.ksv_memo.specs.Nodes.{Asks, Closes, HasNoEntry, KeepsNode, MayKeep, MayLose, Opens, Seeks, Starts, Steps, TakesFirst, is_there, looks_of, nodes, nodes_with};
+ghost use Rattle.ksv_memo.specs.Folding.{ClosesAs, IsFirst, IsNoneBelow, IsTold, LosesFirst};
 ghost use Rattle.ksv_memo.specs.Moves.{Knows, with_slot};
 ghost use Rattle.ksv_memo_links.specs.Shelved.{ticked};
 ghost use Rattle.ksv_memo_rules.specs.Slots.{answer_in};
 ghost use Rattle.ksv_memo.specs.Calls.{Runs};
+ghost use Rattle.ksv_memo.specs.Open.{nodes_in};
 ghost use Rattle.ksv_memo.specs.Sweep.{Sweeps};
 ghost use Rattle.ksv_memo.specs.Emptying.{IsEmptied};
 
-use crate::frames::{Frames, last_frame, number, open_new, reopen};
+use crate::frames::{Frames, last_frame, least_place, number, open_new, reopen};
 use crate::machine::turns::Turns;
-use crate::slots::{Known, Slots, call, outcome_at};
-use crate::uses::keep_once;
+use crate::slots::{Known, Slots, call, foldable_at, outcome_at};
+use crate::uses::{keep_by, keep_once};
 use crate::vacancy::{open_in, vacant};
 use ksv_bytes::{Buffer, Change};
 use ksv_memo_links::Links;
-use ksv_memo_rules::{Next, Outcome, Places, Reply, Rules, Slot};
+use ksv_memo_rules::{Folds, Next, Outcome, Places, Reply, Rules, Slot};
 use std::alloc::{AllocError, Global};
 use std::marker::Model;
 
@@ -205,8 +208,11 @@ impl<R: Rules> Table<R> {
 
     /// The number of kept nodes.
     pub(crate) fn len(&self) -> usize
-        ensures { result ≡ length self.now.kept }
+        ensures len { result ≡ length self.now.kept }
+        ensures small { result < 2 ^ 63 }
     {
+        // No more nodes are kept than there are slots.
+        let _slots = self.slots.len();
         self.links.count()
     }
 
@@ -269,6 +275,7 @@ impl<R: Rules> Table<R> {
         requires { is_there self.old.opened ≡ true }
         ensures step { IfOk result (λ step. Steps (on (R.meaning rules.now) bytes.now) self.old.opened self.new.opened step) }
         ensures kept { self.new.kept ≡ self.old.kept }
+        ensures waiting { nodes_in self.new.opened ≡ nodes_in self.old.opened }
         ensures turns { turns.new ≡ counted 1 turns.old }
         ensures looks { self.new.looks ≡ self.old.looks }
     {
@@ -281,6 +288,7 @@ impl<R: Rules> Table<R> {
         requires { is_there self.old.opened ≡ true }
         ensures ok { OnOk result (Closes answer self.old.opened (nodes self.old) (nodes self.new)) }
         ensures err { OnErr result (MayKeep answer self.old.opened self.old.kept self.new.kept) }
+        ensures waiting { OnErr result (MayLose self.old.opened self.new.opened) }
         ensures grows { self.old.looks ≤ self.new.looks }
     {
         let Some(frame) = last_frame(self.frames.frames.as_slice()) else {
@@ -297,6 +305,99 @@ impl<R: Rules> Table<R> {
         }
         self.frames.hear(slot)?;
         Ok(())
+    }
+
+    /// Keeps the last open node, which is that of a number among nodes whose root is kept, by that root and its use there. The one below
+    /// gets its answer, if there is one; whether that could be noted. If memory is refused for the node, it is taken out.
+    #[cold]
+    #[inline(never)]
+    pub(crate) fn close_folded(
+        &mut self,
+        folded: &R::Fold,
+        place: u32,
+        value: R::Value,
+    ) -> Result<bool, AllocError>
+        requires there { is_there self.old.opened ≡ true }
+        requires root { KeepsNode R.Node.eq self.old.kept (R.Fold.fold folded.now).root }
+        requires place_in { place < (R.Fold.fold folded.now).size }
+        ensures ok { IfOk result (λ is_heard. ClosesAs (R.Fold.fold folded.now) place value is_heard self.old.opened (nodes self.old) (nodes self.new)) }
+        ensures err { OnErr result (LosesFirst (nodes self.old) (nodes self.new)) }
+        ensures grows { self.old.looks ≤ self.new.looks }
+    {
+        let Known::Kept(root) = self.slots.find(folded.root()) else {
+            unreachable!()
+        };
+        let Some(frame) = last_frame(self.frames.frames.as_slice()) else {
+            unreachable!()
+        };
+        let number = frame.slot;
+        let slot = number as usize;
+        match keep_by(&mut self.links, number, root, folded.used(place)) {
+            Ok(()) => {}
+            Err(refused) => {
+                self.slots.set(slot, Slot::Empty);
+                self.frames.take_last();
+                return Err(refused);
+            }
+        }
+        self.slots.set(slot, Slot::Value(value));
+        self.frames.take_last();
+        if self.frames.frames.as_slice().is_empty() {
+            return Ok(true);
+        }
+        match self.frames.hear(slot) {
+            Ok(()) => Ok(true),
+            Err(_) => Ok(false),
+        }
+    }
+
+    /// Whether a node is kept.
+    pub(crate) fn holds(&mut self, node: &R::Node) -> bool
+        ensures yes { result ≡ true → KeepsNode R.Node.eq self.old.kept node.now }
+        ensures no { result ≡ false → HasNoEntry R.Node.eq self.old.kept node.now }
+        ensures once { IsDistinct R.Node.eq (nodes_of self.old.kept) }
+        ensures nodes { nodes self.new ≡ nodes self.old }
+        ensures looks { self.new.looks ≤ self.old.looks + 1 }
+        ensures fits { self.new.looks < 2 ^ 64 }
+        ensures grows { self.old.looks ≤ self.new.looks }
+    {
+        matches!(self.slots.find(node), Known::Kept(_))
+    }
+
+    /// How many nodes can be kept by numbers alone over these bytes: none if their root isn't kept.
+    pub(crate) fn foldable(&mut self, rules: &R, folded: &R::Fold, bytes: &Buffer) -> u32
+        ensures fold { IsTold (on (R.meaning rules.now) bytes.now) R.Node.eq self.old.kept (R.Fold.fold folded.now).root → IsFold (on (R.meaning rules.now) bytes.now) (R.Fold.fold folded.now) result }
+        ensures nodes { nodes self.new ≡ nodes self.old }
+        ensures grows { self.old.looks ≤ self.new.looks }
+    {
+        match self.slots.find(folded.root()) {
+            Known::Kept(place) => foldable_at(rules, &self.slots, place, folded, bytes),
+            _ => 0,
+        }
+    }
+
+    /// The nodes that can be kept by numbers alone once the last open node has this value.
+    pub(crate) fn fold(
+        &self,
+        alloc: Global,
+        rules: &R,
+        value: &R::Value,
+    ) -> Result<Option<R::Fold>, AllocError>
+        ensures { IfOk result (λ found. IfSome found (λ nodes. IsFirst (R.Fold.fold nodes).root self.now.opened)) }
+    {
+        match last_frame(self.frames.frames.as_slice()) {
+            Some(frame) => frame.fold(rules, alloc, value),
+            None => Ok(None),
+        }
+    }
+
+    /// The least number that an open node has among nodes that can be kept by numbers alone; this number, if none has a less one.
+    pub(crate) fn least_open(&self, folded: &R::Fold, most: u32) -> u32
+        requires { most ≤ (R.Fold.fold folded.now).size }
+        ensures within { result ≤ most }
+        ensures apart { AllByRecursion (λ waiting. IsNoneBelow (R.Fold.fold folded.now) result waiting.node) self.now.opened }
+    {
+        least_place(self.frames.frames.as_slice(), folded, most)
     }
 
     /// Takes the last open node out, if there is one.
@@ -328,6 +429,9 @@ impl<R: Rules> Table<R> {
         requires opened { self.old.opened ≡ [] }
         requires within { AllByRecursion (λ entry. AreWithin pages entry.uses) self.old.kept }
         ensures kept { Sweeps change pages self.old.kept self.new.kept result }
+
+        // There is room for two looks more.
+        ensures room { Sweeps change pages self.old.kept self.new.kept (result + 2) }
         ensures opened { self.new.opened ≡ [] }
         ensures told { self.new.looks ≤ self.old.looks + result }
     {

@@ -1,11 +1,13 @@
 //! Uses as a set.
-ghost use Rattle.std.specs.Prelude.{◌≡◌, ◌<◌, ◌≤◌, [], length, true, false, IfOk, OnOk, OnErr};
+ghost use Rattle.std.specs.Prelude.{◌≡◌, ◌<◌, ◌≤◌, [], ◌∷◌, length, true, false, IfOk, OnOk, OnErr};
 ghost use Rattle.std.specs.List.{All};
-ghost use Rattle.ksv_memo_links.specs.Links.{IsUnchanged};
+ghost use Rattle.ksv_memo_links.specs.Links.{IsUnchanged, Keeps};
 ghost use Rattle.ksv_memo_links.specs.Marking.{is_kept};
+ghost use Rattle.ksv_memo_rules.specs.Folds.{used_of};
 ghost use Rattle.ksv_memo_rules.specs.Right.{HasEachOnce};
 ghost use Rattle.ksv_memo.specs.Moves.{KeepsOnce};
 
+use crate::frames::number;
 use ksv_bytes::Use;
 use ksv_memo_links::Links;
 use smallvec::SmallVec;
@@ -75,4 +77,26 @@ pub(crate) fn keep_once(
         return links.keep(slot, asked, uses);
     }
     keep_several(alloc, links, slot, asked, uses)
+}
+
+/// Keeps a slot by one other slot, and a use, if there is one.
+pub(crate) fn keep_by(
+    links: &mut Links,
+    slot: u32,
+    other: usize,
+    used: Option<Use>,
+) -> Result<(), AllocError>
+    requires idle { links.old.waits ≡ [] }
+    requires slot_in { slot < length links.old.kept }
+    requires out { is_kept links.old.kept slot ≡ false }
+    requires other_kept { is_kept links.old.kept other ≡ true }
+    ensures ok { OnOk result (Keeps links.old links.new slot (other ∷ []) (used_of used)) }
+    ensures err { OnErr result (IsUnchanged links.old links.new) }
+    ensures grows { links.old.looks ≤ links.new.looks }
+{
+    let asked = [number(other)?];
+    match used {
+        Some(used) => links.keep(slot, &asked, &[used]),
+        None => links.keep(slot, &asked, &[]),
+    }
 }

@@ -4,3 +4,5 @@ pub mod Entry
 pub mod Right
 pub mod Touched
 pub mod Slots
+pub mod Folds
+pub mod Unfolded

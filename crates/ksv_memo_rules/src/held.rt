@@ -1,6 +1,9 @@
 //! Nodes that are run: one that is held is lent for one call of the rules at a time.
-ghost use Rattle.std.specs.Prelude.{◌≡◌};
+ghost use Rattle.std.specs.Prelude.{◌≡◌, ℕ, ◌<◌, IfOk, IfSome, IfNone};
 
+use crate::folds::Folds;
+use crate::rules::Rules;
+use std::alloc::{AllocError, Global};
 use std::marker::Model;
 
 /// A node that is held until it has been run. It is lent, and never given back: who holds it can do nothing else with it.
@@ -30,6 +33,27 @@ impl<N> Held<N> {
         ensures { result ≡ self.now }
     {
         Lent { node: &self.node }
+    }
+
+    /// The number of the node among nodes that can be kept by numbers alone.
+    pub fn place_in<V, F, S: Folds<N, V, F>>(&self, nodes: &S) -> Option<u32>
+        ensures in_size { IfSome result (λ j. j < (S.fold nodes.now).size) }
+        ensures some { IfSome result (λ j. ((S.fold nodes.now).entry j).node ≡ self.now) }
+        ensures none { IfNone result ((j : ℕ) → j < (S.fold nodes.now).size → ((S.fold nodes.now).entry j).node ≡ self.now → ⊥) }
+    {
+        nodes.place(&self.node)
+    }
+
+    /// The nodes that can be kept by numbers alone once the node has this value.
+    pub fn fold<R: Rules<Node = N>>(
+        &self,
+        rules: &R,
+        alloc: Global,
+        value: &R::Value,
+    ) -> Result<Option<R::Fold>, AllocError>
+        ensures { IfOk result (λ found. IfSome found (λ nodes. (R.Fold.fold nodes).root ≡ self.now)) }
+    {
+        rules.fold(alloc, &self.node, value)
     }
 }
 

@@ -14,6 +14,7 @@
 //!
 //! Modules:
 //!
+//! - `folds`: `trait Folds`: nodes that an engine can keep by numbers alone
 //! - `held`: `Held` and `Lent`, a node that is lent for one call of the rules at a time
 //! - `places`: `trait Places`: the numbers of nodes
 //! - `replies`: `Replies`, the answers that an engine lends to rules
@@ -23,10 +24,12 @@
 //!
 //! - `Entry`: kept nodes as contracts see them
 //! - `Evaluation`: evaluation from nothing by rules alone: no table, no stack
+//! - `Folds`: nodes in an order, kept by numbers alone
 //! - `Meaning`: what rules mean, and their laws
 //! - `Right`: what is right to keep, what a question keeps, and its turns
 //! - `Slots`: the answers that slots lend
 //! - `Touched`: what an edit takes from the kept nodes
+//! - `Unfolded`: a sequence of no nodes
 //!
 //! Lemmas (`proofs/`):
 //!
@@ -38,11 +41,13 @@
 //! - `Standins`: an entry with its node's own asks and uses is right, so one more can be kept
 #![tactic(auto)]
 
+mod folds;
 mod held;
 mod places;
 mod replies;
 mod rules;
 
+pub use folds::{Folds, NoFold};
 pub use held::{Held, Lent};
 pub use places::Places;
 pub use replies::{Replies, Slot, answer_at};

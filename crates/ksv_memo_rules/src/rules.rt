@@ -1,7 +1,11 @@
 //! What rules are, and the laws that they obey.
-ghost use Rattle.std.specs.Prelude.{◌≡◌, ℕ, ◌++◌, List, true, Result, IfOk, OnOk, OnErr};
+ghost use Rattle.std.specs.Prelude.{◌≡◌, ℕ, ◌++◌, List, [], true, Result, Ok, IfOk, IfSome, OnOk, OnErr};
+ghost use Rattle.ksv_memo_rules.specs.Evaluation.{tells};
+ghost use Rattle.ksv_memo_rules.specs.Folds.{IsFold};
+ghost use Rattle.ksv_memo_rules.specs.Meaning.{on};
 ghost use Rattle.ksv_memo_rules.specs.Slots.{lent};
 
+use crate::folds::Folds;
 use crate::held::Lent;
 use crate::places::Places;
 use crate::replies::Replies;
@@ -49,6 +53,9 @@ pub trait Rules {
     /// What a node answers if it has no value.
     type Fault: Drop;
 
+    /// Nodes that can be kept by numbers alone.
+    type Fold: Folds<Self::Node, Self::Value, Self::Fault> + Drop;
+
     /// What the rules mean, for all bytes.
     ghost meaning: { Self → Meaning Self.Node (Result Self.Value Self.Fault) };
 
@@ -74,6 +81,23 @@ pub trait Rules {
         answer: Result<&Self::Value, &Self::Fault>,
     ) -> Result<Result<Self::Value, Self::Fault>, AllocError>
         ensures { IfOk result (λ copy. copy ≡ lent answer.entry) };
+
+    /// Whether there may be nodes that can be kept by numbers alone once a node has this value: asked of each value, so that few are tried. What it says
+    /// changes no answer.
+    fn may_fold(&self, value: &Self::Value) -> bool;
+
+    /// The nodes that can be kept by numbers alone once this one has this value, if there are such.
+    fn fold(
+        &self,
+        alloc: Global,
+        root: &Self::Node,
+        value: &Self::Value,
+    ) -> Result<Option<Self::Fold>, AllocError>
+        ensures { IfOk result (λ found. IfSome found (λ nodes. (Self.Fold.fold nodes).root ≡ root.now)) };
+
+    /// How many of such nodes there are over these bytes, if their root has this value.
+    fn foldable(&self, nodes: &Self::Fold, value: &Self::Value, bytes: &Buffer) -> u32
+        ensures { (tells (on (meaning self.now) bytes.now) [] (Self.Fold.fold nodes.now).root).outcome ≡ Outcome.Answered (Ok value.now) → IsFold (on (meaning self.now) bytes.now) (Self.Fold.fold nodes.now) result };
 
     /// Equal nodes are the same.
     ghost exact: { (a b : Self.Node) → Self.Node.eq a b ≡ true → a ≡ b };

@@ -1,8 +1,11 @@
 //! The rules of a description, for an engine.
 
-ghost use Rattle.std.specs.Prelude.{◌≡◌, ◌++◌, IfOk, OnOk, OnErr};
+ghost use Rattle.std.specs.Prelude.{◌≡◌, ◌++◌, [], Ok, IfOk, IfSome, OnOk, OnErr};
 ghost use Rattle.ksv_desc.specs.Whole.{plain_pieces};
-ghost use Rattle.ksv_memo_rules.specs.Meaning.{IsAddedTo};
+ghost use Rattle.ksv_memo_rules.specs.Evaluation.{tells};
+ghost use Rattle.ksv_memo_rules.specs.Folds.{IsFold};
+ghost use Rattle.ksv_memo_rules.specs.Meaning.{IsAddedTo, on};
+ghost use Rattle.ksv_memo_rules.specs.declared.rules.Outcome.TheVariants.{Answered};
 ghost use Rattle.ksv_nodes.specs.Exact.{node_exact};
 ghost use Rattle.ksv_nodes.specs.Turning.{Runs};
 ghost use Rattle.ksv_rule_meaning.specs.Described.{described};
@@ -12,19 +15,35 @@ ghost use Rattle.ksv_rule_meaning.specs.Meaning.{rule_of};
 use ksv_bytes::{Buffer, Use};
 use ksv_desc::Desc;
 use ksv_expr_value::Fault;
-use ksv_memo_rules::{Lent, Next, Replies, Rules};
-use ksv_nodes::{Given, Halt, Node, Turn};
+use ksv_memo_rules::{Folds, Lent, Next, Replies, Rules};
+use ksv_nodes::{Given, Halt, Head, Node, Turn};
 use ksv_places::NodePlaces;
 use std::alloc::{AllocError, Global};
 use std::marker::PhantomData;
 
 type Answer = Result<Given, Fault>;
 
-/// Code that runs the rule of each node of a file that a description describes.
+/// Code that runs the rule of each node of a file that a description describes, and finds nodes that can be kept by numbers alone.
 pub trait NodeRules {
+    /// Nodes that can be kept by numbers alone.
+    type Fold: Folds<Node, Given, Fault> + Drop;
+
     /// Runs a node's rule.
     fn rule(turn: &mut Turn, desc: &Desc, node: &Node) -> Result<Given, Halt>
         ensures { Runs (rule_of (plain_pieces desc.now) node.now) (λ given. given) turn.old turn.new result };
+
+    /// The nodes that can be kept by numbers alone once this one has this answer, if there are such.
+    fn fold(
+        alloc: Global,
+        desc: &Desc,
+        root: &Node,
+        given: &Given,
+    ) -> Result<Option<Self::Fold>, AllocError>
+        ensures { IfOk result (λ found. IfSome found (λ nodes. (Self.Fold.fold nodes).root ≡ root.now)) };
+
+    /// How many of such nodes there are over these bytes, if their root has this answer.
+    fn foldable(nodes: &Self::Fold, desc: &Desc, given: &Given, bytes: &Buffer) -> u32
+        ensures { (tells (on (described (plain_pieces desc.now)) bytes.now) [] (Self.Fold.fold nodes.now).root).outcome ≡ Answered (Ok given.now) → IsFold (on (described (plain_pieces desc.now)) bytes.now) (Self.Fold.fold nodes.now) result };
 }
 
 /// The rules of a description: what each node of a file that it describes asks and answers, run by the code of `N`.
@@ -81,6 +100,8 @@ impl<N: NodeRules> Rules for Described<N> {
 
     type Fault = Fault;
 
+    type Fold = N::Fold;
+
     ghost meaning = { λ rules. described (plain_pieces rules.desc) };
 
     #[inline(always)]
@@ -117,6 +138,24 @@ impl<N: NodeRules> Rules for Described<N> {
             Ok(given) => Ok(given.copy(alloc)?),
             Err(fault) => Err(fault.copy(alloc)?),
         })
+    }
+
+    #[inline(always)]
+    fn may_fold(&self, value: &Given) -> bool {
+        matches!(value, Given::Head(Head::List(_)))
+    }
+
+    fn fold(
+        &self,
+        alloc: Global,
+        root: &Node,
+        value: &Given,
+    ) -> Result<Option<N::Fold>, AllocError> {
+        N::fold(alloc, &self.desc, root, value)
+    }
+
+    fn foldable(&self, nodes: &N::Fold, value: &Given, bytes: &Buffer) -> u32 {
+        N::foldable(nodes, &self.desc, value, bytes)
     }
 
     ghost exact = { node_exact };

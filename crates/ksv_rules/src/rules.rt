@@ -1,4 +1,4 @@
-//! A node's rule, as code that an engine's rules run.
+//! A node's rule, as code that an engine's rules run, and the nodes that can be kept by numbers alone.
 #![tactic(auto, using(ksv_basics::proofs::Running::run_bind), unfolding(ksv_rule_meaning::specs::Meaning::meaning_of, ksv_rule_meaning::specs::Meaning::rule_of))]
 
 ghost use Rattle.ksv_desc.specs.Whole.{plain_pieces};
@@ -8,9 +8,12 @@ ghost use Rattle.ksv_rule_meaning.specs.Meaning.{rule_of};
 use crate::ends::{end_of, rest_of};
 use crate::heads::head_of;
 use crate::values::value_of;
+use ksv_bytes::Buffer;
 use ksv_desc::Desc;
+use ksv_folds::PlainList;
 use ksv_nodes::{Given, Halt, Node, NodeKind, Turn};
 use ksv_rule_meaning::NodeRules;
+use std::alloc::{AllocError, Global};
 
 /// A node's rule.
 #[inline(always)]
@@ -49,8 +52,23 @@ fn rule(turn: &mut Turn, desc: &Desc, node: &Node) -> Result<Given, Halt>
 pub struct DescriptionRules;
 
 impl NodeRules for DescriptionRules {
+    type Fold = PlainList;
+
     #[inline(always)]
     fn rule(turn: &mut Turn, desc: &Desc, node: &Node) -> Result<Given, Halt> {
         rule(turn, desc, node)
+    }
+
+    fn fold(
+        alloc: Global,
+        desc: &Desc,
+        root: &Node,
+        given: &Given,
+    ) -> Result<Option<PlainList>, AllocError> {
+        PlainList::of(alloc, desc, root, given)
+    }
+
+    fn foldable(nodes: &PlainList, desc: &Desc, given: &Given, bytes: &Buffer) -> u32 {
+        nodes.count(desc, given, bytes)
     }
 }

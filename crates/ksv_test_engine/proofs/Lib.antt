@@ -1,3 +1,4 @@
 pub mod Hashing
 pub mod Reading
 pub mod Totals
+pub mod Unfolded

@@ -16,6 +16,7 @@ use crate::samples::row::{Missing, Reply, RowNumber};
 use crate::samples::rows::Rows;
 use ksv_bytes::{Buffer, Use};
 use ksv_memo::{Answer, Engine, Lent, Next, Replies, Rules};
+use ksv_memo_rules::NoFold;
 use std::alloc::{AllocError, Global};
 use std::cell::Cell;
 use std::test::Fail;
@@ -51,6 +52,8 @@ impl Rules for Refusing {
 
     type Fault = Missing;
 
+    type Fold = NoFold<RowNumber, u32>;
+
     ghost meaning = { λ rules. rows_meaning rules.rows.rows.items };
 
     fn next(
@@ -80,6 +83,24 @@ impl Rules for Refusing {
             return Err(AllocError);
         }
         self.rows.copy_answer(alloc, answer)
+    }
+
+    fn may_fold(&self, _value: &u32) -> bool {
+        false
+    }
+
+    fn fold(
+        &self,
+        _alloc: Global,
+        _root: &RowNumber,
+        _value: &u32,
+    ) -> Result<Option<NoFold<RowNumber, u32>>, AllocError> {
+        Ok(None)
+    }
+
+    #[tactic(auto, using(crate::proofs::Unfolded::no_fold))]
+    fn foldable(&self, _nodes: &NoFold<RowNumber, u32>, _value: &u32, _bytes: &Buffer) -> u32 {
+        0
     }
 
     ghost exact = { same_if_equal };

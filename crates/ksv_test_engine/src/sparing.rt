@@ -16,7 +16,7 @@ use crate::samples::link::Link;
 use crate::samples::row::{Missing, Reply, copied};
 use ksv_bytes::{Buffer, Use};
 use ksv_memo::{Answer, Engine, Lent, Next, Replies, Rules};
-use ksv_memo_rules::Places;
+use ksv_memo_rules::{NoFold, Places};
 use std::alloc::{AllocError, Global};
 use std::test::Fail;
 
@@ -95,6 +95,8 @@ impl Rules for Leaves {
 
     type Fault = Missing;
 
+    type Fold = NoFold<Link, u32>;
+
     ghost meaning = { λ _. leaves_meaning };
 
     fn next(
@@ -119,6 +121,24 @@ impl Rules for Leaves {
         answer: Result<&u32, &Missing>,
     ) -> Result<Reply, AllocError> {
         Ok(copied(answer))
+    }
+
+    fn may_fold(&self, _value: &u32) -> bool {
+        false
+    }
+
+    fn fold(
+        &self,
+        _alloc: Global,
+        _root: &Link,
+        _value: &u32,
+    ) -> Result<Option<NoFold<Link, u32>>, AllocError> {
+        Ok(None)
+    }
+
+    #[tactic(auto, using(crate::proofs::Unfolded::no_fold))]
+    fn foldable(&self, _nodes: &NoFold<Link, u32>, _value: &u32, _bytes: &Buffer) -> u32 {
+        0
     }
 
     ghost exact = { same_if_equal };

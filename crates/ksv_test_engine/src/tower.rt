@@ -17,6 +17,7 @@ use crate::samples::link::Link;
 use crate::samples::row::{Missing, Reply, copied};
 use ksv_bytes::{Buffer, Change, Use};
 use ksv_memo::{Answer, Engine, Lent, Next, Replies, Rules};
+use ksv_memo_rules::NoFold;
 use std::alloc::{AllocError, Global};
 use std::test::Fail;
 
@@ -49,6 +50,8 @@ impl Rules for Tower {
 
     type Fault = Missing;
 
+    type Fold = NoFold<Link, u32>;
+
     ghost meaning = { λ _. tower_meaning };
 
     fn next(
@@ -75,6 +78,24 @@ impl Rules for Tower {
         answer: Result<&u32, &Missing>,
     ) -> Result<Reply, AllocError> {
         Ok(copied(answer))
+    }
+
+    fn may_fold(&self, _value: &u32) -> bool {
+        false
+    }
+
+    fn fold(
+        &self,
+        _alloc: Global,
+        _root: &Link,
+        _value: &u32,
+    ) -> Result<Option<NoFold<Link, u32>>, AllocError> {
+        Ok(None)
+    }
+
+    #[tactic(auto, using(crate::proofs::Unfolded::no_fold))]
+    fn foldable(&self, _nodes: &NoFold<Link, u32>, _value: &u32, _bytes: &Buffer) -> u32 {
+        0
     }
 
     ghost exact = { same_if_equal };

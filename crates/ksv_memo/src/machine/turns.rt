@@ -58,4 +58,14 @@ impl Turns {
             Some(turns) => Some(turns.saturating_add(1)),
         };
     }
+
+    /// So many more. The count stops at 2^64 - 1.
+    pub(crate) fn add_all(&mut self, more: u64)
+        ensures { self.new ≡ counted more self.old }
+    {
+        self.count = match self.count {
+            None => None,
+            Some(turns) => Some(turns.saturating_add(more)),
+        };
+    }
 }

@@ -7,7 +7,7 @@ use crate::samples::hashed::Hashed;
 use crate::samples::link::Link;
 use crate::samples::row::{Missing, Reply, copied};
 use ksv_bytes::{Buffer, Use};
-use ksv_memo_rules::{Lent, Next, Replies, Rules};
+use ksv_memo_rules::{Lent, Next, NoFold, Replies, Rules};
 use std::alloc::{AllocError, Global};
 
 /// A chain: link 0 answers the file's size, and each other link one more than the link before it. Each of them
@@ -46,6 +46,8 @@ impl Rules for Chain {
 
     type Fault = Missing;
 
+    type Fold = NoFold<Link, u32>;
+
     ghost meaning = { λ _. spec.chain_meaning };
 
     fn next(
@@ -71,6 +73,24 @@ impl Rules for Chain {
         answer: Result<&u32, &Missing>,
     ) -> Result<Reply, AllocError> {
         Ok(copied(answer))
+    }
+
+    fn may_fold(&self, _value: &u32) -> bool {
+        false
+    }
+
+    fn fold(
+        &self,
+        _alloc: Global,
+        _root: &Link,
+        _value: &u32,
+    ) -> Result<Option<NoFold<Link, u32>>, AllocError> {
+        Ok(None)
+    }
+
+    #[tactic(auto, using(crate::proofs::Unfolded::no_fold))]
+    fn foldable(&self, _nodes: &NoFold<Link, u32>, _value: &u32, _bytes: &Buffer) -> u32 {
+        0
     }
 
     ghost exact = { spec.same_if_equal };

@@ -8,7 +8,7 @@ ghost use Rattle.ksv_test_engine.specs.Rows as spec;
 use crate::samples::hashed::Hashed;
 use crate::samples::row::{Missing, Reply, Row, RowNumber, copied};
 use ksv_bytes::{Buffer, Use, Window};
-use ksv_memo_rules::{Lent, Next, Replies, Rules};
+use ksv_memo_rules::{Lent, Next, NoFold, Replies, Rules};
 use std::alloc::{AllocError, Global};
 
 /// Rows, each asked by its number.
@@ -150,6 +150,8 @@ impl Rules for Rows {
 
     type Fault = Missing;
 
+    type Fold = NoFold<RowNumber, u32>;
+
     ghost meaning = { λ rules. spec.rows_meaning rules.rows.items };
 
     fn next(
@@ -176,6 +178,24 @@ impl Rules for Rows {
         answer: Result<&u32, &Missing>,
     ) -> Result<Reply, AllocError> {
         Ok(copied(answer))
+    }
+
+    fn may_fold(&self, _value: &u32) -> bool {
+        false
+    }
+
+    fn fold(
+        &self,
+        _alloc: Global,
+        _root: &RowNumber,
+        _value: &u32,
+    ) -> Result<Option<NoFold<RowNumber, u32>>, AllocError> {
+        Ok(None)
+    }
+
+    #[tactic(auto, using(crate::proofs::Unfolded::no_fold))]
+    fn foldable(&self, _nodes: &NoFold<RowNumber, u32>, _value: &u32, _bytes: &Buffer) -> u32 {
+        0
     }
 
     ghost exact = { spec.same_if_equal };

@@ -1,8 +1,9 @@
-use Rattle.ksv_memo.proofs.Common.{rules, List, ℕ, Result, ◌∙◌, ap, sym, Need, Done, nodes}
+use Rattle.ksv_memo.proofs.Common.{rules, List, ℕ, Result, ◌∙◌, ap, sym, subst, Need, Done, IsRight, nodes}
+use Rattle.ksv_memo_rules.specs.Right.{counted}
 use Rattle.std.proofs.lemmas.Result.{IfOk-weaker, on_err_weaker}
 use Rattle.ksv_memo.proofs.Turns.{on_err_always}
-use Rattle.ksv_memo.proofs.Taking.{Asking, Turn, asking, circles, closes_left, closes_on, counts_first, ended, ends_known, goes_on, hears_or_opens, holds_first}
-use Rattle.ksv_memo.proofs.Taking.{left, left_same, opens_first, reached}
+use Rattle.ksv_memo.proofs.Taking.{Asking, Turn, asking, closes_left, closes_on, counts_first, ended, ends_known, goes_on, grown-ends, grown-goes, grown-same}
+use Rattle.ksv_memo.proofs.Taking.{holds_first, left, opens_first, reached, right_with}
 use Rattle.ksv_memo.proofs.machine.Machine.run.Given
 use Rattle.ksv_memo.proofs.machine.Machine.run.Goals.{In-Ok-Done, In-Ok-Need}
 use Rattle.ksv_memo.proofs.machine.Machine.run.Goals as goal
@@ -108,37 +109,47 @@ needs g c = record {
   same = c.in-Ok-Need.ensures.kept;
 }
 
--- it is kept, or is opened
+-- what is kept is right, so the table may grow
+pub grow-requires : goal.grow-requires
+grow-requires g c =
+    let before = c.loop-answer.self.table in
+    let right = right_with (asks g c.args.rules.now c.args.bytes.now) _ before.kept c.args.node before.opened c.loop-answer.invariant.holds in
+    record { right = subst (IsRight _) (sym c.in-Ok-Need.ensures.kept) right }
+
+-- the node is kept, or is opened
 pub loop-answer-smaller-in-Ok-None : goal.loop-answer-smaller-in-Ok-None
 loop-answer-smaller-in-Ok-None g c =
-    let q = asks g c.args.rules.now c.args.bytes.now in
     let t = needs g (goal.at.loop-answer-smaller-in-Ok-None g c).In-Ok-Need in
-    (goes_on q t _ _
-    (hears_or_opens q t.now.kept t.now.opened _ _ (reached q t) (rw c.in-Ok-None.field-0-is at c.in-Ok-None.ensures.ok))
-    c.in-Ok-Need.ensures.turns).smaller
+    let more = c.grow.ensures.grown in
+    (grown-goes (asks g c.args.rules.now c.args.bytes.now) t (nodes c.grow.new.self) more.calls more.opened more.grown _ _
+    (rw c.in-Ok-None.field-0-is at c.in-Ok-None.ensures.ok) (more.turns ∙ ap (counted more.calls) c.in-Ok-Need.ensures.turns)).smaller
 
 pub loop-answer-preserved-in-Ok-None : goal.loop-answer-preserved-in-Ok-None
 loop-answer-preserved-in-Ok-None g c =
-    let q = asks g c.args.rules.now c.args.bytes.now in
     let t = needs g (goal.at.loop-answer-preserved-in-Ok-None g c).In-Ok-Need in
-    let goes = goes_on q t _ _
-    (hears_or_opens q t.now.kept t.now.opened _ _ (reached q t) (rw c.in-Ok-None.field-0-is at c.in-Ok-None.ensures.ok))
-    c.in-Ok-Need.ensures.turns in
+    let more = c.grow.ensures.grown in
+    let goes = grown-goes (asks g c.args.rules.now c.args.bytes.now) t (nodes c.grow.new.self) more.calls more.opened more.grown _ _
+    (rw c.in-Ok-None.field-0-is at c.in-Ok-None.ensures.ok) (more.turns ∙ ap (counted more.calls) c.in-Ok-Need.ensures.turns) in
     record { holds = goes.holds; turns = goes.turns }
 
 -- a circle
 pub returns-in-Ok-Some : goal.returns-in-Ok-Some
 returns-in-Ok-Some g c =
-    let q = asks g c.args.rules.now c.args.bytes.now in
     let t = needs g (goal.at.returns-in-Ok-Some g c).In-Ok-Need in
-    let now = nodes c.ask.new.self in
-    let end = ended q t now _ _ (circles q t.now.kept t.now.opened _ _ _
-    (reached q t) (rw c.in-Ok-Some.field-0-is at c.in-Ok-Some.ensures.ok)) c.in-Ok-Need.ensures.turns in
+    let more = c.grow.ensures.grown in
+    let end = grown-ends (asks g c.args.rules.now c.args.bytes.now) t (nodes c.grow.new.self) more.calls more.opened more.grown _ _ _
+    (rw c.in-Ok-Some.field-0-is at c.in-Ok-Some.ensures.ok) (more.turns ∙ ap (counted more.calls) c.in-Ok-Need.ensures.turns) in
     record { outcome = end.outcome; right = end.right; kept = end.kept; left = search rules; turns = end.turns }
 
 -- memory was refused for its slot
-pub returns-in-Err-ask-clause-left : goal.returns-in-Err-ask-clause-left
-returns-in-Err-ask-clause-left g c =
-    let before = c.loop-answer.self.table in
-    left_same (asks g c.args.rules.now c.args.bytes.now) _ _ c.args.node before.opened _
-    c.loop-answer.invariant.holds (ap (λ t. t.kept) c.in-Err-ask.ensures.err ∙ c.in-Ok-Need.ensures.kept)
+pub returns-in-Err-ask : goal.returns-in-Err-ask
+returns-in-Err-ask g c =
+    let t = needs g (goal.at.returns-in-Err-ask g c).In-Ok-Need in
+    let more = c.grow.ensures.grown in
+    let may = grown-same (asks g c.args.rules.now c.args.bytes.now) t (nodes c.grow.new.self) more.calls more.opened more.grown _
+    c.in-Err-ask.ensures.err in
+    record { outcome = search rules; right = may.right; kept = search rules; left = may; turns = search rules }
+
+-- what the closed node has reached
+pub close-requires : goal.close-requires
+close-requires g c = reached (asks g c.args.rules.now c.args.bytes.now) (done g (goal.at.close-requires g c).In-Ok-Done)

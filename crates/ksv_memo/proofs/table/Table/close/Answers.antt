@@ -1,7 +1,9 @@
-use Rattle.ksv_memo.proofs.Common.{◌∙◌, ap, refl, sym, subst, length, slice_get_within, EndsWith, entries_of, opens_of, Closes, MayKeep, nodes}
+use Rattle.ksv_memo.proofs.Common.{◌∙◌, ap, refl, sym, subst, length, slice_get_within, EndsWith, IsKept, entries_of, opens_of, Closes, MayKeep, nodes}
 use Rattle.std.proofs.Common.{◌==◌}
-use Rattle.ksv_memo.proofs.Topping.{IsClosed, top, pops, closes-laid, closes-last, closes-more, hears-laid, may-keep, no-items, same-frames}
+use Rattle.ksv_memo.proofs.Laying.{All-drop}
+use Rattle.ksv_memo.proofs.Topping.{IsClosed, top, pops, closes-laid, closes-last, closes-more, hears-laid, may-keep, may-lose, no-items, same-frames}
 use Rattle.ksv_memo.proofs.Topping.{unchanged-laid, keep_part, kept_part, keep-asks, keep-out, keep-in}
+use Rattle.ksv_memo.specs.Nodes.{MayLose}
 use Rattle.ksv_memo.proofs.Turns.{on_err_always}
 use Rattle.ksv_memo.proofs.table.Table.close.Given
 use Rattle.ksv_memo.proofs.table.Table.close.Goals.{After-take_last}
@@ -39,15 +41,18 @@ closed g c =
     let ends = subst (EndsWith f) c.as_slice.ensures.value c.in-Some.ensures.some in
     let k = c.in_ok-keep_once.ensures.ok in
     record {
-      pops = pops _ _ _ _ _ _ _ c.self.invariant ends
-          (c.take_last.ensures f ends) c.set.ensures.slots;
-      is = c.slot_of.ensures;
       once = k.once;
       each = keep_part f.uses _ _ _ c.deref.ensures.value k.each;
-      in_asked = k.keeps.in_asked;
-      in_uses = k.keeps.in_uses;
-      kept = kept_part before.links c.keep_once.new.links f.slot f.asked _ _ _ _
-          c.deref-2.ensures.value refl k.keeps;
+      shut = record {
+        pops = pops _ _ _ _ _ _ _ c.self.invariant ends
+            (c.take_last.ensures f ends) c.set.ensures.slots;
+        is = c.slot_of.ensures;
+        asked = All-drop (IsKept before.slots.entries) f.asked before.frames.asked.items c.self.invariant.waits.asked;
+        in_asked = k.keeps.in_asked;
+        in_uses = k.keeps.in_uses;
+        kept = kept_part before.links c.keep_once.new.links f.slot f.asked _ _ _ _
+            c.deref-2.ensures.value refl k.keeps;
+      };
     }
 
 -- no node is below it
@@ -84,3 +89,10 @@ returns-in_err-hear-clause-err g c =
     on_err_always c.from_residual-in_err-hear.result
     (subst (λ v. MayKeep c.args.answer v.opened v.kept (entries_of c.set.new.self.entries c.keep_once.new.links)) c.self.view_is
     (may-keep c.self.inside.slots.entries (closed g (goal.at.returns-in_err-hear-clause-err g c).After-take_last)))
+
+pub returns-in_err-hear-clause-waiting : goal.returns-in_err-hear-clause-waiting
+returns-in_err-hear-clause-waiting g c =
+    on_err_always c.from_residual-in_err-hear.result
+    (subst (λ v. MayLose v.opened (opens_of c.set.new.self.entries c.hear.new.self)) c.self.view_is
+    (may-lose c.self.inside.slots.entries (closed g (goal.at.returns-in_err-hear-clause-waiting g c).After-take_last) c.hear.new.self
+    c.in_err-hear.ensures.err))

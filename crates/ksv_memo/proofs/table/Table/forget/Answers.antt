@@ -1,6 +1,6 @@
 use Rattle.ksv_memo.proofs.Common.{◌≤◌, ◌+◌, ◌-◌, length, ◌∙◌, ap, refl, arith, Frames}
 use Rattle.std.proofs.Common.{max}
-use Rattle.ksv_memo.proofs.Sweeping.{all_marks, entries, stays, marked, swept-links, gone-least, looks-most, looks-behind, kept-within, waits-in}
+use Rattle.ksv_memo.proofs.Sweeping.{swept, swept-links, kept-within, waits-in}
 use Rattle.ksv_memo.proofs.Resting.{no-frames, no-opens}
 use Rattle.ksv_memo.proofs.table.Table.forget.Goals as goal
 
@@ -45,26 +45,27 @@ returns-clause-opened g c =
 pub returns-clause-kept : goal.returns-clause-kept
 returns-clause-kept g c =
     let t = c.self.inside in
-    let ps = t.slots.entries in
-    let qs = c.empty_taken.new.slots.entries in
     let l = t.links in
     let m = c.forget.new.self in
     let n = c.empty_taken.new.links in
     let count = c.empty_taken.new.slots.looks in
-    let h = c.self.invariant.kept in
-    let f = c.forget.ensures.forgets in
-    let e = c.empty_taken.ensures in
     let from = t.slots.looks in
     let looked = c.max.result in
-    let few = gone-least _ _ _ _ _ _ _ _ h f e in
     let w = c.waiting-went.ensures in let x = c.looks_at-before.ensures in let y = c.looks_at-now.ensures in
     let most : looked ≤ max (n.looks + count - (l.looks + from)) (length m.waits) = omega arith in
-    rw (← c.self.view_is) (record {
-      marks = all_marks c.args.change ps qs l m n from count h f e;
-      entries = entries _ _ _ _ _ _ _ _ h f e _;
-      marked = marked _ _ _ _ _ _ _ _ h f e _;
-      stays = cc (stays _ _ _ _ _ _ _ _ h f e _);
-      least = omega arith;
-      most = looks-most _ _ _ _ _ _ _ _ h f e c.forget.ensures.vacant c.forget.ensures.most looked most;
-      behind = looks-behind _ _ _ _ _ _ _ _ h f e c.args.pages c.forget.ensures.vacant c.forget.ensures.behind looked most;
-    })
+    rw (← c.self.view_is) (swept _ _ _ _ _ _ _ _ c.self.invariant.kept c.forget.ensures.forgets c.empty_taken.ensures c.args.pages c.forget.ensures.vacant
+    c.forget.ensures.most c.forget.ensures.behind looked (omega arith) most looked (omega arith) (omega arith))
+
+pub returns-clause-room : goal.returns-clause-room
+returns-clause-room g c =
+    let t = c.self.inside in
+    let l = t.links in
+    let m = c.forget.new.self in
+    let n = c.empty_taken.new.links in
+    let count = c.empty_taken.new.slots.looks in
+    let from = t.slots.looks in
+    let looked = c.max.result in
+    let w = c.waiting-went.ensures in let x = c.looks_at-before.ensures in let y = c.looks_at-now.ensures in
+    let most : looked ≤ max (n.looks + count - (l.looks + from)) (length m.waits) = omega arith in
+    rw (← c.self.view_is) (swept _ _ _ _ _ _ _ _ c.self.invariant.kept c.forget.ensures.forgets c.empty_taken.ensures c.args.pages c.forget.ensures.vacant
+    c.forget.ensures.most c.forget.ensures.behind looked (omega arith) most (looked + 2) (omega arith) (omega arith))

@@ -1,5 +1,5 @@
-use Rattle.ksv_memo.proofs.Common.{on}
-use Rattle.ksv_memo.proofs.Topping.{called-laid}
+use Rattle.ksv_memo.proofs.Common.{◌∙◌, ap, nodes_in, on}
+use Rattle.ksv_memo.proofs.Topping.{called-laid, called-nodes}
 use Rattle.ksv_memo.proofs.table.Table.turn.Goals as goal
 
 -- there are more uses than before
@@ -8,3 +8,8 @@ invariant_of-self g c =
     let w = on (g.R.Rules.meaning c.args.rules.now) c.args.bytes.now in
     called-laid _ w _ _ _ c.run_last.result c.run_last.ensures.step
     c.run_last.ensures.refused c.run_last.ensures.frames c.run_last.ensures.asked c.self.invariant
+
+pub returns-clause-waiting : goal.returns-clause-waiting
+returns-clause-waiting g c =
+    called-nodes c.self.inside.slots.entries c.self.inside.frames c.run_last.new.frames c.run_last.ensures.frames c.run_last.ensures.asked
+    ∙ ap (λ v. nodes_in v.opened) c.self.view_is

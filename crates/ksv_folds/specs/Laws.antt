@@ -1,0 +1,40 @@
+-- The law of sequences: they are as they say.
+use Rattle.std.specs.Prelude.{◌≡◌, ℕ, suc, ◌+◌, ◌-◌, ◌*◌, ◌≤◌, List, length, Option, Some, None}
+use Rattle.ksv_desc.specs.Description.{Description}
+use Rattle.ksv_memo_rules.specs.Meaning.{on}
+use Rattle.ksv_nodes.specs.Rule.{head_node}
+use Rattle.ksv_rule_meaning.specs.Described.{described}
+use Rattle.ksv_list_laws.specs.Lists.{Layout, size_at}
+use Rattle.ksv_list_laws.specs.Nodes.{Listing, IsPlain}
+use Rattle.ksv_folds.specs.declared.part.Part.{Part}
+use Rattle.ksv_folds.specs.declared.plain_list.PlainList.{PlainList}
+use Rattle.ksv_memo_rules.specs.Folds.{IsFold}
+use Rattle.ksv_folds.specs.Parts.{part, edge}
+use Rattle.ksv_folds.specs.Sequence.{fold_of}
+
+-- a field of a layout is this one
+pub record IsField (y : Layout) (ps : List Part) (f : ℕ) : Type 0 where
+  pub name : (part ps f).name ≡ y.name f
+  pub member : (part ps f).member ≡ y.member f
+  pub bytes : ℕ
+  pub size : size_at y f ≡ Some bytes
+  pub edge : edge ps f + bytes ≡ edge ps (suc f)
+
+-- An element is laid out in so many bytes: as one field that has no node, or as these fields.
+abbrev pub IsElement : Layout → Option ℕ → ℕ → List Part → Type 0
+IsElement y None size ps = (y.last ≡ 0) × (length ps ≡ 0) × (size_at y 0 ≡ Some size)
+IsElement y (Some t) size ps = (length ps ≡ suc y.last) × ((f : ℕ) → f ≤ y.last → IsField y ps f) × (edge ps (length ps) ≡ size)
+
+-- These are the numbers of a list.
+pub record Describes (p : PlainList) (x : Listing) : Type 0 where
+  pub root : p.root ≡ head_node x.path
+  pub list : p.list ≡ x.list
+  pub origin : p.origin ≡ Some (record x.list.origin { case = None })
+  pub first : p.first ≡ x.first
+  pub kind : x.layout.type_number ≡ p.type_number
+  pub element : IsElement x.layout p.type_number p.size p.parts.items
+
+-- The nodes of the elements before the last whole one are as the sequence says.
+abbrev pub SequencesAreRight : Type 0
+SequencesAreRight = (p : PlainList) (d : Description) (bytes : List ℕ) (x : Listing) → IsPlain d bytes x → Describes p x → (count : ℕ) → count ≤ p.per * p.most
+    → count ≤ p.per * (x.count - 1) → IsFold (on (described d) bytes) (fold_of p) count

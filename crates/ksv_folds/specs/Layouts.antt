@@ -1,0 +1,111 @@
+-- What the code finds of the layout of a list's elements.
+use Rattle.std.specs.Prelude.{◌≡◌, ℕ, zero, suc, ◌+◌, ◌-◌, ◌*◌, ◌<◌, ◌≤◌, true, false, IfSome, List, length, Option, Some, None, unwrap_or, slice_get}
+use Rattle.ksv_desc.specs.Description.{Description, Field, MemberOfType, Attribute, Content, Always, Extent, ByItself, fields}
+use Rattle.ksv_desc.specs.Description as contents
+use Rattle.ksv_desc.specs.Pieces.{plain_kind}
+use Rattle.ksv_expr_tree.specs.Tree.{Arguments}
+use Rattle.ksv_expr_value.specs.Places.{at_byte}
+use Rattle.ksv_nodes.specs.declared.given.Given.{Given}
+use Rattle.ksv_nodes.specs.declared.given.Given.TheVariants as givens
+use Rattle.ksv_nodes.specs.declared.given.Head.TheVariants as heads
+use Rattle.ksv_nodes.specs.declared.given.List as lists
+use Rattle.ksv_nodes.specs.Reading.{end_in}
+use Rattle.ksv_nodes.specs.declared.node.NodeKind.TheVariants.{Head}
+use Rattle.ksv_rule_meaning.specs.Fields.{members_of, last_attribute, sought}
+use Rattle.ksv_rule_meaning.specs.Fields as meant
+use Rattle.ksv_list_laws.specs.Lists.{Layout, content_size, choice_size, is_alone, list_layout}
+use Rattle.ksv_folds.specs.declared.members.Sought.{Sought}
+use Rattle.ksv_folds.specs.declared.part.Part.{Part}
+use Rattle.ksv_folds.specs.declared.plain_list.PlainList.{PlainList}
+use Rattle.ksv_folds.specs.Laws.{IsElement}
+use Rattle.ksv_folds.specs.Parts.{part, edge}
+
+-- a member that was looked for
+abbrev pub plain_sought : Sought → meant.Sought
+plain_sought s = record { member = s.member; before = s.before; kind = plain_kind s.kind.now }
+
+-- A field is read once, without a condition, and takes always the bytes of its element from one to another.
+pub record IsRead (f : Field) (low to : ℕ) : Type 0 where
+  pub alone : is_alone f ≡ true
+  pub bytes : ℕ
+  pub some : 0 < bytes
+  pub size : choice_size f.choice ≡ Some bytes
+  pub edge : low + bytes ≡ to
+
+-- the attribute of a name, behind the one of another name, is this field
+pub record IsPart (ms : List MemberOfType) (before : Option ℕ) (name : ℕ) (p : Part) (low : ℕ) : Type 0 where
+  pub field : Field
+  pub found : sought name 0 None ms ≡ Some (record { member = p.member; before = before; kind = Attribute field })
+  pub named : p.name ≡ name
+  pub read : IsRead field low p.to
+
+-- the names of attributes, and the one before
+abbrev pub name_at : List ℕ → ℕ → ℕ
+name_at names f = unwrap_or (slice_get names f) 0
+
+abbrev pub name_before : List ℕ → ℕ → Option ℕ
+name_before names zero = None
+name_before names (suc f) = Some (name_at names f)
+
+-- each attribute is the field of its number
+abbrev pub AreParts : List MemberOfType → List ℕ → List Part → ℕ → Type 0
+AreParts ms names ps n = (f : ℕ) → f < n → IsPart ms (name_before names f) (name_at names f) (part ps f) (edge ps f)
+
+-- the attributes of a type are these fields
+pub record IsType (d : Description) (t : ℕ) (size : ℕ) (ps : List Part) : Type 0 where
+  pub count : length ps ≡ length (fields d t)
+  pub some : 0 < length ps
+  pub each : AreParts (members_of d t) (fields d t) ps (length ps)
+  pub ends : last_attribute None (members_of d t) ≡ Some (name_at (fields d t) (length ps - 1))
+  pub full : edge ps (length ps) ≡ size
+
+-- elements are objects of such a type, which end with their fields; or they have no fields, and take so many bytes
+pub record HasObjects (p : PlainList) (d : Description) (c : Content) (x : Extent) : Type 0 where
+  pub type_number : ℕ
+  pub given : Arguments
+  pub content : c ≡ contents.Object type_number given
+  pub extent : x ≡ ByItself
+  pub kind : p.type_number ≡ Some type_number
+  pub fields : IsType d type_number p.size p.parts.items
+
+pub record HasBytes (p : PlainList) (bytes : ℕ) : Type 0 where
+  pub kind : p.type_number ≡ None
+  pub parts : length p.parts.items ≡ 0
+  pub size : p.size ≡ bytes
+
+-- elements are read so
+abbrev pub IsContent : PlainList → Description → Content → Extent → Option ℕ → Type 0
+IsContent p d c x (Some size) = HasBytes p size
+IsContent p d c x None = HasObjects p d c x
+
+pub record HasContent (p : PlainList) (d : Description) (f : Field) : Type 0 where
+  pub content : Content
+  pub always : f.choice ≡ Always content
+  pub element : IsContent p d content f.extent (content_size content)
+
+-- the list is plain, and its elements are laid out so
+pub record HasLayout (p : PlainList) (d : Description) (g : lists.List) : Type 0 where
+  pub layout : Layout
+  pub laid : list_layout d g ≡ Some layout
+  pub kind : layout.type_number ≡ p.type_number
+  pub element : IsElement layout p.type_number p.size p.parts.items
+
+-- the numbers are of this list, and it begins at a byte and isn't empty
+pub record IsOf (p : PlainList) (g : lists.List) : Type 0 where
+  pub root : p.root.kind ≡ Head
+  pub list : p.list ≡ g
+  pub origin : p.origin ≡ Some (record g.origin { case = None })
+  pub begins : g.start ≡ at_byte p.first
+  pub filled : g.is_empty ≡ false
+
+-- so many elements are whole, where there is one
+pub record AreWhole (p : PlainList) (g : lists.List) (bytes : List ℕ) (n : ℕ) : Type 0 where
+  pub few : n ≤ p.most
+  pub counted : IfSome g.count (λ all. n ≤ all)
+  pub room : 0 < n → p.first + p.size * n ≤ end_in bytes g.stream.to
+  pub within : 0 < n → end_in bytes g.stream.to ≤ length bytes
+
+-- what gave the numbers is a plain list, and they are of it
+abbrev pub IsFound : PlainList → Description → Given → Type 0
+IsFound p d (givens.Head (heads.List g)) = IsOf p g × HasLayout p d g
+IsFound p d _ = ⊥

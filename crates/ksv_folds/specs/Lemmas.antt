@@ -1,0 +1,5 @@
+-- Lemmas that a type of the code cites; a reader may skip them.
+pub mod Parts
+pub mod Spots
+pub mod Found
+pub mod Once

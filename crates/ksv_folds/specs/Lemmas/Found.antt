@@ -1,0 +1,70 @@
+-- The nodes that have numbers, by their kinds and their steps.
+use Rattle.std.proofs.Common.{◌≡◌, ◌∙◌, ℕ, ◌<◌, ◌∷◌, length, Some, unwrap_or, option_map, sym, ap, arith}
+use Rattle.std.specs.Option.{option_and_then}
+use Rattle.ksv_expr_value.specs.Trail.{Trail, child, same_trail, trail_of-steps}
+use Rattle.ksv_expr_value.specs.declared.step.Step.TheVariants.{Name, Index}
+use Rattle.ksv_list_laws.proofs.Paths.{element_is, field_is}
+use Rattle.ksv_nodes.specs.declared.node.Node.{Node}
+use Rattle.ksv_folds.specs.Lemmas.Parts.{name_small}
+use Rattle.ksv_folds.specs.Lemmas.Spots.{spot_in_is, spot_is}
+use Rattle.ksv_folds.specs.Parts.{part}
+use Rattle.ksv_folds.specs.Sequence.{IsIn, IsAt, path_of, kind_of, node_of, steps_of, index, size_of, spot_at}
+use Rattle.ksv_folds.specs.declared.plain_list.PlainList.{PlainList}
+use Rattle.ksv_folds.specs.declared.spot.Spot.{Spot}
+use Rattle.ksv_folds.specs.declared.spot.Spot.TheVariants.{ElementHead, ElementEnd, FieldHead, FieldEnd}
+
+module _ (p : PlainList) where
+  abbrev Is : Spot → Type 0
+  Is s = IsIn (length p.parts.items) p.most s
+
+  -- there is a path, of these steps
+  abbrev Leads : Spot → Type 0
+  Leads s = (q : Trail) × (path_of p s ≡ Some q) × (q.upward ≡ steps_of p s)
+
+  element_leads : (i : ℕ) → i < p.most → (q : Trail) × (child p.root.path (Index i) ≡ Some q) × (q.upward ≡ Index i ∷ p.root.path.upward)
+  element_leads i low =
+      let few = p.few in
+      let q = element_is p.root.path i p.short (omega (arith, low, few)) in
+      (q.0, q.1, sym (trail_of-steps (Index i ∷ p.root.path.upward) q.0 q.1))
+
+  field_leads : (i f : ℕ) → i < p.most → f < length p.parts.items → Leads (FieldHead i f)
+  field_leads i f low less =
+      let q = element_leads i low in
+      let name = (part p.parts.items f).name in
+      let r = field_is p.root.path q.0 i name p.short q.1 (name_small p.size p.parts.items p.rising f less) in (
+        r.0,
+        ap (λ o. option_and_then (λ t. child t (Name name)) o) q.1 ∙ r.1,
+        sym (trail_of-steps (Name name ∷ q.0.upward) r.0 r.1) ∙ ap (λ u. Name name ∷ u) q.2,
+      )
+
+  leads : (s : Spot) → Is s → Leads s
+  leads (ElementHead i) low = element_leads i low
+  leads (ElementEnd i) low = element_leads i low
+  leads (FieldHead i f) low = field_leads i f low.0 low.1
+  leads (FieldEnd i f) low = field_leads i f low.0 low.1
+
+  -- the node of a path
+  node_is : (s : Spot) (q : Trail) → path_of p s ≡ Some q → node_of p s ≡ record { kind = kind_of s; path = q }
+  node_is s q e = ap (λ o. unwrap_or (option_map (λ t. record { kind = kind_of s; path = t }) o) p.root) e
+
+  -- a node that has these steps is this one
+  pub at_node : (n : Node) (s : Spot) → IsAt p n s → n ≡ node_of p s
+  at_node n s h =
+      let q = leads s h.there in
+      let path : n.path ≡ q.0 = same_trail n.path q.0 (h.steps ∙ sym q.2) in
+      let same : n ≡ record { kind = kind_of s; path = q.0 } = λ i. record { kind = h.kind i; path = path i } in
+      same ∙ sym (node_is s q.0 q.1)
+
+  pub node_at : (n : Node) (s : Spot) → Is s → n ≡ node_of p s → IsAt p n s
+  node_at n s low e =
+      let q = leads s low in
+      let same = e ∙ node_is s q.0 q.1 in
+      record { there = low; kind = ap (λ (m : Node). m.kind) same; steps = ap (λ (m : Node). m.path.upward) same ∙ q.2 }
+
+  -- ---- by numbers
+
+  pub node_index : (n : Node) (s : Spot) → IsAt p n s → n ≡ node_of p (spot_at p (index p.per s))
+  node_index n s h = at_node n s h ∙ ap (node_of p) (sym (spot_is (length p.parts.items) p.per p.width p.most s h.there))
+
+  pub numbered : (n : Node) (j : ℕ) → j < size_of p → n ≡ node_of p (spot_at p j) → IsAt p n (spot_at p j)
+  numbered n j low e = node_at n (spot_at p j) (spot_in_is (length p.parts.items) p.per p.width p.most j low) e

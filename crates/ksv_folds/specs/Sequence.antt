@@ -1,0 +1,203 @@
+-- The sequence of a plain list whose elements are of one size. Each element has its head, the head and the end of each of its fields, and its end, in this
+-- order. What is kept of a node follows from the numbers of the list.
+use Rattle.std.specs.Prelude.{◌≡◌, ℕ, zero, suc, ◌+◌, ◌-◌, ◌*◌, ◌/◌, ◌%◌, ◌==◌, ◌<◌, Bool, false, ◌&&◌, not, if◌then◌else◌, length, List, [], ◌∷◌, Option}
+use Rattle.std.specs.Prelude.{Some, None, Result, Ok, is_some, unwrap_or}
+use Rattle.std.specs.Option.{option_map, option_and_then}
+use Rattle.ksv_bytes.specs.declared.uses.Use.{Use}
+use Rattle.ksv_bytes.specs.declared.uses.Use.TheVariants.{Reach}
+use Rattle.ksv_expr_value.specs.Places.{at_byte}
+use Rattle.ksv_expr_value.specs.Trail.{Trail, child}
+use Rattle.ksv_expr_value.specs.declared.fault.Fault.{Fault}
+use Rattle.ksv_expr_value.specs.declared.step.Step.{Step}
+use Rattle.ksv_expr_value.specs.declared.step.Step.TheVariants.{Name, Index}
+use Rattle.ksv_memo_rules.specs.Entry.{Entry}
+use Rattle.ksv_nodes.specs.declared.given.Given.{Given}
+use Rattle.ksv_nodes.specs.declared.given.Given.TheVariants as givens
+use Rattle.ksv_nodes.specs.declared.given.Head.TheVariants as heads
+use Rattle.ksv_nodes.specs.declared.given.ObjectEnd.TheVariants.{ByFields}
+use Rattle.ksv_nodes.specs.declared.given.Origin.{Origin}
+use Rattle.ksv_nodes.specs.declared.node.Node.{Node}
+use Rattle.ksv_nodes.specs.declared.node.NodeKind.{NodeKind}
+use Rattle.ksv_nodes.specs.declared.node.NodeKind.TheVariants.{Head, End, Value, Rest}
+use Rattle.ksv_folds.specs.declared.plain_list.PlainList.{PlainList}
+use Rattle.ksv_folds.specs.declared.spot.Spot.{Spot}
+use Rattle.ksv_folds.specs.declared.spot.Spot.TheVariants.{ElementHead, ElementEnd, FieldHead, FieldEnd}
+use Rattle.ksv_memo_rules.specs.Folds.{Fold}
+use Rattle.ksv_folds.specs.Parts.{part, edge}
+use Rattle.ksv_folds.specs.declared.part.Part.{Part}
+
+-- ---- which node
+
+-- the head or the end of the field f
+abbrev pub field_spot : ℕ → ℕ → ℕ → Spot
+field_spot i f zero = FieldHead i f
+field_spot i f (suc half) = FieldEnd i f
+
+-- the node r of the element i, where each element has so many
+abbrev pub spot_in : ℕ → ℕ → ℕ → Spot
+spot_in per i r = if r == 0 then ElementHead i else if r + 1 == per then ElementEnd i else field_spot i ((r - 1) / 2) ((r - 1) % 2)
+
+abbrev pub spot_at : PlainList → ℕ → Spot
+spot_at p j = spot_in p.per (j / p.per) (j % p.per)
+
+-- it is of one of the first elements, and of one of its fields
+abbrev pub IsIn : ℕ → ℕ → Spot → Type 0
+IsIn k n (ElementHead i) = i < n
+IsIn k n (ElementEnd i) = i < n
+IsIn k n (FieldHead i f) = (i < n) × (f < k)
+IsIn k n (FieldEnd i f) = (i < n) × (f < k)
+
+-- ---- the nodes
+
+abbrev pub field_path : PlainList → ℕ → ℕ → Option Trail
+field_path p i f = option_and_then (λ q. child q (Name (part p.parts.items f).name)) (child p.root.path (Index i))
+
+abbrev pub path_of : PlainList → Spot → Option Trail
+path_of p (ElementHead i) = child p.root.path (Index i)
+path_of p (ElementEnd i) = child p.root.path (Index i)
+path_of p (FieldHead i f) = field_path p i f
+path_of p (FieldEnd i f) = field_path p i f
+
+abbrev pub kind_of : Spot → NodeKind
+kind_of (ElementHead i) = Head
+kind_of (ElementEnd i) = End
+kind_of (FieldHead i f) = Head
+kind_of (FieldEnd i f) = End
+
+-- what there is no path to is the list's head
+abbrev pub node_of : PlainList → Spot → Node
+node_of p s = unwrap_or (option_map (λ q. record { kind = kind_of s; path = q }) (path_of p s)) p.root
+
+-- the steps of its path, from the last to the first
+abbrev pub steps_of : PlainList → Spot → List Step
+steps_of p (ElementHead i) = Index i ∷ p.root.path.upward
+steps_of p (ElementEnd i) = Index i ∷ p.root.path.upward
+steps_of p (FieldHead i f) = Name (part p.parts.items f).name ∷ (Index i ∷ p.root.path.upward)
+steps_of p (FieldEnd i f) = Name (part p.parts.items f).name ∷ (Index i ∷ p.root.path.upward)
+
+-- a node is of one of the elements that have numbers, and is this one, by its kind and its steps
+pub record IsAt (p : PlainList) (n : Node) (s : Spot) : Type 0 where
+  pub there : IsIn (length p.parts.items) p.most s
+  pub kind : n.kind ≡ kind_of s
+  pub steps : n.path.upward ≡ steps_of p s
+
+-- heads and ends have numbers
+abbrev pub element_spot : NodeKind → ℕ → Option Spot
+element_spot Head i = Some (ElementHead i)
+element_spot End i = Some (ElementEnd i)
+element_spot Value i = None
+element_spot Rest i = None
+
+abbrev pub member_spot : NodeKind → ℕ → ℕ → Option Spot
+member_spot Head i f = Some (FieldHead i f)
+member_spot End i f = Some (FieldEnd i f)
+member_spot Value i f = None
+member_spot Rest i f = None
+
+-- the number of a node, where each element has so many
+abbrev pub index : ℕ → Spot → ℕ
+index per (ElementHead i) = per * i
+index per (ElementEnd i) = per * i + (per - 1)
+index per (FieldHead i f) = per * i + (2 * f + 1)
+index per (FieldEnd i f) = per * i + (2 * f + 2)
+
+-- ---- what they answer
+
+-- where an element begins, and where a field of it does
+abbrev pub start_of : PlainList → ℕ → ℕ
+start_of p i = p.first + p.size * i
+
+abbrev pub edge_of : PlainList → ℕ → ℕ → ℕ
+edge_of p i f = start_of p i + edge p.parts.items f
+
+-- the bytes from one to another
+abbrev pub leaf : Origin → ℕ → ℕ → Given
+leaf origin a z = givens.Head (heads.Leaf (record { origin = origin; from = at_byte a; to = at_byte z; end = at_byte z }))
+
+abbrev pub element_answer : PlainList → Option ℕ → ℕ → Given
+element_answer p None i = leaf (record p.list.origin { case = None }) (start_of p i) (start_of p (suc i))
+element_answer p (Some t) i =
+    givens.Head (heads.Object (record { origin = p.origin; type_number = t; stream = p.list.stream; start = at_byte (start_of p i); ending = ByFields }))
+
+abbrev pub field_origin : PlainList → ℕ → Origin
+field_origin p f = record {
+  member = record { type_number = unwrap_or p.type_number 0; member = (part p.parts.items f).member };
+  case = None;
+  home = p.list.stream;
+}
+
+abbrev pub answer_of : PlainList → Spot → Given
+answer_of p (ElementHead i) = element_answer p p.type_number i
+answer_of p (ElementEnd i) = givens.End (at_byte (start_of p (suc i))) false
+answer_of p (FieldHead i f) = leaf (field_origin p f) (edge_of p i f) (edge_of p i (suc f))
+answer_of p (FieldEnd i f) = givens.End (at_byte (edge_of p i (suc f))) false
+
+-- ---- what they use
+
+-- a list without a count that goes on to the file's end: whether an element is the last one depends on the byte behind it
+abbrev pub is_open : PlainList → Bool
+is_open p = not (is_some p.list.count) && not (is_some p.list.stream.to)
+
+-- the place up to which the file must go, where an element ends and isn't the last
+abbrev pub end_reach : PlainList → ℕ → ℕ
+end_reach p z = if is_open p then z + 1 else z
+
+-- an object's head reads nothing: before it are the elements before it
+abbrev pub prior_reach : PlainList → ℕ → ℕ
+prior_reach p zero = 0
+prior_reach p (suc i) = end_reach p (start_of p (suc i))
+
+abbrev pub head_reach : PlainList → List Part → ℕ → ℕ
+head_reach p [] i = start_of p (suc i)
+head_reach p (_ ∷ _) i = prior_reach p i
+
+-- the farthest place to which a node reads; 0 if to none
+abbrev pub reach_of : PlainList → Spot → ℕ
+reach_of p (ElementHead i) = head_reach p p.parts.items i
+reach_of p (ElementEnd i) = end_reach p (start_of p (suc i))
+reach_of p (FieldHead i f) = edge_of p i (suc f)
+reach_of p (FieldEnd i f) = edge_of p i (suc f)
+
+abbrev pub uses_of : ℕ → List Use
+uses_of z = if z == 0 then [] else Reach z ∷ []
+
+-- ---- what they take
+
+-- the nodes that are asked: the list and the end of the element before; of a field's head the element and the end of the field before; of a field's end
+-- its head; and of an element's end its head, the list, and its last field
+abbrev pub asked_before : ℕ → ℕ
+asked_before zero = 0
+asked_before (suc i) = 1
+
+abbrev pub last_asked : List Part → ℕ
+last_asked [] = 1
+last_asked (_ ∷ _) = 2
+
+abbrev pub asks_of : PlainList → Spot → ℕ
+asks_of p (ElementHead i) = 1 + asked_before i
+asks_of p (ElementEnd i) = 1 + last_asked p.parts.items
+asks_of p (FieldHead i f) = 1 + asked_before f
+asks_of p (FieldEnd i f) = 1
+
+-- the calls of all nodes before one, where each element has so many fields
+abbrev pub calls_before : ℕ → Spot → ℕ
+calls_before k (ElementHead i) = (5 * k + 6) * i - asked_before i
+calls_before k (ElementEnd i) = (5 * k + 6) * i + (2 + (5 * k - asked_before k))
+calls_before k (FieldHead i f) = (5 * k + 6) * i + (2 + (5 * f - asked_before f))
+calls_before k (FieldEnd i f) = (5 * k + 6) * i + (4 + 5 * f)
+
+-- ---- the sequence
+
+abbrev pub entry_of : PlainList → Spot → Entry Node (Result Given Fault)
+entry_of p s = record { node = node_of p s; answer = Ok (answer_of p s); asked = p.root ∷ []; uses = uses_of (reach_of p s) }
+
+abbrev pub size_of : PlainList → ℕ
+size_of p = p.per * p.most
+
+abbrev pub fold_of : PlainList → Fold Node (Result Given Fault)
+fold_of p = record {
+  root = p.root;
+  size = size_of p;
+  entry = λ j. entry_of p (spot_at p j);
+  calls = λ j. asks_of p (spot_at p j) + 1;
+}

@@ -1,0 +1,99 @@
+//! How many nodes the sequence has over some bytes.
+#![tactic(auto)]
+
+ghost use Rattle.std.specs.Prelude.{◌≡◌, ◌+◌, ◌*◌, ◌<◌, ◌≤◌, true, [], Ok, IfSome};
+ghost use Rattle.ksv_desc.specs.Whole.{plain_pieces};
+ghost use Rattle.ksv_memo_rules.specs.Evaluation.{tells};
+ghost use Rattle.ksv_memo_rules.specs.Meaning.{on};
+ghost use Rattle.ksv_memo_rules.specs.declared.rules.Outcome.TheVariants.{Answered};
+ghost use Rattle.ksv_nodes.specs.Reading.{end_in};
+ghost use Rattle.ksv_nodes.specs.declared.given.Given.TheVariants as givens;
+ghost use Rattle.ksv_nodes.specs.declared.given.Head.TheVariants as heads;
+ghost use Rattle.ksv_rule_meaning.specs.Described.{described};
+ghost use Rattle.ksv_memo_rules.specs.Folds.{IsFold};
+ghost use Rattle.ksv_folds.specs.Layouts.{IsOf, AreWhole};
+ghost use Rattle.ksv_folds.specs.Sequence.{fold_of};
+
+use crate::plain_list::PlainList;
+use crate::same::{is_head, same_list, same_object};
+use ksv_bytes::Buffer;
+use ksv_desc::Desc;
+use ksv_expr_value::{Place, StreamEnd};
+use ksv_nodes::{Given, Head, List};
+
+/// The number of the byte where a stream ends.
+fn end_of(to: StreamEnd, bytes: &Buffer) -> usize
+    ensures { result ≡ end_in bytes.now to }
+{
+    match to.get() {
+        None => bytes.len(),
+        Some(end) => end as usize,
+    }
+}
+
+impl PlainList {
+    /// Whether the numbers are of this list, which begins at a byte and isn't empty.
+    pub(crate) fn is_of(&self, list: &List) -> bool
+        ensures { result ≡ true → IsOf self.now list.now }
+    {
+        is_head(self.root.kind)
+            && same_list(&self.list, list)
+            && same_object(self.origin, list.origin)
+            && list.start.is_same(Place::at_byte(self.first))
+            && !list.is_empty
+    }
+
+    /// How many elements there are at most.
+    fn at_most(&self, list: &List) -> u32
+        ensures most { result ≤ self.now.most }
+        ensures counted { IfSome list.now.count (λ all. result ≤ all) }
+    {
+        match list.count.get() {
+            None => self.most,
+            Some(count) => count.min(self.most),
+        }
+    }
+
+    /// How many elements are whole.
+    fn whole_elements(&self, list: &List, bytes: &Buffer) -> u32
+        ensures { AreWhole self.now list.now bytes.now result }
+    {
+        let length = bytes.len();
+        let end = end_of(list.stream.to, bytes);
+        let first = self.first as usize;
+        if length < end || end < first {
+            return 0;
+        }
+        let most = self.at_most(list);
+        let room = (end - first) / self.size as usize;
+        if room < most as usize {
+            room as u32
+        } else {
+            most
+        }
+    }
+
+    /// How many nodes the sequence has over these bytes, where the list's head still gives this list.
+    fn count_in(&self, desc: &Desc, list: &List, bytes: &Buffer) -> u32
+        ensures { (tells (on (described (plain_pieces desc.now)) bytes.now) [] (fold_of self.now).root).outcome ≡ Answered (Ok (givens.Head (heads.List list.now))) → IsFold (on (described (plain_pieces desc.now)) bytes.now) (fold_of self.now) result }
+    {
+        if !self.is_of(list) || !self.has_layout(desc, list) {
+            return 0;
+        }
+        let whole = self.whole_elements(list, bytes);
+        if whole == 0 {
+            return 0;
+        }
+        self.per * (whole - 1)
+    }
+
+    /// How many nodes the sequence has over these bytes, where the list's head still gives this.
+    pub fn count(&self, desc: &Desc, given: &Given, bytes: &Buffer) -> u32
+        ensures { (tells (on (described (plain_pieces desc.now)) bytes.now) [] (fold_of self.now).root).outcome ≡ Answered (Ok given.now) → IsFold (on (described (plain_pieces desc.now)) bytes.now) (fold_of self.now) result }
+    {
+        match given {
+            Given::Head(Head::List(list)) => self.count_in(desc, list, bytes),
+            _ => 0,
+        }
+    }
+}

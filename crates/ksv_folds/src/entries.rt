@@ -1,0 +1,150 @@
+//! What a node answers, and how far it reads.
+#![tactic(auto)]
+
+ghost use Rattle.std.specs.Prelude.{◌≡◌, ◌+◌, ◌<◌, ◌≤◌, suc, length};
+ghost use Rattle.ksv_expr_value.specs.Places.{end_limit};
+ghost use Rattle.ksv_folds.specs.Sequence.{IsIn, leaf, element_answer, field_origin, answer_of, is_open, start_of, end_reach, prior_reach, head_reach, reach_of};
+
+use crate::plain_list::PlainList;
+use crate::spot::Spot;
+use ksv_expr_value::Place;
+use ksv_nodes::{CaseNumber, Given, Head, Leaf, MemberRef, Object, ObjectEnd, Origin};
+
+/// The bytes from one to another.
+fn leaf(origin: Origin, from: u32, to: u32) -> Given
+    requires from { from ≤ end_limit }
+    requires to { to ≤ end_limit }
+    ensures { result ≡ leaf origin from to }
+{
+    let end = Place::at_byte(to);
+    Given::Head(Head::Leaf(Leaf {
+        origin,
+        from: Place::at_byte(from),
+        to: end,
+        end,
+    }))
+}
+
+impl PlainList {
+    /// What an element's head answers.
+    fn element_answer(&self, element: u32) -> Given
+        requires { element < self.now.most }
+        ensures { result ≡ element_answer self.now self.now.type_number element }
+    {
+        let from = self.start(element);
+        match self.type_number {
+            None => {
+                let origin = Origin {
+                    member: self.list.origin.member,
+                    case: CaseNumber::none(),
+                    home: self.list.origin.home,
+                };
+                leaf(origin, from, self.start(element + 1))
+            }
+            Some(type_number) => Given::Head(Head::Object(Object {
+                origin: self.origin,
+                type_number,
+                stream: self.list.stream,
+                start: Place::at_byte(from),
+                ending: ObjectEnd::ByFields,
+            })),
+        }
+    }
+
+    /// How a field is read.
+    fn field_origin(&self, field: u32) -> Origin
+        ensures { result ≡ field_origin self.now field }
+    {
+        Origin {
+            member: MemberRef {
+                type_number: self.type_number.unwrap_or(0),
+                member: self.part(field).member,
+            },
+            case: CaseNumber::none(),
+            home: self.list.stream,
+        }
+    }
+
+    /// What a field's head answers.
+    fn field_answer(&self, element: u32, field: u32) -> Given
+        requires element { element < self.now.most }
+        requires field { field < length self.now.parts.items }
+        ensures { result ≡ answer_of self.now (Spot.FieldHead element field) }
+    {
+        let from = self.edge_at(element, field);
+        let to = self.edge_at(element, field + 1);
+        leaf(self.field_origin(field), from, to)
+    }
+
+    /// What a node answers.
+    pub(crate) fn answer_of(&self, spot: Spot) -> Given
+        requires { IsIn (length self.now.parts.items) self.now.most spot }
+        ensures { result ≡ answer_of self.now spot }
+    {
+        let to = match spot {
+            Spot::ElementHead(element) => return self.element_answer(element),
+            Spot::FieldHead(element, field) => return self.field_answer(element, field),
+            Spot::ElementEnd(element) => self.start(element + 1),
+            Spot::FieldEnd(element, field) => self.edge_at(element, field + 1),
+        };
+        Given::End {
+            place: Place::at_byte(to),
+            last: false,
+        }
+    }
+
+    // ---- uses
+
+    /// Whether an element is the last one depends on the byte behind it.
+    fn is_open(&self) -> bool
+        ensures { result ≡ is_open self.now }
+    {
+        self.list.count.get().is_none() && self.list.stream.to.get().is_none()
+    }
+
+    /// How far the file must go, where an element ends and isn't the last.
+    fn end_reach(&self, place: u32) -> u32
+        requires { place ≤ end_limit }
+        ensures { result ≡ end_reach self.now place }
+    {
+        if self.is_open() { place + 1 } else { place }
+    }
+
+    /// How far the head of an object reads.
+    fn prior_reach(&self, element: u32) -> u32
+        requires { element ≤ self.now.most }
+        ensures { result ≡ prior_reach self.now element }
+    {
+        if element == 0 {
+            0
+        } else {
+            self.end_reach(self.start(element))
+        }
+    }
+
+    /// How far the head of an element reads.
+    fn head_reach(&self, element: u32) -> u32
+        requires { element < self.now.most }
+        ensures { result ≡ head_reach self.now self.now.parts.items element }
+    {
+        if self.parts.is_empty() {
+            self.start(element + 1)
+        } else {
+            self.prior_reach(element)
+        }
+    }
+
+    /// The farthest place to which a node reads; 0 if to none.
+    pub(crate) fn reach_of(&self, spot: Spot) -> u32
+        requires { IsIn (length self.now.parts.items) self.now.most spot }
+        ensures { result ≡ reach_of self.now spot }
+    {
+        match spot {
+            Spot::ElementHead(element) => self.head_reach(element),
+            Spot::ElementEnd(element) => self.end_reach(self.start(element + 1)),
+            Spot::FieldHead(element, field) | Spot::FieldEnd(element, field) => {
+                self.edge_at(element, field + 1)
+            }
+        }
+    }
+}

@@ -1,0 +1,88 @@
+//! Which node of an element a node is, and its number.
+#![tactic(auto)]
+
+ghost use Rattle.std.specs.Prelude.{◌≡◌, ◌<◌, ℕ, length, IfSome, IfNone};
+ghost use Rattle.ksv_folds.specs.Parts.{part};
+ghost use Rattle.ksv_folds.specs.Sequence.{IsIn, IsAt, element_spot, member_spot, index, size_of};
+ghost use Rattle.ksv_folds.specs.declared.spot.Spot.{Spot};
+
+use crate::plain_list::PlainList;
+use crate::spot::Spot;
+use crate::tail::{Tail, tail_of};
+use ksv_nodes::{Node, NodeKind};
+
+/// The head or the end of an element.
+fn element_spot(kind: NodeKind, element: u32) -> Option<Spot>
+    ensures { result ≡ element_spot kind element }
+{
+    match kind {
+        NodeKind::Head => Some(Spot::ElementHead(element)),
+        NodeKind::End => Some(Spot::ElementEnd(element)),
+        NodeKind::Value | NodeKind::Rest => None,
+    }
+}
+
+/// The head or the end of a field.
+fn member_spot(kind: NodeKind, element: u32, field: u32) -> Option<Spot>
+    ensures { result ≡ member_spot kind element field }
+{
+    match kind {
+        NodeKind::Head => Some(Spot::FieldHead(element, field)),
+        NodeKind::End => Some(Spot::FieldEnd(element, field)),
+        NodeKind::Value | NodeKind::Rest => None,
+    }
+}
+
+impl PlainList {
+    /// The number of the first field of a name.
+    fn field_named(&self, name: u32) -> Option<u32>
+        ensures some { IfSome result (λ f. (f < length self.now.parts.items) × ((part self.now.parts.items f).name ≡ name)) }
+        ensures none { IfNone result ((f : ℕ) → f < length self.now.parts.items → (part self.now.parts.items f).name ≡ name → ⊥) }
+    {
+        let mut field = 0;
+        for part in &self.parts {
+            if part.name == name {
+                return Some(field);
+            }
+            field += 1;
+        }
+        None
+    }
+
+    /// Which node this is.
+    pub(crate) fn spot_for(&self, node: &Node) -> Option<Spot>
+        ensures some { IfSome result (IsAt self.now node.now) }
+        ensures none { IfNone result ((s : Spot) → IsAt self.now node.now s → ⊥) }
+    {
+        match tail_of(&node.path, &self.root.path) {
+            Tail::Other => None,
+            Tail::Element(element) => {
+                if element >= self.most {
+                    return None;
+                }
+                element_spot(node.kind, element)
+            }
+            Tail::Member(element, name) => {
+                if element >= self.most {
+                    return None;
+                }
+                let field = self.field_named(name)?;
+                member_spot(node.kind, element, field)
+            }
+        }
+    }
+
+    /// The number of a node of an element.
+    pub(crate) fn index(&self, spot: Spot) -> u32
+        requires { IsIn (length self.now.parts.items) self.now.most spot }
+        ensures value { result ≡ index self.now.per spot }
+        ensures small { result < size_of self.now }
+    {
+        match spot {
+            Spot::ElementHead(element) => self.per * element,
+            Spot::ElementEnd(element) => self.per * element + (self.per - 1),
+            Spot::FieldHead(element, field) => self.per * element + (2 * field + 1),
+            Spot::FieldEnd(element, field) => self.per * element + (2 * field + 2),
+        }
+    }
+}

@@ -1,0 +1,90 @@
+//! The nodes of a plain list by numbers alone, where its elements are of one size.
+//!
+//! A [`PlainList`] holds a few numbers of a list: where it begins, the size of an element, and the fields. From these follow the
+//! nodes of all elements in order, and what each of them answers, uses and takes. So an engine could hold how many of them it
+//! keeps, in place of a slot for each: it implements [`ksv_memo_rules::Folds`]. ksv_rules uses it.
+//!
+//! In
+//!
+//! ```yaml
+//! meta: {id: a}
+//! seq:
+//!   - {id: points, type: point, repeat: eos}
+//! types:
+//!   point:
+//!     seq:
+//!       - {id: x, type: u1}
+//!       - {id: y, type: u1}
+//! ```
+//!
+//! an element has six nodes: its head, the head and the end of `x`, those of `y`, and its end. In the file `01 02 03 04 05 06` the
+//! end of the second point has the number 11, and the sequence has the nodes up to that one: of the last point no node is in it.
+//!
+//! To prove the crate:
+//!
+//! ```sh
+//! cd crates/ksv_folds && rt check
+//! ```
+//!
+//! Modules:
+//!
+//! - `calls`: the calls of all nodes before one
+//! - `counting`: how many nodes the sequence has over some bytes
+//! - `entries`: what a node answers, and how far it reads
+//! - `finding`: which node of an element a node is, and its number
+//! - `folds`: the nodes, for an engine that keeps them by numbers alone
+//! - `laws`: the law, as a contract
+//! - `layout`: whether the description says what a list's numbers say
+//! - `leaving`: which nodes read no farther than to a place
+//! - `making`: finds the numbers of a list
+//! - `members`: the members of a type
+//! - `numbers`: which node a number is of, and where elements and fields are
+//! - `part`: the fields of an element
+//! - `plain_list`: the numbers of a list
+//! - `same`: whether two lists are the same
+//! - `spot`: which node of an element
+//! - `tail`: paths of elements and of their members
+//!
+//! Definitions (`specs/`):
+//!
+//! - `Laws`: the law's statement
+//! - `Layouts`: what the code finds of the layout of a list's elements
+//! - `Lemmas`: lemmas that a reader may skip: each node comes once; parts, spots, and what is found
+//! - `Parts`: the fields of an element, by numbers
+//! - `Sequence`: the sequence of a plain list
+//! - `Tails`: what a path is to a list
+//!
+//! Lemmas (`proofs/`):
+//!
+//! - `Adding`: the calls of the nodes of a sequence, added up
+//! - `Asked`: what nodes ask, by their numbers
+//! - `Counted`: the nodes before the last whole element are those that are counted
+//! - `Laid`: where elements and fields are, by the numbers of the list
+//! - `Most`: how many elements may have numbers
+//! - `Plain`: what the code found is a plain list's layout
+//! - `Reaches`: nodes read farther and farther
+//! - `Right`: the sequence of a plain list is as it says
+//! - `Rooms`: where elements and fields are in the file
+//! - `Steps`: equal steps are the same, and what the steps behind those of a list say
+//! - `Told`: what the nodes of a plain list are, answer and use, by the numbers of the list
+#![tactic(auto)]
+
+mod calls;
+mod counting;
+mod entries;
+mod finding;
+mod folds;
+mod laws;
+mod layout;
+mod leaving;
+mod making;
+mod members;
+mod numbers;
+mod part;
+mod plain_list;
+mod same;
+mod spot;
+mod tail;
+
+pub use laws::sequences_are_right;
+pub use plain_list::PlainList;

@@ -1,0 +1,237 @@
+//! Finds the numbers of a list.
+#![tactic(auto)]
+
+ghost use Rattle.std.specs.Prelude.{◌≡◌, ◌+◌, ◌*◌, ◌^◌, ◌<◌, ◌≤◌, IfOk, IfSome};
+ghost use Rattle.ksv_expr_value.specs.Places.{end_limit};
+ghost use Rattle.ksv_expr_value.specs.Trail.{element_limit};
+ghost use Rattle.ksv_desc.specs.Whole.{plain_pieces};
+ghost use Rattle.ksv_folds.specs.Layouts.{IsOf, HasLayout, IsFound};
+ghost use Rattle.ksv_folds.specs.Parts.{is_rising, has_name, have_own_names};
+ghost use Rattle.ksv_folds.specs.Sequence.{fold_of};
+
+use crate::layout::{choice_size, content_size};
+use crate::members::members_of;
+use crate::part::Part;
+use crate::plain_list::PlainList;
+use ksv_desc::{Choice, Content, Desc, Field, MemberKind};
+use ksv_nodes::{CaseNumber, ELEMENT_LIMIT, Given, Head, List, Node, ObjectOrigin, Origin};
+use std::alloc::{AllocError, Global};
+
+/// The last place of a file.
+const LAST_BYTE: u32 = 16_777_216;
+
+/// An element, by numbers.
+#[derive(Drop)]
+struct Element {
+    /// Its type; none if it has no fields.
+    type_number: Option<u32>,
+    /// How many bytes it takes.
+    size: u32,
+    /// Its fields.
+    parts: Vec<Part>,
+}
+
+/// Where something of a size ends that begins at a place; none if no file has so many bytes.
+fn end_of(from: u32, size: usize) -> Option<u32> {
+    if size > LAST_BYTE as usize || from > LAST_BYTE {
+        return None;
+    }
+    Some(from + size as u32)
+}
+
+/// An element that is an object of a type.
+fn object_element(
+    alloc: Global,
+    desc: &Desc,
+    type_number: u32,
+) -> Result<Option<Element>, AllocError> {
+    let mut parts = Vec::new(alloc);
+    let mut size = 0;
+    for (place, member) in members_of(desc, type_number).iter().enumerate() {
+        let MemberKind::Attribute(field) = &member.kind else {
+            continue;
+        };
+        let Some(bytes) = choice_size(&field.choice) else {
+            return Ok(None);
+        };
+        let Some(to) = end_of(size, bytes) else {
+            return Ok(None);
+        };
+        if place > 0xffff_ffff {
+            return Ok(None);
+        }
+        size = to;
+        parts.push(Part {
+            name: member.name,
+            member: place as u32,
+            to,
+        })?;
+    }
+    Ok(Some(Element {
+        type_number: Some(type_number),
+        size,
+        parts,
+    }))
+}
+
+/// An element of a list that is read so.
+fn element_of(alloc: Global, desc: &Desc, field: &Field) -> Result<Option<Element>, AllocError> {
+    let Choice::Always(content) = &field.choice else {
+        return Ok(None);
+    };
+    if let Content::Object { type_number, .. } = content {
+        return object_element(alloc, desc, *type_number);
+    }
+    let Some(bytes) = content_size(content) else {
+        return Ok(None);
+    };
+    let Some(size) = end_of(0, bytes) else {
+        return Ok(None);
+    };
+    Ok(Some(Element {
+        type_number: None,
+        size,
+        parts: Vec::new(alloc),
+    }))
+}
+
+/// Whether each field ends after the one before, and the last not after the element.
+fn is_rising(parts: &[Part], size: u32) -> bool
+    ensures { result ≡ is_rising 0 size parts.now }
+{
+    let mut low = 0;
+    for part in parts {
+        let _name = part.name;
+        if part.to <= low {
+            return false;
+        }
+        low = part.to;
+    }
+    low <= size
+}
+
+/// Whether one of some fields has a name.
+fn has_name(parts: &[Part], name: u32) -> bool
+    ensures { result ≡ has_name name parts.now }
+{
+    parts.iter().any(|part| part.name == name)
+}
+
+/// Whether each field has a name of its own.
+fn have_own_names(parts: &[Part]) -> bool
+    ensures { result ≡ have_own_names parts.now }
+{
+    let mut left = parts;
+    while let [part, rest @ ..] = left {
+        if has_name(rest, part.name) {
+            return false;
+        }
+        left = rest;
+    }
+    true
+}
+
+/// How many elements have numbers.
+#[tactic(auto, using(crate::proofs::Most::most_few))]
+fn most_of(first: u32, size: u32, per: u32) -> u32
+    requires some { 0 < size }
+    requires nodes { 0 < per }
+    requires first { first ≤ end_limit }
+    ensures few { result ≤ element_limit }
+    ensures room { first + size * result ≤ end_limit }
+    ensures numbered { per * result < 2 ^ 32 }
+{
+    let room = (LAST_BYTE - first) / size;
+    let numbers = 0xffff_ffff / per;
+    let fewer = if room < numbers { room } else { numbers };
+    if fewer < ELEMENT_LIMIT {
+        fewer
+    } else {
+        ELEMENT_LIMIT
+    }
+}
+
+/// The numbers of a list of such elements.
+fn numbered(
+    alloc: Global,
+    root: &Node,
+    list: &List,
+    element: Element,
+) -> Result<Option<PlainList>, AllocError>
+    ensures { IfOk result (λ found. IfSome found (λ p. p.root ≡ root.now)) }
+{
+    let Element {
+        type_number,
+        size,
+        parts,
+    } = element;
+    let first = list.start.byte();
+    let fields = parts.len();
+    if size == 0 || first > LAST_BYTE || fields > 0x1000_0000 || root.path.len() > 62 {
+        return Ok(None);
+    }
+    if !is_rising(&parts, size) || !have_own_names(&parts) {
+        return Ok(None);
+    }
+    let per = 2 + 2 * fields as u32;
+    let origin = Origin {
+        member: list.origin.member,
+        case: CaseNumber::none(),
+        home: list.origin.home,
+    };
+    Ok(Some(PlainList {
+        root: root.copy(alloc)?,
+        list: *list,
+        origin: ObjectOrigin::new(origin)?,
+        type_number,
+        first,
+        size,
+        parts,
+        per,
+        most: most_of(first, size, per),
+    }))
+}
+
+/// The numbers of a list, if it is plain and they fit.
+fn of_list(
+    alloc: Global,
+    desc: &Desc,
+    root: &Node,
+    list: &List,
+) -> Result<Option<PlainList>, AllocError>
+    ensures root { IfOk result (λ found. IfSome found (λ p. p.root ≡ root.now)) }
+    ensures found { IfOk result (λ found. IfSome found (λ p. IsOf p list.now × HasLayout p (plain_pieces desc.now) list.now)) }
+{
+    let member = list.origin.member;
+    let Some(field) = desc.field(member.type_number, member.member) else {
+        return Ok(None);
+    };
+    let Some(element) = element_of(alloc, desc, field)? else {
+        return Ok(None);
+    };
+    let Some(found) = numbered(alloc, root, list, element)? else {
+        return Ok(None);
+    };
+    if !found.is_of(list) || !found.has_layout(desc, list) {
+        return Ok(None);
+    }
+    Ok(Some(found))
+}
+
+impl PlainList {
+    /// The numbers of the list whose head gave this, if it is plain and its elements are of one size.
+    pub fn of(
+        alloc: Global,
+        desc: &Desc,
+        root: &Node,
+        given: &Given,
+    ) -> Result<Option<PlainList>, AllocError>
+        ensures root { IfOk result (λ found. IfSome found (λ p. (fold_of p).root ≡ root.now)) }
+        ensures found { IfOk result (λ found. IfSome found (λ p. IsFound p (plain_pieces desc.now) given.now)) }
+    {
+        match given {
+            Given::Head(Head::List(list)) => of_list(alloc, desc, root, list),
+            _ => Ok(None),
+        }
+    }
+}

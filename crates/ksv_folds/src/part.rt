@@ -1,0 +1,12 @@
+//! The fields of an element.
+
+/// A field of an element, by numbers.
+#[derive(Clone, Copy)]
+pub(crate) struct Part {
+    /// The number of its name.
+    pub name: u32,
+    /// Its place among the members of the element's type, from 0.
+    pub member: u32,
+    /// How many bytes of the element there are up to its end.
+    pub to: u32,
+}

@@ -1,0 +1,40 @@
+//! Plain lists whose elements are of one size.
+
+ghost use Rattle.std.specs.Prelude.{◌≡◌, ◌+◌, ◌*◌, ◌^◌, ◌<◌, ◌≤◌, length, IsTrue};
+ghost use Rattle.ksv_expr_value.specs.Places.{end_limit};
+ghost use Rattle.ksv_expr_value.specs.Trail.{element_limit};
+ghost use Rattle.ksv_folds.specs.Parts.{is_rising, have_own_names};
+
+use crate::part::Part;
+use ksv_nodes::{List, Node, ObjectOrigin};
+
+/// A list whose elements are of one size, by numbers.
+#[derive(Drop)]
+pub struct PlainList {
+    /// The list's head.
+    pub(crate) root: Node,
+    /// What it gave.
+    pub(crate) list: List,
+    /// How its elements are read where they are objects.
+    pub(crate) origin: ObjectOrigin,
+    /// The type of its elements; none if they have no fields.
+    pub(crate) type_number: Option<u32>,
+    /// The number of its first byte.
+    pub(crate) first: u32,
+    /// How many bytes an element takes.
+    pub(crate) size: u32,
+    /// The fields of an element.
+    pub(crate) parts: Vec<Part>,
+    /// How many nodes an element has.
+    pub(crate) per: u32,
+    /// How many elements have numbers.
+    pub(crate) most: u32,
+    ghost short: { length root.path.upward < 63 },
+    ghost some: { 0 < size },
+    ghost width: { per ≡ 2 + 2 * length parts.items },
+    ghost rising: { IsTrue (is_rising 0 size parts.items) },
+    ghost named: { IsTrue (have_own_names parts.items) },
+    ghost few: { most ≤ element_limit },
+    ghost room: { first + size * most ≤ end_limit },
+    ghost numbered: { per * most < 2 ^ 32 },
+}

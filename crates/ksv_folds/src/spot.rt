@@ -1,0 +1,14 @@
+//! Which node of a sequence.
+
+/// A node of an element.
+#[derive(Clone, Copy)]
+pub(crate) enum Spot {
+    /// The head of the element of this index.
+    ElementHead(u32),
+    /// Its end.
+    ElementEnd(u32),
+    /// The head of a field of the element, by its number.
+    FieldHead(u32, u32),
+    /// Its end.
+    FieldEnd(u32, u32),
+}

@@ -1,0 +1,151 @@
+-- Nodes that are kept by numbers alone, beside those that have slots. Only the table's own contracts use it.
+use Rattle.std.specs.Prelude.{◌≡◌, ◌⊎◌, ℕ, ◌<◌, ◌≤◌, Bool, true, false, not, nat_lt, List, [], ◌∷◌, ◌++◌, filter, count_by, Option, Some, None, Result, Ok}
+use Rattle.std.specs.List.{AllByRecursion, list_any}
+use Rattle.ksv_memo_rules.specs.declared.rules.Outcome.TheVariants.{Answered}
+use Rattle.ksv_memo_rules.specs.Entry.{Entry}
+use Rattle.ksv_memo_rules.specs.Folds.{Fold, IsFold, IsLaid, first_of}
+use Rattle.ksv_memo_rules.specs.Evaluation.{tells}
+use Rattle.ksv_memo_rules.specs.Meaning.{Standing}
+use Rattle.ksv_memo.specs.declared.folded.Run.{Run}
+use Rattle.ksv_memo.specs.Nodes.{Nodes, Tabled, IsEntry, KeepsNode, IsPut}
+use Rattle.ksv_memo.specs.Open.{Open, heard}
+
+-- the answer that a slot has is that of a sequence's root, and so many nodes are as the sequence says; none, if it has no value
+abbrev pub TellsFold : {N V F : Type 0} → Standing N (Result V F) → Fold N (Result V F) → Option (Result V F) → ℕ → Type 0
+TellsFold w f None count = count ≡ 0
+TellsFold w f (Some a) count = (tells w [] f.root).outcome ≡ Answered a → IsFold w f count
+
+-- what is kept of a node is what evaluation of it tells
+abbrev pub IsTold : {N A : Type 0} → Standing N A → (N → N → Bool) → List (Entry N A) → N → Type 0
+IsTold {N} {A} w eq es n = (e : Entry N A) → IsEntry eq es n e → (tells w [] e.node).outcome ≡ Answered e.answer
+
+-- a node is none of the first ones
+abbrev pub IsNoneBelow : {N A : Type 0} → Fold N A → ℕ → N → Type 0
+IsNoneBelow f most n = (j : ℕ) → j < most → (f.entry j).node ≡ n → ⊥
+
+-- a node is the last opened one
+abbrev pub IsFirst : {N A : Type 0} → N → List (Open N A) → Type 0
+IsFirst n [] = ⊥
+IsFirst n (o ∷ st) = n ≡ o.node
+
+-- what is kept of an open node that is that of a number
+abbrev pub entry_as : {N V F : Type 0} → Fold N (Result V F) → ℕ → V → Open N (Result V F) → Entry N (Result V F)
+entry_as f j v o = record { node = o.node; answer = Ok v; asked = f.root ∷ []; uses = (f.entry j).uses }
+
+-- the last open node was kept as that of a number, and the one below got its answer, if there is one, unless memory was refused for that
+abbrev pub ClosesAs : {N V F : Type 0} → Fold N (Result V F) → ℕ → V → Bool → List (Open N (Result V F)) → Nodes N (Result V F) → Nodes N (Result V F) → Type 0
+ClosesAs f j v is_heard [] old new = ⊥
+ClosesAs f j v true (o ∷ st) old new = IsPut (entry_as f j v o) old.kept new.kept × (new.opened ≡ heard o.node (Ok v) st)
+ClosesAs f j v false (o ∷ st) old new = IsPut (entry_as f j v o) old.kept new.kept × (new.opened ≡ st)
+
+-- the last open node was taken out, and the same nodes are kept
+pub record LosesFirst {N A : Type 0} (old new : Nodes N A) : Type 0 where
+  pub first : Open N A
+  pub was : old.opened ≡ first ∷ new.opened
+  pub kept : new.kept ≡ old.kept
+
+-- whether a node is one of these
+abbrev pub is_one : {N A : Type 0} → (N → N → Bool) → List (Entry N A) → N → Bool
+is_one eq es n = list_any (λ e. eq n e.node) es
+
+-- the entries of slots, but for those of folded nodes, and then the entries of these
+abbrev pub with_folded : {N A : Type 0} → (N → N → Bool) → List (Entry N A) → List (Entry N A) → List (Entry N A)
+with_folded eq folded es = filter (λ e. not (is_one eq folded e.node)) es ++ folded
+
+-- The first nodes of a sequence are folded. Its root has a slot. Of the nodes below a number that it hasn't reached yet none has a slot or is open, but for
+-- folded nodes that were asked: they are kept in slots too, by the same entries. The numbers of these are listed.
+pub record IsRun {N A : Type 0} (eq : N → N → Bool) (f : Fold N A) (kept wild : ℕ) (lent : List ℕ) (es : List (Entry N A)) (st : List (Open N A)) : Type 0 where
+  pub laid : IsLaid f
+  pub order : kept ≤ wild
+  pub in_size : wild ≤ f.size
+  pub root : KeepsNode eq es f.root
+  pub same : AllByRecursion (λ e. (j : ℕ) → j < wild → (f.entry j).node ≡ e.node → (j < kept) × (e ≡ f.entry j)) es
+  pub apart : AllByRecursion (λ o. IsNoneBelow f wild o.node) st
+  pub counted : (t : ℕ) → t ≤ kept → count_by (λ e. is_one eq (first_of f t) e.node) es ≡ count_by (λ j. nat_lt j t) lent
+  pub below : AllByRecursion (λ j. j < kept) lent
+
+-- a run begins: the last open node is its root, and none of its nodes is kept or open below a number
+pub record IsFounded {N A : Type 0} (f : Fold N A) (kept wild : ℕ) (lent : List ℕ) (es : List (Entry N A)) (o : Open N A) (st : List (Open N A)) : Type 0 where
+  pub laid : IsLaid f
+  pub root : f.root ≡ o.node
+  pub none : kept ≡ 0
+  pub in_size : wild ≤ f.size
+  pub no_lent : lent ≡ []
+  pub out : AllByRecursion (λ e. IsNoneBelow f wild e.node) es
+  pub apart : AllByRecursion (λ w. IsNoneBelow f wild w.node) (o ∷ st)
+
+-- ---- runs
+module _ {S : Type 0} where
+  -- the same nodes, of which as many are kept, and these are lent
+  pub record SameRun (old new : Run S) (items : List ℕ) : Type 0 where
+    pub nodes : new.nodes ≡ old.nodes
+    pub kept : new.kept ≡ old.kept
+    pub wild : new.wild ≡ old.wild
+    pub lent : new.lent.items ≡ items
+
+  -- the same, but that more nodes may have slots
+  abbrev pub SameButWild : Option (Run S) → Option (Run S) → Type 0
+  SameButWild None None = Unit {0}
+  SameButWild None (Some new) = ⊥
+  SameButWild (Some old) None = ⊥
+  SameButWild (Some old) (Some new) = (new.nodes ≡ old.nodes) × (new.kept ≡ old.kept) × (new.wild ≤ old.wild) × (new.kept ≤ new.wild)
+      × (new.lent.items ≡ old.lent.items)
+
+  -- so many of the first are left
+  pub record IsCut (left : ℕ) (old new : Run S) : Type 0 where
+    pub nodes : new.nodes ≡ old.nodes
+    pub kept : new.kept ≡ left
+    pub wild : new.wild ≡ old.wild
+    pub lent : (new.lent.items ≡ filter (λ j. nat_lt j left) old.lent.items) ⊎ ((left ≡ old.kept) × (new.lent.items ≡ old.lent.items))
+
+module _ {N A S : Type 0} (fold : S → Fold N A) where
+  -- a node is folded, at this number
+  abbrev pub IsCovered : Option (Run S) → ℕ → N → Type 0
+  IsCovered None j n = ⊥
+  IsCovered (Some run) j n = (j < run.kept) × (((fold run.nodes).entry j).node ≡ n)
+
+  -- the nodes that may have slots begin among those of the sequence
+  abbrev pub IsWithin : Option (Run S) → Type 0
+  IsWithin None = Unit {0}
+  IsWithin (Some run) = (run.kept ≤ run.wild) × (run.wild ≤ (fold run.nodes).size)
+
+  -- a node may have a slot, or be open
+  abbrev pub IsFree : Option (Run S) → N → Type 0
+  IsFree None n = Unit {0}
+  IsFree (Some run) n = IsNoneBelow (fold run.nodes) run.wild n
+
+-- ---- a folded node that is lent
+module _ {N V F S : Type 0} (fold : S → Fold N (Result V F)) (j : ℕ) (v : V) (old_run new_run : Run S) where
+  abbrev pub LendsTo : List (Open N (Result V F)) → Nodes N (Result V F) → Nodes N (Result V F) → Type 0
+  LendsTo [] old new = ⊥
+  LendsTo (o ∷ st) old new = IsPut (entry_as (fold old_run.nodes) j v o) old.kept new.kept × (new.opened ≡ heard o.node (Ok v) st)
+      × SameRun old_run new_run (old_run.lent.items ++ j ∷ [])
+
+  -- it isn't, or the node below didn't get its answer
+  pub record FailsToLend (old new : Nodes N (Result V F)) : Type 0 where
+    pub first : Open N (Result V F)
+    pub was : old.opened ≡ first ∷ new.opened
+    pub kept : (new.kept ≡ old.kept) × SameRun old_run new_run old_run.lent.items
+        ⊎ IsPut (entry_as (fold old_run.nodes) j v first) old.kept new.kept × SameRun old_run new_run (old_run.lent.items ++ j ∷ [])
+
+-- ---- over a table
+module _ {N A S : Type 0} (eq : N → N → Bool) (fold : S → Fold N A) where
+  -- what is folded
+  abbrev pub folded_in : Option (Run S) → List (Entry N A)
+  folded_in None = []
+  folded_in (Some run) = first_of (fold run.nodes) run.kept
+
+  abbrev pub IsFolding : Option (Run S) → Nodes N A → Type 0
+  IsFolding None t = Unit {0}
+  IsFolding (Some run) t = IsRun eq (fold run.nodes) run.kept run.wild run.lent.items t.kept t.opened
+
+  -- a table with the folded nodes
+  abbrev pub viewed : Option (Run S) → Tabled N A → Tabled N A
+  viewed None t = t
+  viewed (Some run) t = record { kept = with_folded eq (first_of (fold run.nodes) run.kept) t.kept; opened = t.opened; looks = t.looks }
+
+  -- a new run, of which no node is kept yet, whose root is the last open node
+  abbrev pub Founds : Option (Run S) → List (Entry N A) → List (Open N A) → Type 0
+  Founds None es st = Unit {0}
+  Founds (Some run) es [] = ⊥
+  Founds (Some run) es (o ∷ st) = IsFounded (fold run.nodes) run.kept run.wild run.lent.items es o st

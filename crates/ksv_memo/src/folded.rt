@@ -1,0 +1,481 @@
+//! The table of kept and open nodes, with nodes that are kept by numbers alone.
+ghost use Rattle.std.specs.List.{AllByRecursion};
+ghost use Rattle.std.specs.Prelude.{◌≡◌, ◌<◌, ◌≤◌, ◌+◌, ◌++◌, ◌∷◌, [], Some, length, true, nat_lt, IfOk, IfSome, IfNone, OnOk, OnErr};
+ghost use Rattle.ksv_memo_links.specs.Touching.{AreWithin};
+ghost use Rattle.ksv_memo_rules.specs.Meaning.{on};
+ghost use Rattle.ksv_memo_rules.specs.Right.{IsRight, counted};
+ghost use Rattle.ksv_memo.specs.Folding.{FailsToLend, Founds, IsCovered, IsCut, IsFolding, IsFree, IsWithin, LendsTo, SameButWild, viewed};
+ghost use Rattle.ksv_memo.specs.Growing.{Grows};
+ghost use Rattle.ksv_memo.specs.Nodes.{Asks, Closes, KeepsNode, MayKeep, Starts, Steps, TakesFirst, is_there, nodes};
+ghost use Rattle.ksv_memo.specs.Running.{HasReached};
+ghost use Rattle.ksv_memo.specs.Sweep.{Sweeps};
+
+use crate::machine::turns::Turns;
+use crate::table::Table;
+use ksv_bytes::{Buffer, Change};
+use ksv_memo_rules::{Folds, Next, Outcome, Reply, Rules};
+use std::alloc::{AllocError, Global};
+use std::marker::Model;
+
+/// How many nodes there must be at least, so that they are kept by numbers alone.
+const LEAST: u32 = 1_024;
+
+/// Nodes of which the first are kept by numbers alone.
+#[derive(Drop)]
+pub struct Run<S> {
+    /// The nodes.
+    pub nodes: S,
+    /// How many are kept so.
+    pub kept: u32,
+    /// The number from which on nodes may have slots or be open as any others. It only falls.
+    pub wild: u32,
+    /// The numbers of those that have slots too, since they were asked.
+    pub lent: Vec<u32>,
+}
+
+impl<S> Run<S> {
+    /// An edit leaves the root, and so many of the first nodes.
+    fn cut(&mut self, kept: u32)
+        requires { kept ≤ self.old.kept }
+        ensures { IsCut kept self.old self.new }
+    {
+        if kept < self.kept {
+            self.kept = kept;
+            self.lent.retain(|place| *place < kept);
+        }
+    }
+}
+
+/// The number of a node that is kept by it alone. One that isn't, and could be, may have a slot or be open from now on.
+#[inline(always)]
+fn covered<R: Rules>(run: &mut Option<Run<R::Fold>>, node: &R::Node) -> Option<u32>
+    requires { IsWithin R.Fold.fold run.old }
+    ensures some { IfSome result (λ place. IsCovered R.Fold.fold run.new place node.now) }
+    ensures none { IfNone result (IsFree R.Fold.fold run.new node.now) }
+    ensures same { SameButWild run.old run.new }
+{
+    let Some(run) = run else {
+        return None;
+    };
+    let place = run.nodes.place(node)?;
+    if place < run.kept {
+        return Some(place);
+    }
+    run.wild = run.wild.min(place);
+    None
+}
+
+/// Keeps the last open node, which is kept by its number alone, in its slot too. The one below gets its answer, if there is one. If memory is
+/// refused, it isn't open any more.
+fn lend<R: Rules>(
+    table: &mut Table<R>,
+    run: &mut Run<R::Fold>,
+    place: u32,
+    value: R::Value,
+) -> Result<(), AllocError>
+    requires there { is_there table.old.opened ≡ true }
+    requires root { KeepsNode R.Node.eq table.old.kept (R.Fold.fold run.old.nodes).root }
+    requires place_in { place < (R.Fold.fold run.old.nodes).size }
+    ensures ok { OnOk result (LendsTo R.Fold.fold place value run.old run.new table.old.opened (nodes table.old) (nodes table.new)) }
+    ensures err { OnErr result (FailsToLend R.Fold.fold place value run.old run.new (nodes table.old) (nodes table.new)) }
+    ensures grows { table.old.looks ≤ table.new.looks }
+{
+    match run.lent.reserve(1) {
+        Ok(()) => {}
+        Err(refused) => {
+            table.abandon();
+            return Err(refused);
+        }
+    }
+    let is_heard = table.close_folded(&run.nodes, place, value)?;
+    run.lent.push_reserved(place);
+    if !is_heard {
+        return Err(AllocError);
+    }
+    Ok(())
+}
+
+/// Asks for a node that is kept by its number alone.
+#[cold]
+#[inline(never)]
+fn ask_folded<R: Rules>(
+    table: &mut Table<R>,
+    run: &mut Run<R::Fold>,
+    alloc: Global,
+    node: R::Node,
+    place: u32,
+) -> Result<Option<R::Node>, AllocError>
+    requires run { IsFolding R.Node.eq R.Fold.fold (Some run.old) (nodes table.old) }
+    requires covered { IsCovered R.Fold.fold (Some run.old) place node }
+    ensures run { IsFolding R.Node.eq R.Fold.fold (Some run.new) (nodes table.new) }
+    ensures ok { IfOk result (Asks R.Node.eq node (nodes (viewed R.Node.eq R.Fold.fold (Some run.old) table.old)) (nodes (viewed R.Node.eq R.Fold.fold (Some run.new) table.new))) }
+    ensures err { OnErr result ((viewed R.Node.eq R.Fold.fold (Some run.new) table.new).kept ≡ (viewed R.Node.eq R.Fold.fold (Some run.old) table.old).kept) }
+    ensures grows { table.old.looks ≤ table.new.looks }
+{
+    if table.holds(&node) {
+        return table.ask(node);
+    }
+    let value = run.nodes.answer(alloc, place)?;
+    match table.ask(node) {
+        Ok(None) => {
+            lend(table, run, place, value)?;
+            Ok(None)
+        }
+        other => other,
+    }
+}
+
+/// Asks for a node, which isn't kept by its number alone where it has none.
+#[inline(always)]
+fn ask_at<R: Rules>(
+    table: &mut Table<R>,
+    run: &mut Option<Run<R::Fold>>,
+    alloc: Global,
+    node: R::Node,
+    place: Option<u32>,
+) -> Result<Option<R::Node>, AllocError>
+    requires run { IsFolding R.Node.eq R.Fold.fold run.old (nodes table.old) }
+    requires covered { IfSome place (λ place. IsCovered R.Fold.fold run.old place node) }
+    requires free { IfNone place (IsFree R.Fold.fold run.old node) }
+    ensures run { IsFolding R.Node.eq R.Fold.fold run.new (nodes table.new) }
+    ensures ok { IfOk result (Asks R.Node.eq node (nodes (viewed R.Node.eq R.Fold.fold run.old table.old)) (nodes (viewed R.Node.eq R.Fold.fold run.new table.new))) }
+    ensures err { OnErr result ((viewed R.Node.eq R.Fold.fold run.new table.new).kept ≡ (viewed R.Node.eq R.Fold.fold run.old table.old).kept) }
+    ensures grows { table.old.looks ≤ table.new.looks }
+{
+    let Some(place) = place else {
+        return table.ask(node);
+    };
+    let Some(run) = run else { unreachable!() };
+    ask_folded(table, run, alloc, node, place)
+}
+
+/// Starts a question for a node, which isn't kept by its number alone where it has none. No node is open.
+#[inline(always)]
+fn start_at<R: Rules>(
+    table: &mut Table<R>,
+    run: &mut Option<Run<R::Fold>>,
+    alloc: Global,
+    rules: &R,
+    node: R::Node,
+    place: Option<u32>,
+) -> Result<Option<Outcome<R::Node, Reply<R>>>, AllocError>
+    requires run { IsFolding R.Node.eq R.Fold.fold run.old (nodes table.old) }
+    requires covered { IfSome place (λ place. IsCovered R.Fold.fold run.old place node) }
+    requires free { IfNone place (IsFree R.Fold.fold run.old node) }
+    requires opened { table.old.opened ≡ [] }
+    ensures run { IsFolding R.Node.eq R.Fold.fold run.new (nodes table.new) }
+    ensures ok { IfOk result (Starts R.Node.eq node (nodes (viewed R.Node.eq R.Fold.fold run.old table.old)) (nodes (viewed R.Node.eq R.Fold.fold run.new table.new))) }
+    ensures err { OnErr result ((viewed R.Node.eq R.Fold.fold run.new table.new).kept ≡ (viewed R.Node.eq R.Fold.fold run.old table.old).kept) }
+    ensures grows { table.old.looks ≤ table.new.looks }
+{
+    let Some(place) = place else {
+        return table.start(alloc, rules, node);
+    };
+    let Some(run) = run else { unreachable!() };
+    start_folded(table, run, alloc, rules, node, place)
+}
+
+/// Starts a question for a node that is kept by its number alone. No node is open.
+#[cold]
+#[inline(never)]
+fn start_folded<R: Rules>(
+    table: &mut Table<R>,
+    run: &mut Run<R::Fold>,
+    alloc: Global,
+    rules: &R,
+    node: R::Node,
+    place: u32,
+) -> Result<Option<Outcome<R::Node, Reply<R>>>, AllocError>
+    requires run { IsFolding R.Node.eq R.Fold.fold (Some run.old) (nodes table.old) }
+    requires covered { IsCovered R.Fold.fold (Some run.old) place node }
+    requires opened { table.old.opened ≡ [] }
+    ensures run { IsFolding R.Node.eq R.Fold.fold (Some run.new) (nodes table.new) }
+    ensures ok { IfOk result (Starts R.Node.eq node (nodes (viewed R.Node.eq R.Fold.fold (Some run.old) table.old)) (nodes (viewed R.Node.eq R.Fold.fold (Some run.new) table.new))) }
+    ensures err { OnErr result ((viewed R.Node.eq R.Fold.fold (Some run.new) table.new).kept ≡ (viewed R.Node.eq R.Fold.fold (Some run.old) table.old).kept) }
+    ensures grows { table.old.looks ≤ table.new.looks }
+{
+    if table.holds(&node) {
+        return table.start(alloc, rules, node);
+    }
+    let value = run.nodes.answer(alloc, place)?;
+    let reply = run.nodes.answer(alloc, place)?;
+    match table.start(alloc, rules, node) {
+        Ok(None) => {
+            lend(table, run, place, value)?;
+            Ok(Some(Outcome::Answered(Ok(reply))))
+        }
+        Ok(Some(outcome)) => Ok(Some(outcome)),
+        Err(refused) => Err(refused),
+    }
+}
+
+/// More nodes are kept by numbers alone, if evaluation of a node completes them, which is about to be asked. Their calls are counted.
+#[inline(always)]
+fn grow_run<R: Rules>(
+    table: &mut Table<R>,
+    run: &mut Option<Run<R::Fold>>,
+    rules: &R,
+    bytes: &Buffer,
+    node: &R::Node,
+    turns: &mut Turns,
+)
+    requires run { IsFolding R.Node.eq R.Fold.fold run.old (nodes table.old) }
+    requires right { IsRight (on (R.meaning rules.now) bytes.now) (viewed R.Node.eq R.Fold.fold run.old table.old).kept }
+    ensures run { IsFolding R.Node.eq R.Fold.fold run.new (nodes table.new) }
+    ensures grown { Grows (on (R.meaning rules.now) bytes.now) node.now (viewed R.Node.eq R.Fold.fold run.old table.old) (viewed R.Node.eq R.Fold.fold run.new table.new) turns.old turns.new }
+    ensures grows { table.old.looks ≤ table.new.looks }
+{
+    let Some(run) = run else {
+        return;
+    };
+    let Some(place) = run.nodes.place(node) else {
+        return;
+    };
+    if place < run.kept {
+        return;
+    }
+    let count = table.foldable(rules, &run.nodes, bytes);
+    if place >= count {
+        return;
+    }
+    let now = run.wild.min(place + 1);
+    turns.add_all(run.nodes.calls(run.kept, now));
+    run.kept = now;
+}
+
+/// The run of nodes that can be kept by numbers alone once the last open node has this answer, if there are enough of them.
+#[inline(always)]
+fn founded<R: Rules>(
+    table: &Table<R>,
+    alloc: Global,
+    rules: &R,
+    bytes: &Buffer,
+    answer: &Reply<R>,
+) -> Result<Option<Run<R::Fold>>, AllocError>
+    requires { HasReached (on (R.meaning rules.now) bytes.now) table.now.kept table.now.opened (Next.Done answer.now) }
+    ensures { IfOk result (λ run. Founds R.Node.eq R.Fold.fold run table.now.kept table.now.opened) }
+{
+    let Ok(value) = answer else {
+        return Ok(None);
+    };
+    let Some(nodes) = table.fold(alloc, rules, value)? else {
+        return Ok(None);
+    };
+    let count = rules.foldable(&nodes, value, bytes);
+    if count < LEAST {
+        return Ok(None);
+    }
+    let wild = table.least_open(&nodes, count);
+    Ok(Some(Run {
+        nodes,
+        kept: 0,
+        wild,
+        lent: Vec::new(alloc),
+    }))
+}
+
+/// Whether other nodes may be kept by numbers alone once a node has this answer.
+#[inline(always)]
+fn may_found<R: Rules>(rules: &R, answer: &Reply<R>) -> bool {
+    match answer {
+        Ok(value) => rules.may_fold(value),
+        Err(_) => false,
+    }
+}
+
+/// The nodes that are kept and those that are open.
+#[derive(Drop)]
+pub struct Folded<R: Rules> {
+    table: Table<R>,
+    run: Option<Run<R::Fold>>,
+}
+
+impl<R: Rules> Model for Folded<R> {
+    ghost use Rattle.std.specs.Prelude.{Result};
+    ghost use Rattle.ksv_memo.specs.Nodes.{Tabled, nodes};
+    ghost use Rattle.ksv_memo.specs.Folding.{IsFolding, viewed};
+
+    ghost Value = { Tabled R.Node (Result R.Value R.Fault) };
+
+    ghost view = { λ folded. viewed R.Node.eq R.Fold.fold folded.run folded.table };
+
+    ghost invariant = { λ folded. IsFolding R.Node.eq R.Fold.fold folded.run (nodes folded.table) };
+}
+
+impl<R: Rules> Folded<R> {
+    /// The empty table, which takes no memory.
+    pub(crate) fn new(alloc: Global) -> Self
+        ensures { result ≡ record { kept = []; opened = []; looks = 0 } }
+    {
+        Folded {
+            table: Table::new(alloc),
+            run: None,
+        }
+    }
+
+    /// The number of kept nodes.
+    pub(crate) fn len(&self) -> usize
+        ensures { result ≡ length self.now.kept }
+    {
+        match &self.run {
+            None => self.table.len(),
+            Some(run) => self.table.len() - run.lent.as_slice().len() + run.kept as usize,
+        }
+    }
+
+    /// Gives memory back that was taken for nodes whose numbers others have now, if it is much.
+    #[inline(always)]
+    pub(crate) fn tidy(&mut self)
+        ensures nodes { nodes self.new ≡ nodes self.old }
+        ensures grows { self.old.looks ≤ self.new.looks }
+    {
+        self.table.tidy();
+    }
+
+    /// Starts a question for a node: its outcome if the node is kept; else the node is opened. No node is open before.
+    pub(crate) fn start(
+        &mut self,
+        alloc: Global,
+        rules: &R,
+        node: R::Node,
+    ) -> Result<Option<Outcome<R::Node, Reply<R>>>, AllocError>
+        requires opened { self.old.opened ≡ [] }
+        ensures ok { IfOk result (Starts R.Node.eq node (nodes self.old) (nodes self.new)) }
+        ensures err { OnErr result (self.new.kept ≡ self.old.kept) }
+        ensures grows { self.old.looks ≤ self.new.looks }
+    {
+        let place = covered::<R>(&mut self.run, &node);
+        start_at(&mut self.table, &mut self.run, alloc, rules, node, place)
+    }
+
+    /// Asks for a node, which is given back if it is open. If it is kept, the last open node gets its answer; else it is
+    /// opened.
+    #[inline(always)]
+    pub(crate) fn ask(
+        &mut self,
+        alloc: Global,
+        node: R::Node,
+    ) -> Result<Option<R::Node>, AllocError>
+        ensures ok { IfOk result (Asks R.Node.eq node (nodes self.old) (nodes self.new)) }
+        ensures err { OnErr result (self.new.kept ≡ self.old.kept) }
+        ensures grows { self.old.looks ≤ self.new.looks }
+    {
+        let place = covered::<R>(&mut self.run, &node);
+        ask_at(&mut self.table, &mut self.run, alloc, node, place)
+    }
+
+    /// Grows by nodes that evaluation of a node completes, which is about to be asked; their calls are counted.
+    #[inline(always)]
+    pub(crate) fn grow(&mut self, rules: &R, bytes: &Buffer, node: &R::Node, turns: &mut Turns)
+        requires right { IsRight (on (R.meaning rules.now) bytes.now) self.old.kept }
+        ensures grown { Grows (on (R.meaning rules.now) bytes.now) node.now self.old self.new turns.old turns.new }
+        ensures grows { self.old.looks ≤ self.new.looks }
+    {
+        grow_run(&mut self.table, &mut self.run, rules, bytes, node, turns);
+    }
+
+    /// One call of the rules for the last open node, which is counted.
+    #[inline(always)]
+    pub(crate) fn turn(
+        &mut self,
+        alloc: Global,
+        rules: &R,
+        bytes: &Buffer,
+        turns: &mut Turns,
+    ) -> Result<Next<R::Node, Reply<R>>, AllocError>
+        requires { is_there self.old.opened ≡ true }
+        ensures step { IfOk result (λ step. Steps (on (R.meaning rules.now) bytes.now) self.old.opened self.new.opened step) }
+        ensures kept { self.new.kept ≡ self.old.kept }
+        ensures turns { turns.new ≡ counted 1 turns.old }
+        ensures looks { self.new.looks ≡ self.old.looks }
+    {
+        self.table.turn(alloc, rules, bytes, turns)
+    }
+
+    /// Keeps the last open node with its answer, which the one below gets, if there is one. Once it has this answer, other nodes may be kept by
+    /// numbers alone.
+    #[inline(always)]
+    pub(crate) fn close(
+        &mut self,
+        alloc: Global,
+        rules: &R,
+        bytes: &Buffer,
+        answer: Reply<R>,
+    ) -> Result<(), AllocError>
+        requires { HasReached (on (R.meaning rules.now) bytes.now) self.old.kept self.old.opened (Next.Done answer) }
+        ensures ok { OnOk result (Closes answer self.old.opened (nodes self.old) (nodes self.new)) }
+        ensures err { OnErr result (MayKeep answer self.old.opened self.old.kept self.new.kept) }
+        ensures grows { self.old.looks ≤ self.new.looks }
+    {
+        if self.run.is_some() || !may_found(rules, &answer) {
+            return self.table.close(alloc, answer);
+        }
+        self.close_founding(alloc, rules, bytes, answer)
+    }
+
+    /// Keeps the last open node with its answer, where other nodes may be kept by numbers alone once it has it.
+    #[cold]
+    #[inline(never)]
+    fn close_founding(
+        &mut self,
+        alloc: Global,
+        rules: &R,
+        bytes: &Buffer,
+        answer: Reply<R>,
+    ) -> Result<(), AllocError>
+        requires { HasReached (on (R.meaning rules.now) bytes.now) self.old.kept self.old.opened (Next.Done answer) }
+        ensures ok { OnOk result (Closes answer self.old.opened (nodes self.old) (nodes self.new)) }
+        ensures err { OnErr result (MayKeep answer self.old.opened self.old.kept self.new.kept) }
+        ensures grows { self.old.looks ≤ self.new.looks }
+    {
+        if self.run.is_some() {
+            return self.table.close(alloc, answer);
+        }
+        let run = founded(&self.table, alloc, rules, bytes, &answer)?;
+        self.table.close(alloc, answer)?;
+        self.run = run;
+        Ok(())
+    }
+
+    /// Takes the last open node out, if there is one.
+    pub(crate) fn abandon(&mut self) -> bool
+        ensures kept { self.new.kept ≡ self.old.kept }
+        ensures rest { TakesFirst result self.old.opened self.new.opened }
+        ensures grows { self.old.looks ≤ self.new.looks }
+    {
+        self.table.abandon()
+    }
+
+    /// Whether an open node waits for the last one.
+    pub(crate) fn waits(&self) -> bool
+        ensures { result ≡ nat_lt 1 (length self.now.opened) }
+    {
+        self.table.waits()
+    }
+
+    /// Takes out each kept node that a change touches or that asked one that goes, in its tree. No node is open. It takes
+    /// no memory. The uses of kept nodes are within this many pages. An overwrite looks only near, and any other edit at
+    /// what is after it. How many looks it took: those of the table, and two for the root of a run; and no fewer than the nodes
+    /// that went, of which those that are kept by numbers alone need none.
+    pub(crate) fn forget(&mut self, change: Change, pages: usize) -> u64
+        requires opened { self.old.opened ≡ [] }
+        requires within { AllByRecursion (λ entry. AreWithin pages entry.uses) self.old.kept }
+        ensures kept { Sweeps change pages self.old.kept self.new.kept result }
+        ensures opened { self.new.opened ≡ [] }
+        ensures told { self.new.looks ≤ self.old.looks + result }
+    {
+        let count = self.len();
+        let Some(mut run) = self.run.take() else {
+            return self.table.forget(change, pages);
+        };
+        self.table.holds(run.nodes.root());
+        let looked = self.table.forget(change, pages);
+        if self.table.holds(run.nodes.root()) {
+            let left = run.nodes.left(run.kept, change);
+            run.cut(left);
+            self.run = Some(run);
+        }
+        let went = count.saturating_sub(self.len());
+        looked.saturating_add(2).max(went as u64)
+    }
+}
