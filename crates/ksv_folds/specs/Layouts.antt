@@ -2,7 +2,6 @@
 use Rattle.std.specs.Prelude.{◌≡◌, ℕ, zero, suc, ◌+◌, ◌-◌, ◌*◌, ◌<◌, ◌≤◌, true, false, IfSome, List, length, Option, Some, None, unwrap_or, slice_get}
 use Rattle.ksv_desc.specs.Description.{Description, Field, MemberOfType, Attribute, Content, Always, Extent, ByItself, fields}
 use Rattle.ksv_desc.specs.Description as contents
-use Rattle.ksv_desc.specs.Pieces.{plain_kind}
 use Rattle.ksv_expr_tree.specs.Tree.{Arguments}
 use Rattle.ksv_expr_value.specs.Places.{at_byte}
 use Rattle.ksv_nodes.specs.declared.given.Given.{Given}
@@ -12,17 +11,11 @@ use Rattle.ksv_nodes.specs.declared.given.List as lists
 use Rattle.ksv_nodes.specs.Reading.{end_in}
 use Rattle.ksv_nodes.specs.declared.node.NodeKind.TheVariants.{Head}
 use Rattle.ksv_rule_meaning.specs.Fields.{members_of, last_attribute, sought}
-use Rattle.ksv_rule_meaning.specs.Fields as meant
 use Rattle.ksv_list_laws.specs.Lists.{Layout, content_size, choice_size, is_alone, list_layout}
-use Rattle.ksv_folds.specs.declared.members.Sought.{Sought}
 use Rattle.ksv_folds.specs.declared.part.Part.{Part}
 use Rattle.ksv_folds.specs.declared.plain_list.PlainList.{PlainList}
 use Rattle.ksv_folds.specs.Laws.{IsElement}
 use Rattle.ksv_folds.specs.Parts.{part, edge}
-
--- a member that was looked for
-abbrev pub plain_sought : Sought → meant.Sought
-plain_sought s = record { member = s.member; before = s.before; kind = plain_kind s.kind.now }
 
 -- A field is read once, without a condition, and takes always the bytes of its element from one to another.
 pub record IsRead (f : Field) (low to : ℕ) : Type 0 where

@@ -27,10 +27,12 @@ impl Folds<Node, Given, Fault> for PlainList {
         }
     }
 
+    #[tactic(auto, using(crate::proofs::Most::size_some))]
     fn answer(&self, _alloc: Global, place: u32) -> Result<Given, AllocError> {
         Ok(self.answer_of(self.spot(place)))
     }
 
+    #[tactic(auto, using(crate::proofs::Most::size_some))]
     fn used(&self, place: u32) -> Option<Use> {
         let reach = self.reach_of(self.spot(place));
         if reach == 0 {

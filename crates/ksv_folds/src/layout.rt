@@ -7,12 +7,12 @@ ghost use Rattle.ksv_desc.specs.Whole.{plain_pieces};
 ghost use Rattle.ksv_list_laws.specs.Lists.{content_size, choice_size, repeats};
 ghost use Rattle.ksv_folds.specs.Layouts.{IsRead, IsPart, AreParts, IsType, HasObjects, HasBytes, HasContent, HasLayout};
 
-use crate::members::{find_member, last_attribute, members_of};
 use crate::part::Part;
 use crate::plain_list::PlainList;
 use crate::same::same_number;
 use ksv_desc::{Choice, Content, Desc, Extent, Field, MemberDesc, MemberKind, Repeat};
 use ksv_nodes::List;
+use ksv_rule_meaning::{find_member, last_attribute, members_of};
 
 /// How many bytes are read, where it is always as many.
 pub(crate) fn content_size(content: &Content) -> Option<usize>
@@ -55,13 +55,13 @@ fn is_read(field: &Field, low: u32, to: u32) -> bool
 fn is_part(members: &[MemberDesc], before: Option<u32>, name: u32, part: Part, low: u32) -> bool
     ensures { result ≡ true → IsPart (map plain_member members.now) before name part low }
 {
-    let Some(sought) = find_member(members, name) else {
+    let Ok(Some(sought)) = find_member(members, name) else {
         return false;
     };
     let MemberKind::Attribute(field) = sought.kind else {
         return false;
     };
-    sought.member == part.member as usize
+    sought.member == part.member
         && part.name == name
         && same_number(sought.before, before)
         && is_read(field, low, part.to)

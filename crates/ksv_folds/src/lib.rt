@@ -37,7 +37,6 @@
 //! - `layout`: whether the description says what a list's numbers say
 //! - `leaving`: which nodes read no farther than to a place
 //! - `making`: finds the numbers of a list
-//! - `members`: the members of a type
 //! - `numbers`: which node a number is of, and where elements and fields are
 //! - `part`: the fields of an element
 //! - `plain_list`: the numbers of a list
@@ -78,7 +77,6 @@ mod laws;
 mod layout;
 mod leaving;
 mod making;
-mod members;
 mod numbers;
 mod part;
 mod plain_list;

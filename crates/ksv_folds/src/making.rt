@@ -10,11 +10,11 @@ ghost use Rattle.ksv_folds.specs.Parts.{is_rising, has_name, have_own_names};
 ghost use Rattle.ksv_folds.specs.Sequence.{fold_of};
 
 use crate::layout::{choice_size, content_size};
-use crate::members::members_of;
 use crate::part::Part;
 use crate::plain_list::PlainList;
 use ksv_desc::{Choice, Content, Desc, Field, MemberKind};
 use ksv_nodes::{CaseNumber, ELEMENT_LIMIT, Given, Head, List, Node, ObjectOrigin, Origin};
+use ksv_rule_meaning::members_of;
 use std::alloc::{AllocError, Global};
 
 /// The last place of a file.
@@ -174,6 +174,10 @@ fn numbered(
         return Ok(None);
     }
     let per = 2 + 2 * fields as u32;
+    let most = most_of(first, size, per);
+    if most == 0 {
+        return Ok(None);
+    }
     let origin = Origin {
         member: list.origin.member,
         case: CaseNumber::none(),
@@ -188,7 +192,7 @@ fn numbered(
         size,
         parts,
         per,
-        most: most_of(first, size, per),
+        most,
     }))
 }
 

@@ -34,6 +34,7 @@ pub struct PlainList {
     ghost width: { per ≡ 2 + 2 * length parts.items },
     ghost rising: { IsTrue (is_rising 0 size parts.items) },
     ghost named: { IsTrue (have_own_names parts.items) },
+    ghost any: { 0 < most },
     ghost few: { most ≤ element_limit },
     ghost room: { first + size * most ≤ end_limit },
     ghost numbered: { per * most < 2 ^ 32 },

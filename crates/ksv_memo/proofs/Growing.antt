@@ -4,6 +4,7 @@ use Rattle.ksv_memo.proofs.Common.{nat_eq, arith, ◌||◌, map, inl, inr, ◌�
 use Rattle.ksv_memo.proofs.Common.{IsDistinct-head, IsDistinct-tail, or_parts, Need, Outcome, Answered, Standing, IsSettled, is_among, answering, Entry, Open}
 use Rattle.ksv_memo.proofs.Common.{nodes_in, nodes_of, AreDistinct, IsRight, StandsIn, costs, Agrees, HasCome, IsWaiting, IsStack, rest_of, to_keep, fresh}
 use Rattle.ksv_memo.proofs.Common.{debt, AreSame, All-map, All-++, All-left, All-right, IsOut, IsIn, eqb_true, is_among-append, nodes_of-append, with_uses}
+use Rattle.ksv_memo.proofs.Common.{IsLeft}
 use Rattle.std.specs.Prelude.{min, ◌^◌}
 use Rattle.std.proofs.lemmas.Bool.{or_from, or_left, or_right}
 use Rattle.std.proofs.lemmas.List.{map-append}
@@ -42,7 +43,7 @@ pub counted-swap : (k : ℕ) (turns : Option ℕ) → counted k (counted 1 turns
 counted-swap zero turns = refl
 counted-swap (suc k) turns = ap (option_map (λ t. min (t + 1) (2 ^ 64 - 1))) (counted-swap k turns)
 
-counted-sum : (k c all : ℕ) (turns : Option ℕ) → all ≡ k + c → counted k (counted c turns) ≡ counted all turns
+pub counted-sum : (k c all : ℕ) (turns : Option ℕ) → all ≡ k + c → counted k (counted c turns) ≡ counted all turns
 counted-sum zero c all turns e = let same : c ≡ all = omega arith in ap (λ n. counted n turns) same
 counted-sum (suc k) c zero turns e = absurd (omega arith)
 counted-sum (suc k) c (suc all) turns e = ap (option_map (λ t. min (t + 1) (2 ^ 64 - 1))) (counted-sum k c all turns (omega arith))
@@ -178,7 +179,7 @@ module _ {N A : Type 0} (w : Standing N A) (law : IsSettled w) where
     grown-in x h = subst (λ ns. IsIn w ns x) (sym grown-nodes) (IsIn-append w (nodes_of es) (nodes_of g.more) x h)
 
     -- it is right
-    grown-right : IsRight w es → IsRight w now
+    pub grown-right : IsRight w es → IsRight w now
     grown-right right = record {
       each = subst (AllByRecursion (StandsIn w (nodes_of now))) (sym g.after) (All-++ (StandsIn w (nodes_of now)) es g.more
           (All-map (λ e h. stands-among w (nodes_of es) (nodes_of now) e h (All-map grown-in _ h.closed) (All-map grown-in _ h.named)) es right.each) g.stand);
@@ -250,3 +251,27 @@ module _ {N A : Type 0} (w : Standing N A) (law : IsSettled w) where
     pub grown-all : AreSame w (to_keep w now (rest_of w o st)) (to_keep w es (rest_of w o st))
     grown-all x = ap (λ ns. is_among w.number (ns ++ fresh w.number ns (rest_of w o st)) x) (grown-nodes _ _ _ _ _ g)
         ∙ same-end g.more (nodes_of es) (rest_of w o st) inside x
+
+  -- it has grown before a question
+  module _ (es now : List (Entry N A)) (m : N) (opened : List N) (count : ℕ) (g : GrowsBy w m opened es now count) where
+    -- the same is kept in the end
+    pub asked-all : AreSame w (to_keep w now (tree w m)) (to_keep w es (tree w m))
+    asked-all x = ap (λ ns. is_among w.number (ns ++ fresh w.number ns (tree w m)) x) (grown-nodes _ _ _ _ _ g)
+        ∙ same-end g.more (nodes_of es) (tree w m) g.within x
+
+    -- and the calls that were counted are owed no more
+    asked-debt : debt w es (tree w m) ≡ count + debt w now (tree w m)
+    asked-debt =
+        let same = grown-nodes _ _ _ _ _ g in
+        cc (pays g.more (nodes_of es) (tree w m) (subst (AreDistinct w) same g.once) g.within, g.calls, same)
+
+    pub asked-turns : (before : Option ℕ) → counted (debt w now (tree w m)) (counted count before) ≡ counted (debt w es (tree w m)) before
+    asked-turns before = counted-sum (debt w now (tree w m)) count (debt w es (tree w m)) before (let owed = asked-debt in omega arith)
+
+    -- and a refused memory leaves no more
+    pub asked-left : (after : List (Entry N A)) → IsLeft w (to_keep w now (tree w m)) now after → IsLeft w (to_keep w es (tree w m)) es after
+    asked-left after h = record {
+      right = h.right;
+      grown = λ x a. h.grown x (grown-in _ _ _ _ _ g x a);
+      within = λ x a. sym (asked-all x) ∙ h.within x a;
+    }

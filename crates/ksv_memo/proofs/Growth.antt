@@ -2,10 +2,11 @@
 use Rattle.ksv_memo.proofs.Common.{◌≡◌, ℕ, zero, suc, ◌+◌, ◌-◌, ◌<◌, ◌≤◌, nat_lt, nat_eq, arith, Bool, true, false, not, cond, ◌||◌, List, [], ◌∷◌, ◌++◌}
 use Rattle.ksv_memo.proofs.Common.{filter, count_by, refl, sym, ◌∙◌, ap, subst, inr, AllByRecursion, IsDistinct, map, append_assoc, append-nil}
 use Rattle.ksv_memo.proofs.Common.{sum_by-cons, Decides-ltb, All-map, All-++, Entry, Open, nodes_in, nodes_of, nodes_of-append, is_among, eqb_true, IsIn, IsOut}
-use Rattle.ksv_memo.proofs.Common.{tells, AreDistinct, IsRight, StandsIn, costs, Standing, Option, Some, nodes}
+use Rattle.ksv_memo.proofs.Common.{tells, AreDistinct, IsRight, StandsIn, costs, Standing, Option, Some, Result, IfOk, nodes}
 use Rattle.std.specs.Prelude.{min}
-use Rattle.std.proofs.Common.{true≢false}
+use Rattle.std.proofs.Common.{true≢false, OnErr}
 use Rattle.std.proofs.lemmas.List.{map-append}
+use Rattle.std.proofs.lemmas.Result.{on_err_weaker}
 use Rattle.std.proofs.lemmas.Cmp.{nat_eq_equiv}
 use Rattle.std.proofs.lemmas.Map.Keys.{IsDistinct-push}
 use Rattle.ksv_memo_rules.specs.Evaluation.{IsAnswered}
@@ -15,8 +16,8 @@ use Rattle.ksv_memo_rules.specs.Touched.{tree}
 use Rattle.ksv_memo_rules.proofs.Lists.{none_fails}
 use Rattle.ksv_memo_rules.proofs.Standins.{stands-among, answered-by}
 use Rattle.ksv_memo.specs.declared.folded.Run.{Run}
-use Rattle.ksv_memo.specs.Nodes.{Nodes, Tabled, HasNoEntry}
-use Rattle.ksv_memo.specs.Growing.{Grows, GrowsBy}
+use Rattle.ksv_memo.specs.Nodes.{Nodes, Tabled, Asks, HasNoEntry}
+use Rattle.ksv_memo.specs.Growing.{AsksGrown, Grows, GrowsBy}
 use Rattle.ksv_memo.specs.Folding.{IsFolding, IsRun, IsNoneBelow, IsTold, is_one, viewed, with_folded}
 use Rattle.ksv_memo.proofs.Laying.{one_of-all}
 use Rattle.ksv_memo.proofs.Change.{member}
@@ -246,6 +247,17 @@ grows-same w m old new turns right kept opened = record {
   calls = 0;
   grown = subst (λ es. GrowsBy w m (nodes_in old.opened) old.kept es 0) (sym kept) (grows-none w m (nodes_in old.opened) old.kept right);
   turns = refl;
+}
+
+-- so it is asked as a table without a run is
+pub asks-same : {N A E : Type 0} (w : Standing N A) (eq : N → N → Bool) (m : N) (old mid new : Tabled N A) (turns : Option ℕ) → IsRight w old.kept → mid ≡ old
+    → (r : Result (Option N) E) → IfOk r (λ came. Asks eq m (nodes mid) (nodes new) came) → OnErr r (nodes new ≡ nodes mid)
+    → AsksGrown w eq m old new turns turns r
+asks-same w eq m old mid new turns right same r ok err = record {
+  mid = mid;
+  grown = grows-same w m old mid turns right (ap (λ v. v.kept) same) (ap (λ v. v.opened) same);
+  ok = ok;
+  err = on_err_weaker r (ap (λ t. t.kept)) err;
 }
 
 module _ {N A S : Type 0} (q : Asking N A) (fold : S → Fold N A) (was : Option (Run S)) (run : Run S) (is : was ≡ Some run) (old new : Tabled N A)

@@ -1,13 +1,13 @@
 -- A run, or none, through the table's moves.
 use Rattle.ksv_memo.proofs.Common.{◌≡◌, ℕ, ◌+◌, ◌<◌, ◌≤◌, arith, nat_lt, cond, Bool, true, false, List, [], ◌∷◌, ◌++◌, filter, count_by}
 use Rattle.ksv_memo.proofs.Common.{Option, Some, None, Result, refl, sym, ◌∙◌, ap, subst, inl, inr, AllByRecursion, IsEquivalence, Entry, Open, Closes, MayKeep}
-use Rattle.ksv_memo.proofs.Common.{append-nil, Outcome, IsOneOf, nodes_in, is_some, All-map, sum_by-cons, IfOk, OnOk, nodes}
+use Rattle.ksv_memo.proofs.Common.{append-nil, Outcome, Answered, IsOneOf, nodes_in, is_some, All-map, sum_by-cons, IfOk, OnOk, nodes}
 use Rattle.std.proofs.Common.{Ok, Err, OnErr, true≢false}
 use Rattle.ksv_memo_rules.specs.Folds.{Fold, first_of}
 use Rattle.ksv_memo.specs.declared.folded.Run.{Run}
-use Rattle.ksv_memo.specs.Nodes.{Nodes, Tabled, Asks, Starts, IsPut, MayLose, TakesFirst, kept_of}
-use Rattle.ksv_memo.specs.Folding.{IsRun, IsFounded, Founds, IsFolding, IsFree, IsNoneBelow, SameButWild, is_one, viewed, with_folded}
-use Rattle.ksv_memo.proofs.Beside.{not_first, seen_put}
+use Rattle.ksv_memo.specs.Nodes.{Nodes, Tabled, Asks, HasEntry, Starts, IsPut, MayLose, TakesFirst, kept_of}
+use Rattle.ksv_memo.specs.Folding.{IsRun, IsFounded, Founds, IsCovered, IsFolding, IsFree, IsNoneBelow, SameButWild, is_one, viewed, with_folded}
+use Rattle.ksv_memo.proofs.Beside.{not_first, seen_folded, seen_put}
 use Rattle.ksv_memo.proofs.Lending.{reopened, ask-any, start-any, put_all, put_one, count_put, apart-heard}
 use Rattle.ksv_memo.proofs.Leasts.{lower}
 
@@ -125,50 +125,50 @@ module _ {N A S : Type 0} (eq : N → N → Bool) (laws : IsEquivalence eq) (exa
       (λ P all. nodes-all P new.opened (subst (AllByRecursion P) (sym named) (all-nodes P old.opened all)))
 
   -- more nodes may have slots
-  pub wilder-folding : (was run : Option (Run S)) (t : Nodes N A) → SameButWild was run → IsFolding eq fold was t → IsFolding eq fold run t
-  wilder-folding None None t same h = tt
-  wilder-folding None (Some run) t same h = absurd same
-  wilder-folding (Some was) None t same h = absurd same
-  wilder-folding (Some was) (Some run) t same h =
+  pub wilder-folding : (was run : Run S) (t : Nodes N A) → SameButWild was run → IsFolding eq fold (Some was) t → IsFolding eq fold (Some run) t
+  wilder-folding was run t same h =
       rw same.0 (rw same.1 (rw same.4
       (wilder eq laws exact (fold was.nodes) was.kept was.wild run.wild was.lent.items t.kept t.opened h same.2
       (let le = same.3 in let e = same.1 in omega arith))))
 
-  pub wilder-view : (was run : Option (Run S)) (t : Tabled N A) → SameButWild was run → viewed eq fold run t ≡ viewed eq fold was t
-  wilder-view None None t same = refl
-  wilder-view None (Some run) t same = absurd same
-  wilder-view (Some was) None t same = absurd same
-  wilder-view (Some was) (Some run) t same = λ i. record {
+  pub wilder-view : (was run : Run S) (t : Tabled N A) → SameButWild was run → viewed eq fold (Some run) t ≡ viewed eq fold (Some was) t
+  wilder-view was run t same = λ i. record {
     kept = with_folded eq (first_of (fold (same.0 i)) (same.1 i)) t.kept;
     opened = t.opened;
     looks = t.looks;
   }
 
-  pub same-self : (run : Option (Run S)) (t : Nodes N A) → IsFolding eq fold run t → SameButWild run run
-  same-self None t h = tt
-  same-self (Some run) t h = (refl, refl, omega arith, h.order, refl)
-
   -- what comes of asking for a node that may have a slot
-  pub asks-folding : (was run : Option (Run S)) (old new : Tabled N A) → SameButWild was run → IsFolding eq fold was (nodes old) → (n : N)
-      → IsFree fold run n → {E : Type 0} (r : Result (Option N) E) → IfOk r (λ came. Asks eq n (nodes old) (nodes new) came) → OnErr r (nodes new ≡ nodes old)
-      → IsFolding eq fold run (nodes new) × IfOk r (λ came. Asks eq n (nodes (viewed eq fold run old)) (nodes (viewed eq fold run new)) came)
-  asks-folding None None old new same h n free r ok err = (tt, ok)
-  asks-folding None (Some run) old new same h n free r ok err = absurd same
-  asks-folding (Some was) None old new same h n free r ok err = absurd same
-  asks-folding (Some was) (Some run) old new same h n free r ok err =
-      ask-any eq laws exact (fold run.nodes) run.kept run.wild run.lent.items (nodes old) (nodes old) (nodes new) refl
-      (wilder-folding (Some was) (Some run) (nodes old) same h) n (inl free) r ok err
+  pub asks-folding : (was run : Run S) (old new : Tabled N A) → SameButWild was run → IsFolding eq fold (Some was) (nodes old) → (n : N)
+      → IsFree fold run n → {E : Type 0} (r : Result (Option N) E) → IfOk r (λ came. Asks eq n (nodes old) (nodes new) came)
+      → OnErr r (nodes new ≡ nodes old) → IsFolding eq fold (Some run) (nodes new)
+      × IfOk r (λ came. Asks eq n (nodes (viewed eq fold (Some was) old)) (nodes (viewed eq fold (Some run) new)) came)
+  asks-folding was run old new same h n free r ok err =
+      subst (λ v. IsFolding eq fold (Some run) (nodes new) × IfOk r (λ came. Asks eq n (nodes v) (nodes (viewed eq fold (Some run) new)) came))
+      (wilder-view was run old same)
+      (ask-any eq laws exact (fold run.nodes) run.kept run.wild run.lent.items (nodes old) (nodes old) (nodes new) refl
+      (wilder-folding was run (nodes old) same h) n (inl free) r ok err)
 
-  pub starts-folding : (was run : Option (Run S)) (old new : Tabled N A) → SameButWild was run → IsFolding eq fold was (nodes old) → (n : N)
+  pub starts-folding : (was run : Run S) (old new : Tabled N A) → SameButWild was run → IsFolding eq fold (Some was) (nodes old) → (n : N)
       → IsFree fold run n → {E : Type 0} (r : Result (Option (Outcome N A)) E) → IfOk r (λ came. Starts eq n (nodes old) (nodes new) came)
-      → OnErr r (nodes new ≡ nodes old)
-      → IsFolding eq fold run (nodes new) × IfOk r (λ came. Starts eq n (nodes (viewed eq fold run old)) (nodes (viewed eq fold run new)) came)
-  starts-folding None None old new same h n free r ok err = (tt, ok)
-  starts-folding None (Some run) old new same h n free r ok err = absurd same
-  starts-folding (Some was) None old new same h n free r ok err = absurd same
-  starts-folding (Some was) (Some run) old new same h n free r ok err =
-      start-any eq laws exact (fold run.nodes) run.kept run.wild run.lent.items (nodes old) (nodes old) (nodes new) refl
-      (wilder-folding (Some was) (Some run) (nodes old) same h) n (inl free) r ok err
+      → OnErr r (nodes new ≡ nodes old) → IsFolding eq fold (Some run) (nodes new)
+      × IfOk r (λ came. Starts eq n (nodes (viewed eq fold (Some was) old)) (nodes (viewed eq fold (Some run) new)) came)
+  starts-folding was run old new same h n free r ok err =
+      subst (λ v. IsFolding eq fold (Some run) (nodes new) × IfOk r (λ came. Starts eq n (nodes v) (nodes (viewed eq fold (Some run) new)) came))
+      (wilder-view was run old same)
+      (start-any eq laws exact (fold run.nodes) run.kept run.wild run.lent.items (nodes old) (nodes old) (nodes new) refl
+      (wilder-folding was run (nodes old) same h) n (inl free) r ok err)
+
+  -- a question for a node that is kept by its number knows its answer
+  pub known-folding : (was run : Run S) (t : Tabled N A) → SameButWild was run → (j : ℕ) (n : N) → IsCovered fold run j n → (a : A)
+      → ((fold run.nodes).entry j).answer ≡ a
+      → Starts eq n (nodes (viewed eq fold (Some was) t)) (nodes (viewed eq fold (Some run) t)) (Some (Answered a))
+  known-folding was run t same j n at a is =
+      let view = wilder-view was run t same in (
+        subst (λ v. HasEntry eq v.kept n a) view
+            ((fold run.nodes).entry j, seen_folded eq laws exact (fold run.nodes) run.kept t.kept j n at.0 at.1, is),
+        ap nodes view,
+      )
 
   -- the last open node is kept
   closes-folding : (run : Run S) (a : A) (st : List (Open N A)) (old new : Tabled N A) → old.opened ≡ st → IsFolding eq fold (Some run) (nodes old)

@@ -84,12 +84,8 @@ module _ {S : Type 0} where
     pub lent : new.lent.items ≡ items
 
   -- the same, but that more nodes may have slots
-  abbrev pub SameButWild : Option (Run S) → Option (Run S) → Type 0
-  SameButWild None None = Unit {0}
-  SameButWild None (Some new) = ⊥
-  SameButWild (Some old) None = ⊥
-  SameButWild (Some old) (Some new) = (new.nodes ≡ old.nodes) × (new.kept ≡ old.kept) × (new.wild ≤ old.wild) × (new.kept ≤ new.wild)
-      × (new.lent.items ≡ old.lent.items)
+  abbrev pub SameButWild : Run S → Run S → Type 0
+  SameButWild old new = (new.nodes ≡ old.nodes) × (new.kept ≡ old.kept) × (new.wild ≤ old.wild) × (new.kept ≤ new.wild) × (new.lent.items ≡ old.lent.items)
 
   -- so many of the first are left
   pub record IsCut (left : ℕ) (old new : Run S) : Type 0 where
@@ -100,19 +96,16 @@ module _ {S : Type 0} where
 
 module _ {N A S : Type 0} (fold : S → Fold N A) where
   -- a node is folded, at this number
-  abbrev pub IsCovered : Option (Run S) → ℕ → N → Type 0
-  IsCovered None j n = ⊥
-  IsCovered (Some run) j n = (j < run.kept) × (((fold run.nodes).entry j).node ≡ n)
+  abbrev pub IsCovered : Run S → ℕ → N → Type 0
+  IsCovered run j n = (j < run.kept) × (((fold run.nodes).entry j).node ≡ n)
 
   -- the nodes that may have slots begin among those of the sequence
-  abbrev pub IsWithin : Option (Run S) → Type 0
-  IsWithin None = Unit {0}
-  IsWithin (Some run) = (run.kept ≤ run.wild) × (run.wild ≤ (fold run.nodes).size)
+  abbrev pub IsWithin : Run S → Type 0
+  IsWithin run = (run.kept ≤ run.wild) × (run.wild ≤ (fold run.nodes).size)
 
   -- a node may have a slot, or be open
-  abbrev pub IsFree : Option (Run S) → N → Type 0
-  IsFree None n = Unit {0}
-  IsFree (Some run) n = IsNoneBelow (fold run.nodes) run.wild n
+  abbrev pub IsFree : Run S → N → Type 0
+  IsFree run n = IsNoneBelow (fold run.nodes) run.wild n
 
 -- ---- a folded node that is lent
 module _ {N V F S : Type 0} (fold : S → Fold N (Result V F)) (j : ℕ) (v : V) (old_run new_run : Run S) where

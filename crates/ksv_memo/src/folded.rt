@@ -5,7 +5,7 @@ ghost use Rattle.ksv_memo_links.specs.Touching.{AreWithin};
 ghost use Rattle.ksv_memo_rules.specs.Meaning.{on};
 ghost use Rattle.ksv_memo_rules.specs.Right.{IsRight, counted};
 ghost use Rattle.ksv_memo.specs.Folding.{FailsToLend, Founds, IsCovered, IsCut, IsFolding, IsFree, IsWithin, LendsTo, SameButWild, viewed};
-ghost use Rattle.ksv_memo.specs.Growing.{Grows};
+ghost use Rattle.ksv_memo.specs.Growing.{AsksGrown, Grows};
 ghost use Rattle.ksv_memo.specs.Nodes.{Asks, Closes, KeepsNode, MayKeep, Starts, Steps, TakesFirst, is_there, nodes};
 ghost use Rattle.ksv_memo.specs.Running.{HasReached};
 ghost use Rattle.ksv_memo.specs.Sweep.{Sweeps};
@@ -48,15 +48,12 @@ impl<S> Run<S> {
 
 /// The number of a node that is kept by it alone. One that isn't, and could be, may have a slot or be open from now on.
 #[inline(always)]
-fn covered<R: Rules>(run: &mut Option<Run<R::Fold>>, node: &R::Node) -> Option<u32>
+fn covered<R: Rules>(run: &mut Run<R::Fold>, node: &R::Node) -> Option<u32>
     requires { IsWithin R.Fold.fold run.old }
     ensures some { IfSome result (λ place. IsCovered R.Fold.fold run.new place node.now) }
     ensures none { IfNone result (IsFree R.Fold.fold run.new node.now) }
     ensures same { SameButWild run.old run.new }
 {
-    let Some(run) = run else {
-        return None;
-    };
     let place = run.nodes.place(node)?;
     if place < run.kept {
         return Some(place);
@@ -106,7 +103,7 @@ fn ask_folded<R: Rules>(
     place: u32,
 ) -> Result<Option<R::Node>, AllocError>
     requires run { IsFolding R.Node.eq R.Fold.fold (Some run.old) (nodes table.old) }
-    requires covered { IsCovered R.Fold.fold (Some run.old) place node }
+    requires covered { IsCovered R.Fold.fold run.old place node }
     ensures run { IsFolding R.Node.eq R.Fold.fold (Some run.new) (nodes table.new) }
     ensures ok { IfOk result (Asks R.Node.eq node (nodes (viewed R.Node.eq R.Fold.fold (Some run.old) table.old)) (nodes (viewed R.Node.eq R.Fold.fold (Some run.new) table.new))) }
     ensures err { OnErr result ((viewed R.Node.eq R.Fold.fold (Some run.new) table.new).kept ≡ (viewed R.Node.eq R.Fold.fold (Some run.old) table.old).kept) }
@@ -125,109 +122,66 @@ fn ask_folded<R: Rules>(
     }
 }
 
-/// Asks for a node, which isn't kept by its number alone where it has none.
-#[inline(always)]
-fn ask_at<R: Rules>(
-    table: &mut Table<R>,
-    run: &mut Option<Run<R::Fold>>,
-    alloc: Global,
-    node: R::Node,
-    place: Option<u32>,
-) -> Result<Option<R::Node>, AllocError>
-    requires run { IsFolding R.Node.eq R.Fold.fold run.old (nodes table.old) }
-    requires covered { IfSome place (λ place. IsCovered R.Fold.fold run.old place node) }
-    requires free { IfNone place (IsFree R.Fold.fold run.old node) }
-    ensures run { IsFolding R.Node.eq R.Fold.fold run.new (nodes table.new) }
-    ensures ok { IfOk result (Asks R.Node.eq node (nodes (viewed R.Node.eq R.Fold.fold run.old table.old)) (nodes (viewed R.Node.eq R.Fold.fold run.new table.new))) }
-    ensures err { OnErr result ((viewed R.Node.eq R.Fold.fold run.new table.new).kept ≡ (viewed R.Node.eq R.Fold.fold run.old table.old).kept) }
-    ensures grows { table.old.looks ≤ table.new.looks }
-{
-    let Some(place) = place else {
-        return table.ask(node);
-    };
-    let Some(run) = run else { unreachable!() };
-    ask_folded(table, run, alloc, node, place)
-}
-
-/// Starts a question for a node, which isn't kept by its number alone where it has none. No node is open.
-#[inline(always)]
-fn start_at<R: Rules>(
-    table: &mut Table<R>,
-    run: &mut Option<Run<R::Fold>>,
-    alloc: Global,
-    rules: &R,
-    node: R::Node,
-    place: Option<u32>,
-) -> Result<Option<Outcome<R::Node, Reply<R>>>, AllocError>
-    requires run { IsFolding R.Node.eq R.Fold.fold run.old (nodes table.old) }
-    requires covered { IfSome place (λ place. IsCovered R.Fold.fold run.old place node) }
-    requires free { IfNone place (IsFree R.Fold.fold run.old node) }
-    requires opened { table.old.opened ≡ [] }
-    ensures run { IsFolding R.Node.eq R.Fold.fold run.new (nodes table.new) }
-    ensures ok { IfOk result (Starts R.Node.eq node (nodes (viewed R.Node.eq R.Fold.fold run.old table.old)) (nodes (viewed R.Node.eq R.Fold.fold run.new table.new))) }
-    ensures err { OnErr result ((viewed R.Node.eq R.Fold.fold run.new table.new).kept ≡ (viewed R.Node.eq R.Fold.fold run.old table.old).kept) }
-    ensures grows { table.old.looks ≤ table.new.looks }
-{
-    let Some(place) = place else {
-        return table.start(alloc, rules, node);
-    };
-    let Some(run) = run else { unreachable!() };
-    start_folded(table, run, alloc, rules, node, place)
-}
-
-/// Starts a question for a node that is kept by its number alone. No node is open.
-#[cold]
+/// Asks for a node, where some are kept by numbers alone.
 #[inline(never)]
-fn start_folded<R: Rules>(
+fn ask_beside<R: Rules>(
+    table: &mut Table<R>,
+    run: &mut Run<R::Fold>,
+    alloc: Global,
+    node: R::Node,
+) -> Result<Option<R::Node>, AllocError>
+    requires run { IsFolding R.Node.eq R.Fold.fold (Some run.old) (nodes table.old) }
+    ensures run { IsFolding R.Node.eq R.Fold.fold (Some run.new) (nodes table.new) }
+    ensures ok { IfOk result (Asks R.Node.eq node (nodes (viewed R.Node.eq R.Fold.fold (Some run.old) table.old)) (nodes (viewed R.Node.eq R.Fold.fold (Some run.new) table.new))) }
+    ensures err { OnErr result ((viewed R.Node.eq R.Fold.fold (Some run.new) table.new).kept ≡ (viewed R.Node.eq R.Fold.fold (Some run.old) table.old).kept) }
+    ensures grows { table.old.looks ≤ table.new.looks }
+{
+    match covered::<R>(run, &node) {
+        Some(place) => ask_folded(table, run, alloc, node, place),
+        None => table.ask(node),
+    }
+}
+
+/// Starts a question for a node, where some are kept by numbers alone.
+#[inline(never)]
+fn start_beside<R: Rules>(
     table: &mut Table<R>,
     run: &mut Run<R::Fold>,
     alloc: Global,
     rules: &R,
     node: R::Node,
-    place: u32,
 ) -> Result<Option<Outcome<R::Node, Reply<R>>>, AllocError>
     requires run { IsFolding R.Node.eq R.Fold.fold (Some run.old) (nodes table.old) }
-    requires covered { IsCovered R.Fold.fold (Some run.old) place node }
-    requires opened { table.old.opened ≡ [] }
     ensures run { IsFolding R.Node.eq R.Fold.fold (Some run.new) (nodes table.new) }
     ensures ok { IfOk result (Starts R.Node.eq node (nodes (viewed R.Node.eq R.Fold.fold (Some run.old) table.old)) (nodes (viewed R.Node.eq R.Fold.fold (Some run.new) table.new))) }
     ensures err { OnErr result ((viewed R.Node.eq R.Fold.fold (Some run.new) table.new).kept ≡ (viewed R.Node.eq R.Fold.fold (Some run.old) table.old).kept) }
     ensures grows { table.old.looks ≤ table.new.looks }
 {
-    if table.holds(&node) {
-        return table.start(alloc, rules, node);
-    }
-    let value = run.nodes.answer(alloc, place)?;
-    let reply = run.nodes.answer(alloc, place)?;
-    match table.start(alloc, rules, node) {
-        Ok(None) => {
-            lend(table, run, place, value)?;
-            Ok(Some(Outcome::Answered(Ok(reply))))
+    match covered::<R>(run, &node) {
+        Some(place) => {
+            let value = run.nodes.answer(alloc, place)?;
+            Ok(Some(Outcome::Answered(Ok(value))))
         }
-        Ok(Some(outcome)) => Ok(Some(outcome)),
-        Err(refused) => Err(refused),
+        None => table.start(alloc, rules, node),
     }
 }
 
 /// More nodes are kept by numbers alone, if evaluation of a node completes them, which is about to be asked. Their calls are counted.
-#[inline(always)]
+#[inline(never)]
 fn grow_run<R: Rules>(
     table: &mut Table<R>,
-    run: &mut Option<Run<R::Fold>>,
+    run: &mut Run<R::Fold>,
     rules: &R,
     bytes: &Buffer,
     node: &R::Node,
     turns: &mut Turns,
 )
-    requires run { IsFolding R.Node.eq R.Fold.fold run.old (nodes table.old) }
-    requires right { IsRight (on (R.meaning rules.now) bytes.now) (viewed R.Node.eq R.Fold.fold run.old table.old).kept }
-    ensures run { IsFolding R.Node.eq R.Fold.fold run.new (nodes table.new) }
-    ensures grown { Grows (on (R.meaning rules.now) bytes.now) node.now (viewed R.Node.eq R.Fold.fold run.old table.old) (viewed R.Node.eq R.Fold.fold run.new table.new) turns.old turns.new }
+    requires run { IsFolding R.Node.eq R.Fold.fold (Some run.old) (nodes table.old) }
+    requires right { IsRight (on (R.meaning rules.now) bytes.now) (viewed R.Node.eq R.Fold.fold (Some run.old) table.old).kept }
+    ensures run { IsFolding R.Node.eq R.Fold.fold (Some run.new) (nodes table.new) }
+    ensures grown { Grows (on (R.meaning rules.now) bytes.now) node.now (viewed R.Node.eq R.Fold.fold (Some run.old) table.old) (viewed R.Node.eq R.Fold.fold (Some run.new) table.new) turns.old turns.new }
     ensures grows { table.old.looks ≤ table.new.looks }
 {
-    let Some(run) = run else {
-        return;
-    };
     let Some(place) = run.nodes.place(node) else {
         return;
     };
@@ -243,8 +197,31 @@ fn grow_run<R: Rules>(
     run.kept = now;
 }
 
-/// The run of nodes that can be kept by numbers alone once the last open node has this answer, if there are enough of them.
+/// Asks for a node, where some are kept by numbers alone. More are so before it is looked up. It is inlined, and what it calls isn't:
+/// so what these calls need is made ready here, and not where no node is kept by its number.
 #[inline(always)]
+fn ask_grown<R: Rules>(
+    table: &mut Table<R>,
+    run: &mut Run<R::Fold>,
+    alloc: Global,
+    rules: &R,
+    bytes: &Buffer,
+    node: R::Node,
+    turns: &mut Turns,
+) -> Result<Option<R::Node>, AllocError>
+    requires run { IsFolding R.Node.eq R.Fold.fold (Some run.old) (nodes table.old) }
+    requires right { IsRight (on (R.meaning rules.now) bytes.now) (viewed R.Node.eq R.Fold.fold (Some run.old) table.old).kept }
+    ensures run { IsFolding R.Node.eq R.Fold.fold (Some run.new) (nodes table.new) }
+    ensures asked { AsksGrown (on (R.meaning rules.now) bytes.now) R.Node.eq node (viewed R.Node.eq R.Fold.fold (Some run.old) table.old) (viewed R.Node.eq R.Fold.fold (Some run.new) table.new) turns.old turns.new result }
+    ensures grows { table.old.looks ≤ table.new.looks }
+{
+    grow_run(table, run, rules, bytes, &node, turns);
+    ask_beside(table, run, alloc, node)
+}
+
+/// The run of nodes that can be kept by numbers alone once the last open node has this answer, if there are enough of them.
+#[cold]
+#[inline(never)]
 fn founded<R: Rules>(
     table: &Table<R>,
     alloc: Global,
@@ -344,34 +321,43 @@ impl<R: Rules> Folded<R> {
         ensures err { OnErr result (self.new.kept ≡ self.old.kept) }
         ensures grows { self.old.looks ≤ self.new.looks }
     {
-        let place = covered::<R>(&mut self.run, &node);
-        start_at(&mut self.table, &mut self.run, alloc, rules, node, place)
+        match &mut self.run {
+            None => self.table.start(alloc, rules, node),
+            Some(run) => start_beside(&mut self.table, run, alloc, rules, node),
+        }
     }
 
     /// Asks for a node, which is given back if it is open. If it is kept, the last open node gets its answer; else it is
-    /// opened.
+    /// opened. Before it is looked up, the table grows by nodes that evaluation of it completes; their calls are counted.
     #[inline(always)]
     pub(crate) fn ask(
         &mut self,
         alloc: Global,
+        rules: &R,
+        bytes: &Buffer,
         node: R::Node,
+        turns: &mut Turns,
     ) -> Result<Option<R::Node>, AllocError>
-        ensures ok { IfOk result (Asks R.Node.eq node (nodes self.old) (nodes self.new)) }
-        ensures err { OnErr result (self.new.kept ≡ self.old.kept) }
+        requires right { IsRight (on (R.meaning rules.now) bytes.now) self.old.kept }
+        ensures asked { AsksGrown (on (R.meaning rules.now) bytes.now) R.Node.eq node self.old self.new turns.old turns.new result }
         ensures grows { self.old.looks ≤ self.new.looks }
     {
-        let place = covered::<R>(&mut self.run, &node);
-        ask_at(&mut self.table, &mut self.run, alloc, node, place)
+        match &mut self.run {
+            None => self.table.ask(node),
+            Some(run) => ask_grown(&mut self.table, run, alloc, rules, bytes, node, turns),
+        }
     }
 
-    /// Grows by nodes that evaluation of a node completes, which is about to be asked; their calls are counted.
-    #[inline(always)]
+    /// Grows by nodes that evaluation of a node completes, for which a question is about to start; their calls are counted.
     pub(crate) fn grow(&mut self, rules: &R, bytes: &Buffer, node: &R::Node, turns: &mut Turns)
         requires right { IsRight (on (R.meaning rules.now) bytes.now) self.old.kept }
         ensures grown { Grows (on (R.meaning rules.now) bytes.now) node.now self.old self.new turns.old turns.new }
         ensures grows { self.old.looks ≤ self.new.looks }
     {
-        grow_run(&mut self.table, &mut self.run, rules, bytes, node, turns);
+        match &mut self.run {
+            None => {}
+            Some(run) => grow_run(&mut self.table, run, rules, bytes, node, turns),
+        }
     }
 
     /// One call of the rules for the last open node, which is counted.
@@ -407,15 +393,14 @@ impl<R: Rules> Folded<R> {
         ensures err { OnErr result (MayKeep answer self.old.opened self.old.kept self.new.kept) }
         ensures grows { self.old.looks ≤ self.new.looks }
     {
-        if self.run.is_some() || !may_found(rules, &answer) {
+        if !may_found(rules, &answer) || self.run.is_some() {
             return self.table.close(alloc, answer);
         }
         self.close_founding(alloc, rules, bytes, answer)
     }
 
     /// Keeps the last open node with its answer, where other nodes may be kept by numbers alone once it has it.
-    #[cold]
-    #[inline(never)]
+    #[inline(always)]
     fn close_founding(
         &mut self,
         alloc: Global,
@@ -457,7 +442,24 @@ impl<R: Rules> Folded<R> {
     /// no memory. The uses of kept nodes are within this many pages. An overwrite looks only near, and any other edit at
     /// what is after it. How many looks it took: those of the table, and two for the root of a run; and no fewer than the nodes
     /// that went, of which those that are kept by numbers alone need none.
+    #[inline(always)]
     pub(crate) fn forget(&mut self, change: Change, pages: usize) -> u64
+        requires opened { self.old.opened ≡ [] }
+        requires within { AllByRecursion (λ entry. AreWithin pages entry.uses) self.old.kept }
+        ensures kept { Sweeps change pages self.old.kept self.new.kept result }
+        ensures opened { self.new.opened ≡ [] }
+        ensures told { self.new.looks ≤ self.old.looks + result }
+    {
+        match &self.run {
+            None => self.table.forget(change, pages),
+            Some(_) => self.forget_beside(change, pages),
+        }
+    }
+
+    /// The same, where nodes are kept by numbers alone.
+    #[cold]
+    #[inline(never)]
+    fn forget_beside(&mut self, change: Change, pages: usize) -> u64
         requires opened { self.old.opened ≡ [] }
         requires within { AllByRecursion (λ entry. AreWithin pages entry.uses) self.old.kept }
         ensures kept { Sweeps change pages self.old.kept self.new.kept result }

@@ -139,8 +139,10 @@ impl<R: Rules> Machine<R> {
                     self.table.close(self.alloc, rules, bytes, answer)?;
                 }
                 Ok(Next::Need(asked)) => {
-                    self.table.grow(rules, bytes, &asked, &mut self.turns);
-                    match self.table.ask(self.alloc, asked) {
+                    match self
+                        .table
+                        .ask(self.alloc, rules, bytes, asked, &mut self.turns)
+                    {
                         Ok(None) => continue,
                         Ok(Some(node)) => return Ok(Outcome::Circle(node)),
                         Err(refused) => return Err(refused),
@@ -168,6 +170,7 @@ impl<R: Rules> Machine<R> {
         ensures turns { IfOk result (λ outcome. IsAnswered outcome → self.new.turns ≡ counted (debt (on (R.meaning rules.now) bytes.now) self.old.table.kept (done (on (R.meaning rules.now) bytes.now) [] node)) self.old.turns) }
     {
         self.table.tidy();
+        self.table.grow(rules, bytes, &node, &mut self.turns);
         let outcome = self.run(rules, bytes, node);
         self.abandon();
         outcome

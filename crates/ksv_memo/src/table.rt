@@ -425,6 +425,7 @@ impl<R: Rules> Table<R> {
     /// no memory. The uses of kept nodes are within this many pages. An overwrite looks only near, and any other edit at
     /// what is after it. How many looks it took: what the count is now, less what it was; and no fewer than the nodes that went,
     /// where the count has stopped at 2^64 - 1.
+    #[inline(always)]
     pub(crate) fn forget(&mut self, change: Change, pages: usize) -> u64
         requires opened { self.old.opened ≡ [] }
         requires within { AllByRecursion (λ entry. AreWithin pages entry.uses) self.old.kept }

@@ -26,14 +26,14 @@ pub trait Folds<N, V, F> {
         ensures some { IfSome result (λ j. ((fold self.now).entry j).node ≡ node.now) }
         ensures none { IfNone result ((j : ℕ) → j < (fold self.now).size → ((fold self.now).entry j).node ≡ node.now → ⊥) };
 
-    /// The answer of the node of a number.
+    /// The answer of the node of a number. Where there are no nodes, any number will do.
     fn answer(&self, alloc: Global, place: u32) -> Result<V, AllocError>
-        requires { place < (fold self.now).size }
+        requires { 0 < (fold self.now).size → place < (fold self.now).size }
         ensures { IfOk result (λ value. ((fold self.now).entry place).answer ≡ Ok value) };
 
-    /// The use by which an edit takes the node of a number, if there is one.
+    /// The use by which an edit takes the node of a number, if there is one. Where there are no nodes, any number will do.
     fn used(&self, place: u32) -> Option<Use>
-        requires { place < (fold self.now).size }
+        requires { 0 < (fold self.now).size → place < (fold self.now).size }
         ensures { ((fold self.now).entry place).uses ≡ used_of result };
 
     /// How many of the first nodes an edit leaves that doesn't take the root.

@@ -1,5 +1,6 @@
 -- The definitions of node rules, and of what is kept.
 pub mod Fields
+pub mod Members
 pub mod Wanted
 pub mod Choosing
 pub mod Heads

@@ -18,6 +18,7 @@
 //!
 //! - `described`: `NodeRules` and `Described`: the rules as an engine sees them
 //! - `laws`: laws of evaluation and of what is kept: the engine's are the direct ones; how many nodes a rule asks
+//! - `members`: the members of a type, as code
 //!
 //! Definitions (`specs/`):
 //!
@@ -35,6 +36,7 @@
 //! - `Laws`: laws: an engine's words for what it keeps are the direct ones; how many nodes a rule asks
 //! - `Lemmas`: lemmas that a reader may skip: how many nodes each rule asks; the rules keep the laws of `Rules`
 //! - `Meaning`: the rule of a node
+//! - `Members`: what code keeps of a member that it looked for
 //! - `Values`: the value of what is at a path
 //! - `Wanted`: expressions in rules: which nodes and readings answer their wants
 //!
@@ -47,9 +49,11 @@
 
 mod described;
 mod laws;
+mod members;
 
 pub use described::{Described, NodeRules};
 pub use laws::{
     completion_is_direct, cost_is_direct, evaluation_is_direct, next_meets_truth,
     rules_are_bounded, touch_is_direct,
 };
+pub use members::{Sought, find_member, last_attribute, members_of, number_of};

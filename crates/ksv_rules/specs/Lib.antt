@@ -1,4 +1,4 @@
 -- What the code keeps, and how a turn meets what an expression wants.
-pub mod Members
+pub mod Chosen
 pub mod Code
 pub mod Met

@@ -14,12 +14,13 @@ ghost use Rattle.ksv_rule_meaning.specs.Values.{in_no_stream, in_enum, instance_
 
 use crate::choosing::content_of;
 use crate::evaluation::value_of_expression;
-use crate::fields::{field_of, kind_of, members_of, parameters_before};
+use crate::fields::{field_of, kind_of, parameters_before};
 use crate::settings::{home_of, member_ctx};
 use ksv_desc::{Content, Desc, MemberKind};
 use ksv_expr_tree::Expr;
 use ksv_expr_value::{Ctx, FaultKind, Path, Place, Value};
 use ksv_nodes::{Calc, Halt, MemberRef, Object, Origin, Turn};
+use ksv_rule_meaning::members_of;
 
 /// No member's value is a stream.
 fn in_no_stream(turn: &mut Turn, value: Value) -> Result<Value, Halt>

@@ -8,14 +8,14 @@ ghost use Rattle.ksv_desc.specs.Description.{Bytes};
 ghost use Rattle.ksv_desc.specs.Pieces.{plain_case, plain_choice, plain_content, plain_value};
 ghost use Rattle.ksv_nodes.specs.Turning.{Runs};
 ghost use Rattle.ksv_rule_meaning.specs.Choosing.{is_constant, is_negative, is_enum_member, is_equal, is_case_of, is_default, first_case, case_for, switched, choose, content_of};
-ghost use Rattle.ksv_rules.specs.Members.{plain_chosen};
+ghost use Rattle.ksv_rules.specs.Chosen.{plain_chosen};
 
 use crate::evaluation::value_of_expression;
-use crate::fields::number_of;
 use ksv_desc::{Case, CaseValue, Choice, Content};
 use ksv_expr_tree::{EnumMember, Expr, Literal};
 use ksv_expr_value::{Ctx, FaultKind, Value};
 use ksv_nodes::{Halt, Turn};
+use ksv_rule_meaning::number_of;
 use std::alloc::AllocError;
 
 /// What is read, and by which case.

@@ -10,13 +10,14 @@ ghost use Rattle.ksv_nodes.specs.Turning.{Runs};
 ghost use Rattle.ksv_rule_meaning.specs.Wanted.{truth_of};
 ghost use Rattle.ksv_rule_meaning.specs.Ends.{stream_end, fields_end, object_end, part_rest, list_end, absent_end, place_of, start_of, is_counted, behind_element, is_last, is_by_bytes, not_empty, element_end, end_at, end_of, next_rest, rest_behind, rest_from, in_whole_list, first_rest, whole_rest, rest_at, rest_of};
 
-use crate::fields::{field_of, last_attribute, members_of};
+use crate::fields::field_of;
 use crate::parts::{in_list_above, part_end};
 use crate::wanted::{missing, truth_of};
 use ksv_desc::{Desc, Repeat};
 use ksv_expr_tree::Expr;
 use ksv_expr_value::{Ctx, FaultKind, Path, Place, Step, Stream};
 use ksv_nodes::{ELEMENT_LIMIT, Ended, Halt, Head, List, Object, ObjectEnd, Rested, Turn};
+use ksv_rule_meaning::{last_attribute, members_of};
 
 /// The end of an object that ends with its last attribute: the next byte; without one it ends where it begins.
 #[tactic(auto, using(ksv_basics::proofs::Running::run_bind), unfolding(ksv_rule_meaning::specs::Ends::fields_end))]

@@ -7,10 +7,10 @@ ghost use Rattle.ksv_expr_value.specs.Trail.{element_limit, parent};
 ghost use Rattle.ksv_desc.specs.Pieces.{plain_choice, plain_repeat, plain_field, plain_kind};
 ghost use Rattle.ksv_desc.specs.Whole.{plain_pieces};
 ghost use Rattle.ksv_nodes.specs.Turning.{Runs};
-ghost use Rattle.ksv_rules.specs.Members.{plain_sought};
+ghost use Rattle.ksv_rule_meaning.specs.Members.{plain_sought};
 ghost use Rattle.ksv_rule_meaning.specs.Heads.{in_count, count_of, counted, until_eos, repeated, attribute_at, is_of_bits, start_after, attribute_start, attribute_setting, element_setting, origin_of, attribute_head, instance_setting, positioned_in, positioned, instance_head, holder_of, calc, value_head, member_at, member_head, is_past, in_next, next_start, element_start, shape_at, element_head, root_head, head_of};
 
-use crate::fields::{Sought, field_of, member_named};
+use crate::fields::{field_of, member_named};
 use crate::parts::{end_beside, in_list_above};
 use crate::shapes::shape_at;
 use crate::wanted::{holds, in_object_above, size_of, stream_for};
@@ -21,6 +21,7 @@ use ksv_nodes::{
     Calc, CaseNumber, ELEMENT_LIMIT, ElementCount, Ended, Halt, Head, Holder, List, MemberRef,
     Object, ObjectEnd, ObjectOrigin, Origin, Turn,
 };
+use ksv_rule_meaning::Sought;
 
 // ---- attributes
 

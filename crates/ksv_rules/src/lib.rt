@@ -31,8 +31,8 @@
 //!
 //! Definitions (`specs/`):
 //!
+//! - `Chosen`: the plain data of a case that the code has chosen
 //! - `Code`: words of private contracts
-//! - `Members`: the plain data of a member and of a case that the code has found
 //! - `Met`: how a turn meets the wants of an expression
 //!
 //! Lemmas (`proofs/`):

@@ -10,7 +10,7 @@ ghost use Rattle.ksv_nodes.specs.Rule.{reach};
 ghost use Rattle.ksv_nodes.specs.Turning.{Runs, StandsBelow};
 ghost use Rattle.ksv_nodes.specs.declared.turn.readings.Found.TheVariants.{Missing};
 ghost use Rattle.ksv_rule_meaning.specs.Heads.{leaf, bits_leaf, leaf_to_end, terminated_at, terminated, run_of, sized_leaf, bytes_at, sized_object, object_at, content_at, unchosen_at, chosen_at, shape_at};
-ghost use Rattle.ksv_rules.specs.Members.{plain_chosen};
+ghost use Rattle.ksv_rules.specs.Chosen.{plain_chosen};
 
 use crate::choosing::{Chosen, choose};
 use crate::wanted::size_of;

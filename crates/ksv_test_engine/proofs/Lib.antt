@@ -1,4 +1,3 @@
 pub mod Hashing
 pub mod Reading
 pub mod Totals
-pub mod Unfolded

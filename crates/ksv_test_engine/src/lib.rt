@@ -44,7 +44,6 @@
 //! - `Hashing`: what a list is after its last element took the place of another
 //! - `Reading`: a byte in the two slices of a window
 //! - `Totals`: the total of replies
-//! - `Unfolded`: no node of the samples is kept by its number alone
 #![tactic(auto)]
 
 #[cfg(test)]

@@ -14,6 +14,7 @@
 //!
 //! - `descriptions`: trees of YAML, and what a description holds
 //! - `expressions`: paths, integers, bytes in parts, encodings, faults and refused texts
+//! - `folded`: long plain lists, by an engine that keeps nodes by their numbers alone and one that has a slot for each
 //! - `near`: how many looks an overwrite takes where the nodes of a described file are kept
 //! - `nodes`: paths from texts, answers of nodes, decimal numbers
 //! - `places`: places of nodes, by the five calls
@@ -24,6 +25,8 @@
 mod descriptions;
 #[cfg(test)]
 mod expressions;
+#[cfg(test)]
+mod folded;
 #[cfg(test)]
 mod near;
 #[cfg(test)]

@@ -227,7 +227,7 @@ fn add_circle(desc: &Desc, path: &Path, out: &mut String) -> Result<(), AllocErr
 }
 
 /// Adds an answer as it is written.
-fn add_written(
+pub(crate) fn add_written(
     desc: &Desc,
     answer: &Answer<Node, Given, Fault>,
     out: &mut String,

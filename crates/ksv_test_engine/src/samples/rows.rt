@@ -193,7 +193,7 @@ impl Rules for Rows {
         Ok(None)
     }
 
-    #[tactic(auto, using(crate::proofs::Unfolded::no_fold))]
+    #[tactic(auto, using(ksv_memo::proofs::Unfolded::no_fold))]
     fn foldable(&self, _nodes: &NoFold<RowNumber, u32>, _value: &u32, _bytes: &Buffer) -> u32 {
         0
     }

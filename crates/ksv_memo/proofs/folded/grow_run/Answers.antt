@@ -1,6 +1,5 @@
-use Rattle.ksv_memo.proofs.Common.{List, ℕ, Result, refl}
-use Rattle.ksv_memo.specs.Folding.{viewed}
-use Rattle.ksv_memo.proofs.Growth.{grows-same, grows-beside, runs-beside, stays-beside, told-beside}
+use Rattle.ksv_memo.proofs.Common.{List, ℕ, Result, Some, refl}
+use Rattle.ksv_memo.proofs.Growth.{grows-beside, runs-beside, stays-beside, told-beside}
 use Rattle.ksv_memo.proofs.Taking.{Asking, asking}
 use Rattle.ksv_memo.proofs.folded.grow_run.Given
 use Rattle.ksv_memo.proofs.folded.grow_run.Goals as goal
@@ -9,41 +8,35 @@ use Rattle.ksv_memo.proofs.folded.grow_run.Goals as goal
 abbrev asks : (g : Given.Over) (rules : g.row.R.Denot) (bytes : List ℕ) → Asking g.row.R-Node.Denot (Result g.row.R-Value.Denot g.row.R-Fault.Denot)
 asks g rules bytes = asking (g.R.Rules.meaning rules) (g.met.R.Rules.lawful rules) bytes g.R.Node.PartialEq.eq g.met.R.Node.Eq.laws g.met.R.Rules.exact
 
--- there is no run, or none of its nodes is asked, or it has it already, or the sequence is shorter
+-- none of its nodes is asked, or it has it already, or the sequence is shorter
 pub returns-in_default-clause-grown : goal.returns-in_default-clause-grown
 returns-in_default-clause-grown g c =
-    let q = asks g c.args.rules.now c.args.bytes.now in
-    let t = viewed q.eq g.R.Fold.Folds.fold c.args.run.now c.args.table.now in
-    grows-same q.world c.args.node.now t t c.args.turns.now c.requires.right refl refl
-
-pub returns-in_default-place-clause-grown : goal.returns-in_default-place-clause-grown
-returns-in_default-place-clause-grown g c =
-    stays-beside (asks g c.args.rules.now c.args.bytes.now) g.R.Fold.Folds.fold c.args.run.now c.in-Some.run' c.in-Some.is c.args.table.now c.args.table.now
+    stays-beside (asks g c.args.rules.now c.args.bytes.now) g.R.Fold.Folds.fold (Some c.args.run.now) c.args.run.now refl c.args.table.now c.args.table.now
     refl c.requires.run c.requires.right c.args.node.now c.args.turns.now
 
 pub returns-then-place-run-clause-grown : goal.returns-then-place-run-clause-grown
 returns-then-place-run-clause-grown g c =
-    stays-beside (asks g c.args.rules.now c.args.bytes.now) g.R.Fold.Folds.fold c.args.run.now c.in-Some.run' c.in-Some.is c.args.table.now c.args.table.now
+    stays-beside (asks g c.args.rules.now c.args.bytes.now) g.R.Fold.Folds.fold (Some c.args.run.now) c.args.run.now refl c.args.table.now c.args.table.now
     refl c.requires.run c.requires.right c.args.node.now c.args.turns.now
 
 pub returns-then-place-count-clause-grown : goal.returns-then-place-count-clause-grown
 returns-then-place-count-clause-grown g c =
-    stays-beside (asks g c.args.rules.now c.args.bytes.now) g.R.Fold.Folds.fold c.args.run.now c.in-Some.run' c.in-Some.is c.args.table.now
+    stays-beside (asks g c.args.rules.now c.args.bytes.now) g.R.Fold.Folds.fold (Some c.args.run.now) c.args.run.now refl c.args.table.now
     c.foldable-count.new.self c.foldable-count.ensures.nodes c.requires.run c.requires.right c.args.node.now c.args.turns.now
 
 -- it grows
 pub returns-clause-run : goal.returns-clause-run
 returns-clause-run g c =
-    runs-beside (asks g c.args.rules.now c.args.bytes.now) g.R.Fold.Folds.fold c.args.run.now c.in-Some.run' c.in-Some.is c.args.table.now
-    c.foldable-count.new.self c.foldable-count.ensures.nodes c.requires.run c.requires.right c.args.node.now c.args.turns.now c.in-Some-place.place
+    runs-beside (asks g c.args.rules.now c.args.bytes.now) g.R.Fold.Folds.fold (Some c.args.run.now) c.args.run.now refl c.args.table.now
+    c.foldable-count.new.self c.foldable-count.ensures.nodes c.requires.run c.requires.right c.args.node.now c.args.turns.now c.in-Some.place
     c.min-now.result c.if-place-run.false c.min-now.ensures
 
 pub returns-clause-grown : goal.returns-clause-grown
 returns-clause-grown g c =
     let q = asks g c.args.rules.now c.args.bytes.now in
     let fold = g.R.Fold.Folds.fold in
-    let told = told-beside q fold c.args.run.now c.in-Some.run' c.in-Some.is c.args.table.now c.foldable-count.new.self c.foldable-count.ensures.nodes
+    let told = told-beside q fold (Some c.args.run.now) c.args.run.now refl c.args.table.now c.foldable-count.new.self c.foldable-count.ensures.nodes
     c.requires.run c.requires.right c.args.node.now c.args.turns.now in
-    grows-beside q fold c.args.run.now c.in-Some.run' c.in-Some.is c.args.table.now c.foldable-count.new.self c.foldable-count.ensures.nodes c.requires.run
-    c.requires.right c.args.node.now c.args.turns.now c.in-Some-place.place c.min-now.result c.if-place-run.false c.min-now.ensures c.foldable-count.result
-    c.calls.result c.add_all.new.self c.in-Some-place.ensures.some (c.foldable-count.ensures.fold told) c.if-place-count.false c.calls.ensures c.add_all.ensures
+    grows-beside q fold (Some c.args.run.now) c.args.run.now refl c.args.table.now c.foldable-count.new.self c.foldable-count.ensures.nodes c.requires.run
+    c.requires.right c.args.node.now c.args.turns.now c.in-Some.place c.min-now.result c.if-place-run.false c.min-now.ensures c.foldable-count.result
+    c.calls.result c.add_all.new.self c.in-Some.ensures.some (c.foldable-count.ensures.fold told) c.if-place-count.false c.calls.ensures c.add_all.ensures

@@ -9,8 +9,8 @@ invariant_of-self g c =
     (close-all g.R.Node.PartialEq.eq g.met.R.Node.Eq.laws g.met.R.Rules.exact g.R.Fold.Folds.fold c.self.inside.run c.args.answer c.self.inside.table
     c.close.new.self c.self.invariant c.close.result c.close.ensures.ok c.close.ensures.err c.close.ensures.waiting).0
 
-pub returns-then-is_some-clause-ok : goal.returns-then-is_some-clause-ok
-returns-then-is_some-clause-ok g c =
+pub returns-then-not-may_found-clause-ok : goal.returns-then-not-may_found-clause-ok
+returns-then-not-may_found-clause-ok g c =
     let eq = g.R.Node.PartialEq.eq in
     subst (λ v. OnOk c.close.result (Closes c.args.answer v.opened (nodes v) (nodes (viewed eq g.R.Fold.Folds.fold c.self.inside.run c.close.new.self))))
     c.self.view_is

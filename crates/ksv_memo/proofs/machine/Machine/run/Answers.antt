@@ -110,8 +110,8 @@ needs g c = record {
 }
 
 -- what is kept is right, so the table may grow
-pub grow-requires : goal.grow-requires
-grow-requires g c =
+pub ask-requires : goal.ask-requires
+ask-requires g c =
     let before = c.loop-answer.self.table in
     let right = right_with (asks g c.args.rules.now c.args.bytes.now) _ before.kept c.args.node before.opened c.loop-answer.invariant.holds in
     record { right = subst (IsRight _) (sym c.in-Ok-Need.ensures.kept) right }
@@ -120,34 +120,38 @@ grow-requires g c =
 pub loop-answer-smaller-in-Ok-None : goal.loop-answer-smaller-in-Ok-None
 loop-answer-smaller-in-Ok-None g c =
     let t = needs g (goal.at.loop-answer-smaller-in-Ok-None g c).In-Ok-Need in
-    let more = c.grow.ensures.grown in
-    (grown-goes (asks g c.args.rules.now c.args.bytes.now) t (nodes c.grow.new.self) more.calls more.opened more.grown _ _
-    (rw c.in-Ok-None.field-0-is at c.in-Ok-None.ensures.ok) (more.turns ∙ ap (counted more.calls) c.in-Ok-Need.ensures.turns)).smaller
+    let asked = c.in-Ok-None.ensures.asked in
+    let more = asked.grown in
+    (grown-goes (asks g c.args.rules.now c.args.bytes.now) t (nodes asked.mid) more.calls more.opened more.grown _ _
+    (rw c.in-Ok-None.field-0-is at asked.ok) (more.turns ∙ ap (counted more.calls) c.in-Ok-Need.ensures.turns)).smaller
 
 pub loop-answer-preserved-in-Ok-None : goal.loop-answer-preserved-in-Ok-None
 loop-answer-preserved-in-Ok-None g c =
     let t = needs g (goal.at.loop-answer-preserved-in-Ok-None g c).In-Ok-Need in
-    let more = c.grow.ensures.grown in
-    let goes = grown-goes (asks g c.args.rules.now c.args.bytes.now) t (nodes c.grow.new.self) more.calls more.opened more.grown _ _
-    (rw c.in-Ok-None.field-0-is at c.in-Ok-None.ensures.ok) (more.turns ∙ ap (counted more.calls) c.in-Ok-Need.ensures.turns) in
+    let asked = c.in-Ok-None.ensures.asked in
+    let more = asked.grown in
+    let goes = grown-goes (asks g c.args.rules.now c.args.bytes.now) t (nodes asked.mid) more.calls more.opened more.grown _ _
+    (rw c.in-Ok-None.field-0-is at asked.ok) (more.turns ∙ ap (counted more.calls) c.in-Ok-Need.ensures.turns) in
     record { holds = goes.holds; turns = goes.turns }
 
 -- a circle
 pub returns-in-Ok-Some : goal.returns-in-Ok-Some
 returns-in-Ok-Some g c =
     let t = needs g (goal.at.returns-in-Ok-Some g c).In-Ok-Need in
-    let more = c.grow.ensures.grown in
-    let end = grown-ends (asks g c.args.rules.now c.args.bytes.now) t (nodes c.grow.new.self) more.calls more.opened more.grown _ _ _
-    (rw c.in-Ok-Some.field-0-is at c.in-Ok-Some.ensures.ok) (more.turns ∙ ap (counted more.calls) c.in-Ok-Need.ensures.turns) in
+    let asked = c.in-Ok-Some.ensures.asked in
+    let more = asked.grown in
+    let end = grown-ends (asks g c.args.rules.now c.args.bytes.now) t (nodes asked.mid) more.calls more.opened more.grown _ _ _
+    (rw c.in-Ok-Some.field-0-is at asked.ok) (more.turns ∙ ap (counted more.calls) c.in-Ok-Need.ensures.turns) in
     record { outcome = end.outcome; right = end.right; kept = end.kept; left = search rules; turns = end.turns }
 
 -- memory was refused for its slot
 pub returns-in-Err-ask : goal.returns-in-Err-ask
 returns-in-Err-ask g c =
     let t = needs g (goal.at.returns-in-Err-ask g c).In-Ok-Need in
-    let more = c.grow.ensures.grown in
-    let may = grown-same (asks g c.args.rules.now c.args.bytes.now) t (nodes c.grow.new.self) more.calls more.opened more.grown _
-    c.in-Err-ask.ensures.err in
+    let asked = c.in-Err-ask.ensures.asked in
+    let more = asked.grown in
+    let may = grown-same (asks g c.args.rules.now c.args.bytes.now) t (nodes asked.mid) more.calls more.opened more.grown _
+    asked.err in
     record { outcome = search rules; right = may.right; kept = search rules; left = may; turns = search rules }
 
 -- what the closed node has reached

@@ -1,0 +1,351 @@
+//! Random questions about long plain lists between random edits, to an engine that keeps nodes by their numbers alone, and beside it to one that has a
+//! slot for each.
+//!
+//! Where the values are from: the second engine, which runs the same rules and keeps no node by its number. Both must answer alike, keep as many nodes
+//! and count as many turns, after each question and each edit.
+ghost use Rattle.std.specs.Prelude.{◌≡◌, ◌≤◌, IfOk, IfSome, IfNone, OnErr};
+ghost use Rattle.ksv_bytes.specs.Uses.{Makes};
+ghost use Rattle.ksv_memo_rules.specs.Meaning.{on};
+ghost use Rattle.ksv_memo_rules.specs.Right.{IsRight};
+
+use crate::nodes::{add_written, described};
+use ksv_bytes::{Buffer, Change};
+use ksv_desc::Desc;
+use ksv_expr_value::Fault;
+use ksv_memo::{Engine, Rules};
+use ksv_memo_rules::NoFold;
+use ksv_nodes::{Halt, Turn};
+use ksv_rule_meaning::NodeRules;
+use ksv_rules::{Described, DescriptionRules, Given, Node, NodeKind, path_of};
+use std::alloc::{AllocError, Global};
+use std::fmt::Write;
+use std::test::Fail;
+
+/// The code of the rules, with no nodes that can be kept by numbers alone.
+struct Slotted;
+
+impl NodeRules for Slotted {
+    type Fold = NoFold<Node, Given>;
+
+    fn rule(turn: &mut Turn, desc: &Desc, node: &Node) -> Result<Given, Halt> {
+        DescriptionRules::rule(turn, desc, node)
+    }
+
+    fn fold(
+        _alloc: Global,
+        _desc: &Desc,
+        _root: &Node,
+        _given: &Given,
+    ) -> Result<Option<NoFold<Node, Given>>, AllocError> {
+        Ok(None)
+    }
+
+    #[tactic(auto, using(ksv_memo::proofs::Unfolded::no_fold))]
+    fn foldable(
+        _nodes: &NoFold<Node, Given>,
+        _desc: &Desc,
+        _given: &Given,
+        _bytes: &Buffer,
+    ) -> u32 {
+        0
+    }
+}
+
+type SlottedRules = ksv_rule_meaning::Described<Slotted>;
+
+/// A description with long lists, the first bytes of its file, and paths in it, where `#` is an element's number.
+struct Sample {
+    text: &'static str,
+    first: &'static [u8],
+    paths: &'static [&'static str],
+}
+
+static SAMPLES: [Sample; 5] = [
+    // Bytes to the file's end.
+    Sample {
+        text: "meta: {id: t}\nseq:\n  - {id: xs, type: u1, repeat: eos}\n",
+        first: b"",
+        paths: &["/xs", "/xs/#"],
+    },
+    // 1,024 bytes, or as many as two bytes say, and then numbers of two bytes.
+    Sample {
+        text: "meta: {id: t, endian: be}\nseq:\n  - {id: n, type: u2}\n  - {id: xs, type: u1, repeat: expr, repeat-expr: n}\n  - {id: ys, type: u2, repeat: eos}\n",
+        first: b"\x04\x00",
+        paths: &["/xs", "/xs/#", "/ys", "/ys/#", "/n"],
+    },
+    // Points.
+    Sample {
+        text: "meta: {id: t, endian: le}\nseq:\n  - {id: xs, type: point, repeat: eos}\ntypes:\n  point:\n    seq:\n      - {id: a, type: u1}\n      - {id: b, type: u2}\n",
+        first: b"",
+        paths: &["/xs", "/xs/#", "/xs/#/a", "/xs/#/b"],
+    },
+    // A list in a window of 1,200 bytes, and one behind it.
+    Sample {
+        text: "meta: {id: t, endian: le}\nseq:\n  - {id: w, type: inner, size: 1200}\n  - {id: ys, type: u1, repeat: eos}\ntypes:\n  inner:\n    seq:\n      - {id: xs, type: u2, repeat: eos}\n",
+        first: b"",
+        paths: &["/w", "/w/xs", "/w/xs/#", "/ys", "/ys/#"],
+    },
+    // A list whose elements ask those of another.
+    Sample {
+        text: "meta: {id: t}\nseq:\n  - {id: xs, type: u1, repeat: expr, repeat-expr: 900}\n  - {id: ys, type: pick, repeat: eos}\ntypes:\n  pick:\n    seq:\n      - {id: at, type: u1}\n      - {id: body, size: '_root.xs[at * 3] % 3'}\n",
+        first: b"",
+        paths: &["/xs", "/xs/#", "/ys", "/ys/#/body", "/ys/#"],
+    },
+];
+
+/// Numbers that look random, by Marsaglia's xorshift.
+#[derive(Drop)]
+struct Random {
+    state: u64,
+}
+
+impl Random {
+    fn next(&mut self) -> u64 {
+        self.state ^= self.state << 13;
+        self.state ^= self.state >> 7;
+        self.state ^= self.state << 17;
+        self.state
+    }
+
+    /// A number below another; 0 where that is 0.
+    fn below(&mut self, bound: usize) -> usize
+        ensures { result ≤ bound }
+    {
+        if bound == 0 {
+            0
+        } else {
+            (self.next() % bound as u64) as usize
+        }
+    }
+
+    fn byte(&mut self) -> u8 {
+        (self.next() % 256) as u8
+    }
+}
+
+/// So many random bytes.
+fn random_bytes(alloc: Global, random: &mut Random, count: usize) -> Result<Vec<u8>, AllocError> {
+    let mut bytes = Vec::new(alloc);
+    for _ in 0..count {
+        bytes.push(random.byte())?;
+    }
+    Ok(bytes)
+}
+
+/// A file of a sample, of 1,300 to 1,699 bytes.
+fn random_file(alloc: Global, sample: &Sample, random: &mut Random) -> Result<Vec<u8>, AllocError> {
+    let mut bytes = sample.first.to_vec(alloc)?;
+    let count = 1_300 + random.below(400);
+    let more = random_bytes(alloc, random, count)?;
+    bytes.extend_from_slice(more.as_slice())?;
+    Ok(bytes)
+}
+
+/// One of a sample's paths, of a random element.
+fn random_path(alloc: Global, sample: &Sample, random: &mut Random) -> Result<String, AllocError> {
+    let chosen = match sample.paths.get(random.below(sample.paths.len())) {
+        Some(path) => *path,
+        None => "/",
+    };
+    let mut text = String::new(alloc);
+    for part in chosen.split('#') {
+        if !text.as_str().is_empty() {
+            write!(text, "{}", random.below(1_800))?;
+        }
+        text.push_str(part)?;
+    }
+    Ok(text)
+}
+
+/// A random kind of node.
+fn random_kind(random: &mut Random) -> NodeKind {
+    match random.below(4) {
+        0 => NodeKind::Head,
+        1 => NodeKind::End,
+        2 => NodeKind::Value,
+        _ => NodeKind::Rest,
+    }
+}
+
+/// The node of this kind at a path.
+fn node_at(alloc: Global, desc: &Desc, kind: NodeKind, path: &str) -> Result<Node, Fail> {
+    match path_of(alloc, desc, path.as_bytes())? {
+        Some(path) => Ok(Node { kind, path }),
+        None => Err(Fail::from("no path")),
+    }
+}
+
+/// Makes an edit of a kind, with as many bytes; which it was, unless the buffer refuses it.
+fn edited(bytes: &mut Buffer, how: usize, at: usize, new: &[u8]) -> Option<Change>
+    ensures some { IfSome result (λ change. Makes change bytes.old bytes.new) }
+    ensures none { IfNone result (bytes.new ≡ bytes.old) }
+{
+    let n = new.len();
+    let (made, change) = match how {
+        0 => (bytes.insert(at, new), Change::Insert { at, n }),
+        1 => (bytes.delete(at, n), Change::Delete { at, n }),
+        2 => (bytes.append(new), Change::Append),
+        _ => (bytes.overwrite(at, new), Change::Overwrite { at, n }),
+    };
+    match made {
+        Ok(()) => Some(change),
+        Err(_) => None,
+    }
+}
+
+/// Makes a random edit; which it was, unless the bytes refuse it.
+fn random_edit(
+    alloc: Global,
+    bytes: &mut Buffer,
+    random: &mut Random,
+) -> Result<Option<Change>, AllocError>
+    ensures some { IfOk result (λ made. IfSome made (λ change. Makes change bytes.old bytes.new)) }
+    ensures none { IfOk result (λ made. IfNone made (bytes.new ≡ bytes.old)) }
+    ensures err { OnErr result (bytes.new ≡ bytes.old) }
+{
+    let at = random.below(bytes.len());
+    let count = 1 + random.below(3);
+    let new = random_bytes(alloc, random, count)?;
+    let how = random.below(5);
+    Ok(edited(bytes, how, at, new.as_slice()))
+}
+
+/// What an engine answers to a question, keeps and counts, in words.
+fn told<R: Rules<Node = Node, Value = Given, Fault = Fault>>(
+    alloc: Global,
+    engine: &mut Engine<R>,
+    rules: &R,
+    desc: &Desc,
+    bytes: &Buffer,
+    node: Node,
+) -> Result<String, AllocError>
+    requires { IsRight (on (R.meaning rules.now) bytes.now) engine.old.kept }
+    ensures { IsRight (on (R.meaning rules.now) bytes.now) engine.new.kept }
+{
+    engine.begin();
+    let answer = engine.ask(rules, bytes, node)?;
+    let mut out = String::new(alloc);
+    add_written(desc, &answer, &mut out)?;
+    let turns = engine.turns().unwrap_or(0);
+    write!(out, ", {} kept, {turns} turns", engine.kept())?;
+    Ok(out)
+}
+
+/// The rules of two engines, of one description.
+#[derive(Clone, Copy)]
+struct Both<'a, A, B> {
+    desc: &'a Desc,
+    first: &'a A,
+    second: &'a B,
+}
+
+/// Whether two engines answer a random question alike, keep as much and count as many turns.
+fn are_told_alike<
+    A: Rules<Node = Node, Value = Given, Fault = Fault>,
+    B: Rules<Node = Node, Value = Given, Fault = Fault>,
+>(
+    alloc: Global,
+    rules: &Both<'_, A, B>,
+    first: &mut Engine<A>,
+    second: &mut Engine<B>,
+    bytes: &Buffer,
+    asked: (NodeKind, &str),
+) -> Result<bool, Fail>
+    requires first { IsRight (on (A.meaning rules.now.first.now) bytes.now) first.old.kept }
+    requires second { IsRight (on (B.meaning rules.now.second.now) bytes.now) second.old.kept }
+    ensures first { IsRight (on (A.meaning rules.now.first.now) bytes.now) first.new.kept }
+    ensures second { IsRight (on (B.meaning rules.now.second.now) bytes.now) second.new.kept }
+{
+    let (kind, path) = asked;
+    let node = node_at(alloc, rules.desc, kind, path)?;
+    let same = node_at(alloc, rules.desc, kind, path)?;
+    let told_first = told(alloc, first, rules.first, rules.desc, bytes, node)?;
+    let told_second = told(alloc, second, rules.second, rules.desc, bytes, same)?;
+    Ok(told_first.as_str() == told_second.as_str())
+}
+
+/// A new engine.
+fn new_engine<R: Rules>(alloc: Global, _rules: &R, _bytes: &Buffer) -> Engine<R>
+    ensures { IsRight (on (R.meaning _rules.now) _bytes.now) result.kept }
+{
+    Engine::new(alloc)
+}
+
+/// Makes a random edit, of which two engines are told.
+fn edit_for<A: Rules, B: Rules>(
+    alloc: Global,
+    rules: &Both<'_, A, B>,
+    first: &mut Engine<A>,
+    second: &mut Engine<B>,
+    bytes: &mut Buffer,
+    random: &mut Random,
+) -> Result<(), AllocError>
+    requires first { IsRight (on (A.meaning rules.now.first.now) bytes.old) first.old.kept }
+    requires second { IsRight (on (B.meaning rules.now.second.now) bytes.old) second.old.kept }
+    ensures first { IsRight (on (A.meaning rules.now.first.now) bytes.new) first.new.kept }
+    ensures second { IsRight (on (B.meaning rules.now.second.now) bytes.new) second.new.kept }
+{
+    match random_edit(alloc, bytes, random) {
+        Ok(Some(change)) => {
+            first.forget(change);
+            second.forget(change);
+            Ok(())
+        }
+        Ok(None) => Ok(()),
+        Err(refused) => Err(refused),
+    }
+}
+
+/// Whether two engines answer random questions alike between random edits, and keep as much after each.
+fn are_alike<
+    A: Rules<Node = Node, Value = Given, Fault = Fault>,
+    B: Rules<Node = Node, Value = Given, Fault = Fault>,
+>(
+    alloc: Global,
+    rules: &Both<'_, A, B>,
+    sample: &Sample,
+    bytes: &mut Buffer,
+    random: &mut Random,
+) -> Result<bool, Fail> {
+    let mut first = new_engine(alloc, rules.first, bytes);
+    let mut second = new_engine(alloc, rules.second, bytes);
+    let mut are_alike = true;
+    for _ in 0..60 {
+        let path = random_path(alloc, sample, random)?;
+        let asked = (random_kind(random), path.as_str());
+        are_alike &= are_told_alike(alloc, rules, &mut first, &mut second, bytes, asked)?;
+        if random.below(3) == 0 {
+            edit_for(alloc, rules, &mut first, &mut second, bytes, random)?;
+        }
+        are_alike &= first.kept() == second.kept();
+    }
+    Ok(are_alike)
+}
+
+/// Whether engines of the rules with and without folded nodes answer alike over a random file of a sample.
+fn is_alike(alloc: Global, sample: &Sample, random: &mut Random) -> Result<bool, Fail> {
+    let desc = described(alloc, sample.text)?;
+    let folding = Described::new(described(alloc, sample.text)?);
+    let slotted = SlottedRules::new(described(alloc, sample.text)?);
+    let mut bytes = Buffer::new(random_file(alloc, sample, random)?)?;
+    let rules = Both {
+        desc: &desc,
+        first: &folding,
+        second: &slotted,
+    };
+    are_alike(alloc, &rules, sample, &mut bytes, random)
+}
+
+#[test]
+fn folded_nodes_are_told_as_those_that_have_slots(rt: HostRuntime) -> Result<(), Fail> {
+    let mut random = Random {
+        state: 88_172_645_463_325_252,
+    };
+    for round in 0..40 {
+        for sample in &SAMPLES {
+            let is_alike = is_alike(rt.alloc(), sample, &mut random)?;
+            assert!(rt; is_alike, "round {round}: {}", sample.text);
+        }
+    }
+    Ok(())
+}
