@@ -359,22 +359,34 @@ LIST = text("meta: {id: r}", "seq: [{id: xs, type: u1, repeat: eos}]")
 
 
 def one_byte(program):
-    """A first question on a list of n elements of one byte: for its last element, and for the list. Instructions and bytes of peak memory for each node, where
-    `stats` says how many are kept: two for each element (its head and end), one more where the list is asked (what it is from there on), and some at both ends."""
+    """A question on a list of n elements of one byte: a first one for its last element, the same after one for element 5, and a first one for the list.
+    Instructions and bytes of peak memory for each node, where `stats` says how many are kept: two for each element (its head and end), one more where the list
+    is asked (what it is from there on), and some at both ends."""
     sizes = (65_536, 131_072, 262_144)
-    for what, asks in (("its last element", last_byte), ("the list", whole_list)):
+    none, one = (("stats", "kept 0 turns 0"),), (("get /xs/5", "5"), ("stats", "kept 14 turns 37"))
+    rows = (
+        ("a first question on a list of n bytes, for its last element", none, last_byte),
+        ("the same, after a first one for element 5", one, later_byte),
+        ("a first question on a list of n bytes, for the list", none, whole_list),
+    )
+    for what, before_it, asks in rows:
         count, peaks, pairs = [], [], []
         for size in sizes:
             ask, kept, turns = asks(size)
-            plain = Session(LIST, bytes(it % 251 for it in range(size)), (("stats", "kept 0 turns 0"),))
+            plain = Session(LIST, bytes(it % 251 for it in range(size)), before_it)
             pairs.append((plain, plain.then(ask, ("stats", f"kept {kept} turns {turns}"))))
             count.append(kept)
             with program.talk(plain) as talk:
                 before = talk.peak()
                 talk.ask(ask)
                 peaks.append(talk.peak() - before)
-        yield Figure(f"a first question on a list of n bytes, for {what}", sizes, divided(program.more(pairs), count), "instructions a node", None, True)
+        yield Figure(what, sizes, divided(program.more(pairs), count), "instructions a node", None, True)
         yield Figure("the same", sizes, divided(peaks, count), "bytes of peak memory a node", None, True)
+
+
+def later_byte(count):
+    """The question for the last element after one for element 5, the nodes that are kept then, and its turns."""
+    return (f"get /xs/{count - 1}", str((count - 1) % 251)), 2 * count + 3, 6 * count - 34
 
 
 def last_byte(count):

@@ -1,6 +1,6 @@
 -- Whole sessions with lines `stats`: what such a line tells is what is kept before it by the definitions, and the turns of the last
 -- question.
-use Rattle.std.specs.Prelude.{◌≡◌, ℕ, true, false, List, [], ◌∷◌, codes, length, Option, Some, None, option_and_then}
+use Rattle.std.specs.Prelude.{◌≡◌, ℕ, true, false, List, [], ◌∷◌, codes, length, replicate, Option, Some, None, option_and_then}
 use Rattle.ksv_commands.specs.Commands.{command_of}
 use Rattle.ksv_desc.specs.Description.{Description}
 use Rattle.ksv_session.specs.Kept.{Memory, memory_after, nothing_kept}
@@ -70,6 +70,53 @@ list_grows = record {
       codes "kept 21 turns 27" ∷
       []);
   left = 0x01 ∷ 0x02 ∷ 0x03 ∷ 0x04 ∷ 0x05 ∷ 0x07 ∷ [];
+  ended = false;
+}
+
+-- a list that is long enough for an engine to keep its nodes by numbers alone: elements are asked one after another, between bytes that are written over,
+-- inserted and deleted
+abbrev pub long_list : Dialogue
+long_list = record {
+  lines =
+      codes "meta: {id: a}" ∷
+      codes "seq: [{id: xs, type: u1, repeat: eos}]" ∷
+      [];
+  file = replicate 600 0x07;
+  input = text_of_lines (
+      codes "get /xs/3" ∷
+      codes "stats" ∷
+      codes "get /xs/5" ∷
+      codes "stats" ∷
+      codes "set 2 09" ∷
+      codes "get /xs/2" ∷
+      codes "stats" ∷
+      codes "ins 4 0102" ∷
+      codes "stats" ∷
+      codes "get /xs/5" ∷
+      codes "stats" ∷
+      codes "del 0 1" ∷
+      codes "stats" ∷
+      codes "get /xs/1" ∷
+      codes "stats" ∷
+      []);
+  output = text_of_lines (
+      codes "7" ∷
+      codes "kept 10 turns 25" ∷
+      codes "7" ∷
+      codes "kept 15 turns 14" ∷
+      codes "ok 600" ∷
+      codes "9" ∷
+      codes "kept 16 turns 2" ∷
+      codes "ok 602" ∷
+      codes "kept 11 turns 2" ∷
+      codes "2" ∷
+      codes "kept 16 turns 14" ∷
+      codes "ok 601" ∷
+      codes "kept 1 turns 14" ∷
+      codes "9" ∷
+      codes "kept 6 turns 12" ∷
+      []);
+  left = 0x07 ∷ 0x09 ∷ 0x07 ∷ 0x01 ∷ 0x02 ∷ replicate 596 0x07;
   ended = false;
 }
 

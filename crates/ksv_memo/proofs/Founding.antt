@@ -45,19 +45,20 @@ module _ {N A : Type 0} (w : Standing N A) (law : IsSettled w) where
     founds-in [] first reached = absurd first
     founds-in (o ∷ st) first reached = is (ap (λ n. (tells w [] n).outcome) first ∙ ended-tells es o st a reached.0 reached.1)
 
-    pub founds : (eq : N → N → Bool) {S : Type 0} (fold : S → Fold N A) (run : Run S) → fold run.nodes ≡ f → run.kept ≡ 0 → run.wild ≤ count
+    pub founds : (eq : N → N → Bool) {S : Type 0} (fold : S → Fold N A) (run : Run S) → fold run.nodes ≡ f → run.kept ≡ 0 → run.wild ≤ count → run.far ≡ count
         → run.lent.items ≡ [] → IsLaid f → (st : List (Open N A)) → IsFirst f.root st → HasReached w es st (Done a)
         → AllByRecursion (λ o. IsNoneBelow f run.wild o.node) st → Founds eq fold (Some run) es st
-    founds eq fold run same none le lent laid [] first reached apart = absurd first
-    founds eq fold run same none le lent laid (o ∷ st) first reached apart =
+    founds eq fold run same none le far lent laid [] first reached apart = absurd first
+    founds eq fold run same none le far lent laid (o ∷ st) first reached apart =
         let fold_is : IsFold w f count = founds-in (o ∷ st) first reached in
         let out : IsOut w (nodes_of es) f.root = subst (IsOut w (nodes_of es)) (sym first) reached.0.apart.0 in
-        subst (λ g. IsFounded g run.kept run.wild run.lent.items es o st) (sym same) (record {
+        subst (λ g. IsFounded g run.kept run.wild run.far run.lent.items es o st) (sym same) (record {
           laid = laid;
           root = first;
           none = none;
+          reach = omega arith;
           in_size = (let size = fold_is.in_size in omega arith);
           no_lent = lent;
-          out = All-map (λ e kept. fewer f count run.wild e.node le (none-kept f count es reached.0.right out fold_is e kept)) es (self_in w es);
+          out = All-map (λ e kept. fewer f count run.far e.node (omega arith) (none-kept f count es reached.0.right out fold_is e kept)) es (self_in w es);
           apart = apart;
         })

@@ -2,7 +2,7 @@
 use Rattle.ksv_memo.proofs.Common.{◌≡◌, ℕ, zero, suc, ◌+◌, ◌-◌, ◌<◌, ◌≤◌, nat_lt, nat_eq, arith, Bool, true, false, not, cond, ◌||◌, List, [], ◌∷◌, ◌++◌}
 use Rattle.ksv_memo.proofs.Common.{filter, count_by, refl, sym, ◌∙◌, ap, subst, inr, AllByRecursion, IsDistinct, map, append_assoc, append-nil}
 use Rattle.ksv_memo.proofs.Common.{sum_by-cons, Decides-ltb, All-map, All-++, Entry, Open, nodes_in, nodes_of, nodes_of-append, is_among, eqb_true, IsIn, IsOut}
-use Rattle.ksv_memo.proofs.Common.{tells, AreDistinct, IsRight, StandsIn, costs, Standing, Option, Some, Result, IfOk, nodes}
+use Rattle.ksv_memo.proofs.Common.{IsEquivalence, tells, AreDistinct, IsRight, StandsIn, costs, Standing, Option, Some, Result, IfOk, nodes}
 use Rattle.std.specs.Prelude.{min}
 use Rattle.std.proofs.Common.{true≢false, OnErr}
 use Rattle.std.proofs.lemmas.List.{map-append}
@@ -49,7 +49,7 @@ abbrev pub next_of : {N A : Type 0} → Fold N A → ℕ → ℕ → List (Entry
 next_of f k zero = []
 next_of f k (suc d) = next_of f k d ++ f.entry (k + d) ∷ []
 
-module _ {N A : Type 0} (q : Asking N A) (f : Fold N A) where
+module _ {N A : Type 0} (eq : N → N → Bool) (laws : IsEquivalence eq) (exact : (a b : N) → eq a b ≡ true → a ≡ b) (f : Fold N A) where
   -- the first ones, and so many more
   firsts : (k d : ℕ) → first_of f (k + d) ≡ first_of f k ++ next_of f k d
   firsts k zero = let e : k + 0 ≡ k = omega arith in ap (first_of f) e ∙ sym (append-nil (first_of f k))
@@ -57,6 +57,77 @@ module _ {N A : Type 0} (q : Asking N A) (f : Fold N A) where
       let e : k + suc d ≡ suc (k + d) = omega arith in
       ap (first_of f) e ∙ ap (λ xs. xs ++ f.entry (k + d) ∷ []) (firsts k d) ∙ append_assoc (first_of f k) (next_of f k d) (f.entry (k + d) ∷ [])
 
+  -- a node that is one of more is one of fewer, if its number is below these
+  same_first : (k t : ℕ) (n : N) → k ≤ t → ((j : ℕ) → j < t → (f.entry j).node ≡ n → j < k) → is_one eq (first_of f t) n ≡ is_one eq (first_of f k) n
+  same_first k t n le fewer = by (is_one eq (first_of f t) n) refl (is_one eq (first_of f k) n) refl
+    where
+      by : (a : Bool) → is_one eq (first_of f t) n ≡ a → (b : Bool) → is_one eq (first_of f k) n ≡ b → a ≡ b
+      by true at true as_is = refl
+      by false at false as_is = refl
+      by true at false as_is =
+          let h = one_first f eq t n at in
+          absurd (true≢false (sym (first_one f eq k h.0 n (fewer h.0 h.1 (sym (exact n (f.entry h.0).node h.2))) h.2) ∙ as_is))
+      by false at true as_is =
+          let h = one_first f eq k n as_is in
+          let lt : h.0 < k = h.1 in
+          absurd (true≢false (sym (first_one f eq t h.0 n (omega arith) h.2) ∙ at))
+
+  -- ---- a run
+  module _ (k wild far : ℕ) (lent : List ℕ) (es : List (Entry N A)) (st : List (Open N A)) (h : IsRun eq f k wild far lent es st) where
+    -- no fewer may have slots than may be open
+    pub in-reach : (t : ℕ) → t ≤ wild → t ≤ far
+    in-reach t le = let reach = h.reach in omega arith
+
+    abbrev seen_with : ℕ → List (Entry N A)
+    seen_with t = with_folded eq (first_of f t) es
+
+    -- with more of them no more slots are of one
+    same_ones : (t : ℕ) → k ≤ t → t ≤ wild → AllByRecursion (λ e. is_one eq (first_of f t) e.node ≡ is_one eq (first_of f k) e.node) es
+    same_ones t le most = All-map (λ e own. same_first k t e.node le (λ j lt at. (own j (let reach = in-reach t most in omega arith) at).0)) es h.same
+
+    counted_at : (t : ℕ) → t ≤ wild → count_by (λ e. is_one eq (first_of f t) e.node) es ≡ count_by (λ j. nat_lt j t) lent
+    counted_at t most = by (nat_lt k t) refl
+      where
+        by : (b : Bool) → nat_lt k t ≡ b → count_by (λ e. is_one eq (first_of f t) e.node) es ≡ count_by (λ j. nat_lt j t) lent
+        by false e = h.counted t (not_less k t e)
+        by true e =
+            let more : k < t = (Decides-ltb k t).0 e in
+            count-same (λ e. is_one eq (first_of f t) e.node) (λ e. is_one eq (first_of f k) e.node) es (same_ones t (omega arith) most)
+            ∙ h.counted k (omega arith)
+            ∙ count-same (λ j. nat_lt j k) (λ j. nat_lt j t) lent
+            (All-map (λ j lt. (Decides-ltb j k).1 lt ∙ sym ((Decides-ltb j t).1 (let less : j < k = lt in omega arith))) lent h.below)
+
+    -- it may have any number of nodes below the first that may have slots or be open
+    pub run-at : (t : ℕ) → k ≤ t → t ≤ wild → IsRun eq f t wild far lent es st
+    run-at t le most = record {
+      laid = h.laid;
+      order = most;
+      reach = h.reach;
+      in_size = h.in_size;
+      root = h.root;
+      same = All-map (λ e own j lt at. (let less : j < k = (own j lt at).0 in ((omega arith), (own j lt at).1))) es h.same;
+      apart = h.apart;
+      counted = λ s less. counted_at s (omega arith);
+      below = All-map (λ j lt. (let less : j < k = lt in let more : j < t = omega arith in more)) lent h.below;
+    }
+
+    -- what is seen is what was, and these
+    pub after_more : (d : ℕ) → k + d ≤ wild → seen_with (k + d) ≡ seen_with k ++ next_of f k d
+    after_more d most =
+        let same : filter (λ e. not (is_one eq (first_of f (k + d)) e.node)) es ≡ filter (λ e. not (is_one eq (first_of f k) e.node)) es =
+        filter-same (λ e. not (is_one eq (first_of f (k + d)) e.node)) (λ e. not (is_one eq (first_of f k) e.node)) es
+        (All-map (λ e one. ap not one) es (same_ones (k + d) (omega arith) most)) in
+        (λ i. same i ++ firsts k d i)
+        ∙ sym (append_assoc (filter (λ e. not (is_one eq (first_of f k) e.node)) es) (first_of f k) (next_of f k d))
+
+    -- and with one more, it
+    pub after_one : suc k ≤ wild → seen_with (suc k) ≡ seen_with k ++ f.entry k ∷ []
+    after_one most =
+        let more : suc k ≡ k + 1 = omega arith in
+        let none : k + 0 ≡ k = omega arith in
+        ap seen_with more ∙ after_more 1 (omega arith) ∙ ap (λ i. seen_with k ++ f.entry i ∷ []) none
+
+module _ {N A : Type 0} (q : Asking N A) (f : Fold N A) where
   -- what holds of each number holds of the entries
   all_first : (P : Entry N A → Type 0) (t : ℕ) → ((i : ℕ) → i < t → P (f.entry i)) → AllByRecursion P (first_of f t)
   all_first P zero h = tt
@@ -79,74 +150,30 @@ module _ {N A : Type 0} (q : Asking N A) (f : Fold N A) where
       (subst (IsDistinct nat_eq) (sym (map-append q.world.number (nodes_of es) (e.node ∷ [])))
       (IsDistinct-push nat_eq_equiv (map q.world.number (nodes_of es)) (q.world.number e.node) once out))
 
-  -- a node that is one of more is one of fewer, if its number is below these
-  same_first : (k t : ℕ) (n : N) → k ≤ t → ((j : ℕ) → j < t → (f.entry j).node ≡ n → j < k) → is_one q.eq (first_of f t) n ≡ is_one q.eq (first_of f k) n
-  same_first k t n le fewer = by (is_one q.eq (first_of f t) n) refl (is_one q.eq (first_of f k) n) refl
-    where
-      by : (a : Bool) → is_one q.eq (first_of f t) n ≡ a → (b : Bool) → is_one q.eq (first_of f k) n ≡ b → a ≡ b
-      by true at true as_is = refl
-      by false at false as_is = refl
-      by true at false as_is =
-          let h = one_first f q.eq t n at in
-          absurd (true≢false (sym (first_one f q.eq k h.0 n (fewer h.0 h.1 (sym (q.exact n (f.entry h.0).node h.2))) h.2) ∙ as_is))
-      by false at true as_is =
-          let h = one_first f q.eq k n as_is in
-          let lt : h.0 < k = h.1 in
-          absurd (true≢false (sym (first_one f q.eq t h.0 n (omega arith) h.2) ∙ at))
-
   -- ---- a run
-  module _ (k wild : ℕ) (lent : List ℕ) (es : List (Entry N A)) (st : List (Open N A)) (h : IsRun q.eq f k wild lent es st) where
+  module _ (k wild far : ℕ) (lent : List ℕ) (es : List (Entry N A)) (st : List (Open N A)) (h : IsRun q.eq f k wild far lent es st) where
     abbrev seen_at : ℕ → List (Entry N A)
     seen_at t = with_folded q.eq (first_of f t) es
+
+    in-far : (t : ℕ) → t ≤ wild → t ≤ far
+    in-far t le = in-reach q.eq q.laws q.exact f k wild far lent es st h t le
+
+    run-to : (t : ℕ) → k ≤ t → t ≤ wild → IsRun q.eq f t wild far lent es st
+    run-to t le most = run-at q.eq q.laws q.exact f k wild far lent es st h t le most
+
+    seen-more : (d : ℕ) → k + d ≤ wild → seen_at (k + d) ≡ seen_at k ++ next_of f k d
+    seen-more d most = after_more q.eq q.laws q.exact f k wild far lent es st h d most
 
     -- where what is seen is right, the root has its answer
     pub root-told : IsRight q.world (seen_at k) → IsTold q.world q.eq es f.root
     root-told right e is =
-        let there = seen_entry q.eq q.laws q.exact f k es wild h.order h.same f.root e is in
+        let there = seen_entry q.eq q.laws q.exact f k es far (in-far k h.order) h.same f.root e is in
         (one_of-all (λ x. StandsIn q.world (nodes_of (seen_at k)) x) (seen_at k) right.each e there.there).outcome
-
-    -- with more of them no more slots are of one
-    same_ones : (t : ℕ) → k ≤ t → t ≤ wild → AllByRecursion (λ e. is_one q.eq (first_of f t) e.node ≡ is_one q.eq (first_of f k) e.node) es
-    same_ones t le most = All-map (λ e own. same_first k t e.node le (λ j lt at. (own j (omega arith) at).0)) es h.same
-
-    counted_at : (t : ℕ) → t ≤ wild → count_by (λ e. is_one q.eq (first_of f t) e.node) es ≡ count_by (λ j. nat_lt j t) lent
-    counted_at t most = by (nat_lt k t) refl
-      where
-        by : (b : Bool) → nat_lt k t ≡ b → count_by (λ e. is_one q.eq (first_of f t) e.node) es ≡ count_by (λ j. nat_lt j t) lent
-        by false e = h.counted t (not_less k t e)
-        by true e =
-            let more : k < t = (Decides-ltb k t).0 e in
-            count-same (λ e. is_one q.eq (first_of f t) e.node) (λ e. is_one q.eq (first_of f k) e.node) es (same_ones t (omega arith) most)
-            ∙ h.counted k (omega arith)
-            ∙ count-same (λ j. nat_lt j k) (λ j. nat_lt j t) lent
-            (All-map (λ j lt. (Decides-ltb j k).1 lt ∙ sym ((Decides-ltb j t).1 (let less : j < k = lt in omega arith))) lent h.below)
-
-    -- it may have any number of nodes below the first that may have slots or be open
-    pub run-at : (t : ℕ) → k ≤ t → t ≤ wild → IsRun q.eq f t wild lent es st
-    run-at t le most = record {
-      laid = h.laid;
-      order = most;
-      in_size = h.in_size;
-      root = h.root;
-      same = All-map (λ e own j lt at. (let less : j < k = (own j lt at).0 in ((omega arith), (own j lt at).1))) es h.same;
-      apart = h.apart;
-      counted = λ s less. counted_at s (omega arith);
-      below = All-map (λ j lt. (let less : j < k = lt in let more : j < t = omega arith in more)) lent h.below;
-    }
-
-    -- what is seen is what was, and these
-    after_more : (d : ℕ) → k + d ≤ wild → seen_at (k + d) ≡ seen_at k ++ next_of f k d
-    after_more d most =
-        let same : filter (λ e. not (is_one q.eq (first_of f (k + d)) e.node)) es ≡ filter (λ e. not (is_one q.eq (first_of f k) e.node)) es =
-        filter-same (λ e. not (is_one q.eq (first_of f (k + d)) e.node)) (λ e. not (is_one q.eq (first_of f k) e.node)) es
-        (All-map (λ e one. ap not one) es (same_ones (k + d) (omega arith) most)) in
-        (λ i. same i ++ firsts k d i)
-        ∙ sym (append_assoc (filter (λ e. not (is_one q.eq (first_of f k) e.node)) es) (first_of f k) (next_of f k d))
 
     -- the root and each folded node are seen kept
     root_in : (t : ℕ) → k ≤ t → t ≤ wild → IsIn q.world (nodes_of (seen_at t)) f.root
     root_in t le most = entry_in q (seen_at t) f.root h.root.0
-        (seen_entry q.eq q.laws q.exact f t es wild most (run-at t le most).same f.root h.root.0 h.root.1)
+        (seen_entry q.eq q.laws q.exact f t es far (in-far t most) (run-to t le most).same f.root h.root.0 h.root.1)
 
     first_in : (t i : ℕ) → i < t → IsIn q.world (nodes_of (seen_at t)) (f.entry i).node
     first_in t i lt = entry_in q (seen_at t) (f.entry i).node (f.entry i) (seen_folded q.eq q.laws q.exact f t es i (f.entry i).node lt refl)
@@ -175,20 +202,21 @@ module _ {N A : Type 0} (q : Asking N A) (f : Fold N A) where
     next_out t le lt =
         let n = (f.entry t).node in
         let size = h.in_size in
+        let reach = h.reach in
         let none : HasNoEntry q.eq es n = none_fails (λ e. q.eq n e.node) es (All-map (λ e own. apart e own (q.eq n e.node) refl) es h.same) in
         no_entry_out q (seen_at t) n (seen_none q.eq q.laws q.exact f t es n none (below_own f h.laid t t n (omega arith) (omega arith) refl))
       where
-        apart : (e : Entry N A) → ((j : ℕ) → j < wild → (f.entry j).node ≡ e.node → (j < k) × (e ≡ f.entry j)) → (b : Bool)
+        apart : (e : Entry N A) → ((j : ℕ) → j < far → (f.entry j).node ≡ e.node → (j < k) × (e ≡ f.entry j)) → (b : Bool)
             → q.eq (f.entry t).node e.node ≡ b → q.eq (f.entry t).node e.node ≡ false
         apart e own false at = at
-        apart e own true at = let less : t < k = (own t lt (q.exact (f.entry t).node e.node at)).0 in absurd (omega arith)
+        apart e own true at = let less : t < k = (own t (in-far (suc t) lt) (q.exact (f.entry t).node e.node at)).0 in absurd (omega arith)
 
     once_more : (d : ℕ) → k + d ≤ wild → AreDistinct q.world (nodes_of (seen_at k)) → AreDistinct q.world (nodes_of (seen_at k ++ next_of f k d))
     once_more zero most once = subst (λ xs. AreDistinct q.world (nodes_of xs)) (sym (append-nil (seen_at k))) once
     once_more (suc d) most once =
         let e = f.entry (k + d) in
         let out : IsOut q.world (nodes_of (seen_at k ++ next_of f k d)) e.node =
-        subst (λ xs. IsOut q.world (nodes_of xs) e.node) (after_more d (omega arith)) (next_out (k + d) (omega arith) (omega arith)) in
+        subst (λ xs. IsOut q.world (nodes_of xs) e.node) (seen-more d (omega arith)) (next_out (k + d) (omega arith) (omega arith)) in
         subst (λ xs. AreDistinct q.world (nodes_of xs)) (append_assoc (seen_at k) (next_of f k d) (e ∷ []))
         (distinct-end (seen_at k ++ next_of f k d) e (once_more d (omega arith) once) out)
 
@@ -218,9 +246,9 @@ module _ {N A : Type 0} (q : Asking N A) (f : Fold N A) where
         → IsRight q.world (seen_at k) → GrowsBy q.world m (nodes_in st) (seen_at k) (seen_at (k + d)) (calls_from f.calls k d)
     grown_more m place count d at fold lt le most right = record {
       more = next_of f k d;
-      after = after_more d most;
+      after = seen-more d most;
       stand = stand_more d count most (omega arith) fold;
-      once = subst (λ xs. AreDistinct q.world (nodes_of xs)) (sym (after_more d most)) (once_more d most right.once);
+      once = subst (λ xs. AreDistinct q.world (nodes_of xs)) (sym (seen-more d most)) (once_more d most right.once);
       free = free_more d most;
       within = subst (λ n. AllByRecursion (λ e. is_among q.world.number (tree q.world n) e.node ≡ true) (next_of f k d)) at
           (all_next (λ e. is_among q.world.number (tree q.world (f.entry place).node) e.node ≡ true) k d
@@ -264,7 +292,7 @@ module _ {N A S : Type 0} (q : Asking N A) (fold : S → Fold N A) (was : Option
     (same : nodes new ≡ nodes old) (h : IsFolding q.eq fold was (nodes old)) (right : IsRight q.world (viewed q.eq fold was old).kept) (m : N)
     (before : Option ℕ) where
   -- the run that is beside it
-  held : IsRun q.eq (fold run.nodes) run.kept run.wild run.lent.items old.kept old.opened
+  held : IsRun q.eq (fold run.nodes) run.kept run.wild run.far run.lent.items old.kept old.opened
   held = subst (λ r. IsFolding q.eq fold r (nodes old)) is h
 
   right-seen : IsRight q.world (with_folded q.eq (first_of (fold run.nodes) run.kept) old.kept)
@@ -272,7 +300,7 @@ module _ {N A S : Type 0} (q : Asking N A) (fold : S → Fold N A) (was : Option
 
   -- its root has its answer
   pub told-beside : IsTold q.world q.eq old.kept (fold run.nodes).root
-  told-beside = root-told q (fold run.nodes) run.kept run.wild run.lent.items old.kept old.opened held right-seen
+  told-beside = root-told q (fold run.nodes) run.kept run.wild run.far run.lent.items old.kept old.opened held right-seen
 
   -- it stays
   pub stays-beside : Grows q.world m (viewed q.eq fold was old) (viewed q.eq fold (Some run) new) before before
@@ -282,11 +310,11 @@ module _ {N A S : Type 0} (q : Asking N A) (fold : S → Fold N A) (was : Option
 
   -- or it has more nodes, up to a number
   module _ (place now : ℕ) (order : run.kept ≤ place) (until : now ≡ min run.wild (place + 1)) where
-    pub runs-beside : IsRun q.eq (fold run.nodes) now run.wild run.lent.items new.kept new.opened
+    pub runs-beside : IsRun q.eq (fold run.nodes) now run.wild run.far run.lent.items new.kept new.opened
     runs-beside =
         let le = held.order in
-        subst (λ (t : Nodes N A). IsRun q.eq (fold run.nodes) now run.wild run.lent.items t.kept t.opened) (sym same)
-        (run-at q (fold run.nodes) run.kept run.wild run.lent.items old.kept old.opened held now (omega arith) (omega arith))
+        subst (λ (t : Nodes N A). IsRun q.eq (fold run.nodes) now run.wild run.far run.lent.items t.kept t.opened) (sym same)
+        (run-at q.eq q.laws q.exact (fold run.nodes) run.kept run.wild run.far run.lent.items old.kept old.opened held now (omega arith) (omega arith))
 
     pub grows-beside : (count calls : ℕ) (after : Option ℕ) → ((fold run.nodes).entry place).node ≡ m → IsFold q.world (fold run.nodes) count → place < count
         → calls ≡ calls_from (fold run.nodes).calls run.kept (now - run.kept) → after ≡ counted calls before
@@ -297,7 +325,7 @@ module _ {N A S : Type 0} (q : Asking N A) (fold : S → Fold N A) (was : Option
         let le = held.order in
         let grown : GrowsBy q.world m (nodes_in old.opened) (with_folded q.eq (first_of f run.kept) old.kept) (with_folded q.eq (first_of f now) old.kept)
         (calls_from f.calls run.kept (now - run.kept)) =
-        grown-to q f run.kept run.wild run.lent.items old.kept old.opened held m place count now at folds lt (omega arith) (omega arith) (omega arith)
+        grown-to q f run.kept run.wild run.far run.lent.items old.kept old.opened held m place count now at folds lt (omega arith) (omega arith) (omega arith)
         right-seen in
         let t : Tabled N A = record { kept = with_folded q.eq (first_of f now) new.kept; opened = new.opened; looks = new.looks } in
         subst (λ r. Grows q.world m (viewed q.eq fold r old) t before after) (sym is) (record {

@@ -417,24 +417,24 @@ count-cut t left le (x ∷ xs) = by (nat_lt x left) refl (count-cut t left le xs
         omega (arith, one xs)
 
 -- ---- the table beside folded nodes
-module _ {N A : Type 0} (eq : N → N → Bool) (laws : IsEquivalence eq) (exact : (a b : N) → eq a b ≡ true → a ≡ b) (f : Fold N A) (kept wild : ℕ) (lent : List ℕ)
-    (st : List (Open N A)) where
+module _ {N A : Type 0} (eq : N → N → Bool) (laws : IsEquivalence eq) (exact : (a b : N) → eq a b ≡ true → a ≡ b) (f : Fold N A) (kept wild far : ℕ)
+    (lent : List ℕ) (st : List (Open N A)) where
   -- each entry of the table is in the view
-  in_view : (es : List (Entry N A)) → IsRun eq f kept wild lent es st → (e : Entry N A) → IsOneOf es e → IsOneOf (with_folded eq (first_of f kept) es) e
+  in_view : (es : List (Entry N A)) → IsRun eq f kept wild far lent es st → (e : Entry N A) → IsOneOf es e → IsOneOf (with_folded eq (first_of f kept) es) e
   in_view es run e m = in_both (λ x. is_one eq (first_of f kept) x.node) es (first_of f kept) e
       (λ t. (let r = number-of eq laws exact f kept e.node t in
       let same : e ≡ f.entry r.0 =
-      (one_of-all (λ (e : Entry N A). (j : ℕ) → j < wild → (f.entry j).node ≡ e.node → (j < kept) × (e ≡ f.entry j)) es run.same e m r.0
-      (omega (arith, r.1, run.order)) r.2).1 in
+      (one_of-all (λ (e : Entry N A). (j : ℕ) → j < far → (f.entry j).node ≡ e.node → (j < kept) × (e ≡ f.entry j)) es run.same e m r.0
+      (omega (arith, r.1, run.order, run.reach)) r.2).1 in
       subst (IsOneOf (first_of f kept)) (sym same) (first-in f kept r.0 r.1))) m
 
   -- what each entry of the view has, each of the table has
-  pub of-view : (P : Entry N A → Type 0) (es : List (Entry N A)) → IsRun eq f kept wild lent es st → AllByRecursion P (with_folded eq (first_of f kept) es)
+  pub of-view : (P : Entry N A → Type 0) (es : List (Entry N A)) → IsRun eq f kept wild far lent es st → AllByRecursion P (with_folded eq (first_of f kept) es)
       → AllByRecursion P es
   of-view P es run h = all-one_of P es (λ e m. one_of-all P (with_folded eq (first_of f kept) es) h e (in_view es run e m))
 
   -- how many nodes the view has
-  pub view-length : (es : List (Entry N A)) → IsRun eq f kept wild lent es st
+  pub view-length : (es : List (Entry N A)) → IsRun eq f kept wild far lent es st
       → length (with_folded eq (first_of f kept) es) + length lent ≡ length es + kept
   view-length es run =
       let p : Entry N A → Bool = λ e. is_one eq (first_of f kept) e.node in
@@ -451,14 +451,14 @@ module _ {N A : Type 0} (eq : N → N → Bool) (laws : IsEquivalence eq) (exact
       )
 
   -- no more numbers are listed than the table has entries
-  pub few-lent : (es : List (Entry N A)) → IsRun eq f kept wild lent es st → length lent ≤ length es
+  pub few-lent : (es : List (Entry N A)) → IsRun eq f kept wild far lent es st → length lent ≤ length es
   few-lent es run =
       let p : Entry N A → Bool = λ e. is_one eq (first_of f kept) e.node in
       let few : count_by p es ≡ count_by (λ j. nat_lt j kept) lent = run.counted kept (omega arith) in
       omega (arith, few, count_by-le-length p es, all-count kept lent run.below)
 
   -- ---- an edit
-  module _ (change : Change) (ks : List (Mark N A)) (run : IsRun eq f kept wild lent (entries_with ks) st) (marked : AllByRecursion (IsMarked change ks) ks)
+  module _ (change : Change) (ks : List (Mark N A)) (run : IsRun eq f kept wild far lent (entries_with ks) st) (marked : AllByRecursion (IsMarked change ks) ks)
       (once : IsDistinct eq (nodes_of (entries_with ks))) (root : Mark N A) (there : IsOneOf ks root) (named : root.entry.node ≡ f.root) where
     -- a folded node goes if its own uses are touched, or the root goes
     abbrev goes : ℕ → Bool
@@ -483,16 +483,16 @@ module _ {N A : Type 0} (eq : N → N → Bool) (laws : IsEquivalence eq) (exact
     root-says (m ∷ []) (b ∷ c ∷ bs) e h = absurd h.1
     root-says (m ∷ n ∷ ms) bs e h = absurd (cc)
 
-    -- an entry of a node of a number below what is wild is that of a folded one
-    same-at : (k : Mark N A) → IsOneOf ks k → (j : ℕ) → j < wild → (f.entry j).node ≡ k.entry.node → (j < kept) × (k.entry ≡ f.entry j)
-    same-at k m = one_of-all (λ (e : Entry N A). (j : ℕ) → j < wild → (f.entry j).node ≡ e.node → (j < kept) × (e ≡ f.entry j)) (entries_with ks) run.same
+    -- an entry of a node of a number below which none else has a slot is that of a folded one
+    same-at : (k : Mark N A) → IsOneOf ks k → (j : ℕ) → j < far → (f.entry j).node ≡ k.entry.node → (j < kept) × (k.entry ≡ f.entry j)
+    same-at k m = one_of-all (λ (e : Entry N A). (j : ℕ) → j < far → (f.entry j).node ≡ e.node → (j < kept) × (e ≡ f.entry j)) (entries_with ks) run.same
         k.entry (entry-of ks k m)
 
     -- where it has a slot too, its mark there says the same
     alike : (k : Mark N A) → IsOneOf ks k → (j : ℕ) → j < kept → (f.entry j).node ≡ k.entry.node → k ≡ mark_at f goes j
     alike k m j lt s =
         let mark : IsMarked change ks k = one_of-all (IsMarked change ks) ks marked k m in
-        let e : k.entry ≡ f.entry j = (same-at k m j (omega (arith, run.order)) s).1 in
+        let e : k.entry ≡ f.entry j = (same-at k m j (omega (arith, run.order, run.reach)) s).1 in
         let asks : k.entry.asked ≡ f.root ∷ [] = ap (λ x. x.asked) e ∙ run.laid.named j in
         let g : k.goes ≡ goes j =
         mark.goes ∙ (λ i. list_any (is_use_touched change) (e i).uses || root-says k.entry.asked mark.asked asks mark.say i) in
@@ -586,10 +586,11 @@ module _ {N A : Type 0} (eq : N → N → Bool) (laws : IsEquivalence eq) (exact
 
       -- the run after it
       run-left : (now : List ℕ) → (now ≡ filter (λ j. nat_lt j left) lent) ⊎ ((left ≡ kept) × (now ≡ lent)) → KeepsNode eq (entries_left ks) f.root
-          → IsRun eq f left wild now (entries_left ks) []
+          → IsRun eq f left wild far now (entries_left ks) []
       run-left now cut holds = record {
         laid = run.laid;
         order = omega (arith, run.order);
+        reach = run.reach;
         in_size = run.in_size;
         root = holds;
         same = stay-all Same ks
@@ -604,7 +605,7 @@ module _ {N A : Type 0} (eq : N → N → Bool) (laws : IsEquivalence eq) (exact
       }
         where
           Same : Entry N A → Type 0
-          Same e = (j : ℕ) → j < wild → (f.entry j).node ≡ e.node → (j < left) × (e ≡ f.entry j)
+          Same e = (j : ℕ) → j < far → (f.entry j).node ≡ e.node → (j < left) × (e ≡ f.entry j)
 
           lent-count : (t : ℕ) → t ≤ left → (now ≡ filter (λ j. nat_lt j left) lent) ⊎ ((left ≡ kept) × (now ≡ lent))
               → count_by (λ j. nat_lt j t) now ≡ count_by (λ j. nat_lt j t) lent
@@ -619,10 +620,10 @@ module _ {N A : Type 0} (eq : N → N → Bool) (laws : IsEquivalence eq) (exact
 
   -- ---- the pass
   module _ (change : Change) (pages : ℕ) (es after : List (Entry N A)) (looked : ℕ) (s : Sweeps change pages es after looked)
-      (run : IsRun eq f kept wild lent es st) (once : IsDistinct eq (nodes_of es)) where
+      (run : IsRun eq f kept wild far lent es st) (once : IsDistinct eq (nodes_of es)) where
     -- the run and its nodes, by the marks of the pass
-    run-marks : IsRun eq f kept wild lent (entries_with s.marks) st
-    run-marks = subst (λ xs. IsRun eq f kept wild lent xs st) (sym s.entries) run
+    run-marks : IsRun eq f kept wild far lent (entries_with s.marks) st
+    run-marks = subst (λ xs. IsRun eq f kept wild far lent xs st) (sym s.entries) run
 
     once-marks : IsDistinct eq (nodes_of (entries_with s.marks))
     once-marks = subst (λ xs. IsDistinct eq (nodes_of xs)) (sym s.entries) once
@@ -685,8 +686,8 @@ module _ {N A : Type 0} (eq : N → N → Bool) (laws : IsEquivalence eq) (exact
 
       -- the run after it
       left-run : (now : List ℕ) → (now ≡ filter (λ j. nat_lt j left) lent) ⊎ ((left ≡ kept) × (now ≡ lent)) → KeepsNode eq after f.root
-          → IsRun eq f left wild now after []
-      left-run now cut holds = subst (λ xs. IsRun eq f left wild now xs []) (sym s.stays)
+          → IsRun eq f left wild far now after []
+      left-run now cut holds = subst (λ xs. IsRun eq f left wild far now xs []) (sym s.stays)
           (run-left change s.marks run-marks s.marked once-marks root is.0 is.1 left within stay-root go-root now cut
           (subst (λ xs. KeepsNode eq xs f.root) s.stays holds))
 
@@ -751,7 +752,8 @@ module _ {N A S : Type 0} (eq : N → N → Bool) (laws : IsEquivalence eq) (exa
   pub table-all : (P : Entry N A → Type 0) (run : Run S) (t now : Tabled N A) → IsFolding eq fold (Some run) (nodes t) → nodes now ≡ nodes t
       → AllByRecursion P (viewed eq fold (Some run) t).kept → AllByRecursion P now.kept
   table-all P run t now is same all =
-      subst (λ v. AllByRecursion P v.kept) (sym same) (of-view eq laws exact (fold run.nodes) run.kept run.wild run.lent.items t.opened P t.kept is all)
+      subst (λ v. AllByRecursion P v.kept) (sym same)
+      (of-view eq laws exact (fold run.nodes) run.kept run.wild run.far run.lent.items t.opened P t.kept is all)
 
   -- a table beside no folded nodes
   with_none : (es : List (Entry N A)) → with_folded eq [] es ≡ es
@@ -778,8 +780,8 @@ module _ {N A S : Type 0} (eq : N → N → Bool) (laws : IsEquivalence eq) (exa
 
       at_root : (k : Mark N A) × IsOneOf sweeps-now.marks k × (k.entry.node ≡ (fold run.nodes).root) × (k.goes ≡ false)
       at_root =
-          let r = root-stays eq laws exact (fold run.nodes) run.kept run.wild run.lent.items t.opened change pages t.kept now.kept looked sweeps-now is once
-          holds-now in (r.0, r.1.0, r.1.1, r.1.2)
+          let r = root-stays eq laws exact (fold run.nodes) run.kept run.wild run.far run.lent.items t.opened change pages t.kept now.kept looked sweeps-now is
+          once holds-now in (r.0, r.1.0, r.1.1, r.1.2)
 
       -- which folded nodes stay
       stay : (j : ℕ) → j < left → (list_any (is_use_touched change) ((fold run.nodes).entry j).uses || false) ≡ false
@@ -792,13 +794,14 @@ module _ {N A S : Type 0} (eq : N → N → Bool) (laws : IsEquivalence eq) (exa
       pub some-left : (new : Run S) → IsCut left run new → swept_table.opened ≡ [] → IsFolding eq fold (Some new) (nodes now)
       some-left new cut none =
           let opened : now.opened ≡ [] = ap (λ v. v.opened) then ∙ none in
-          let r : IsRun eq (fold run.nodes) left run.wild new.lent.items now.kept [] =
-          left-run eq laws exact (fold run.nodes) run.kept run.wild run.lent.items t.opened change pages t.kept now.kept looked sweeps-now is once at_root.0
-          false (at_root.1, at_root.2, at_root.3) left leaves.within stay go new.lent.items cut.lent holds-now in
-          subst (λ st. IsRun eq (fold new.nodes) new.kept new.wild new.lent.items now.kept st) (sym opened)
-          (subst (λ w. IsRun eq (fold new.nodes) new.kept w new.lent.items now.kept []) (sym cut.wild)
-          (subst (λ k. IsRun eq (fold new.nodes) k run.wild new.lent.items now.kept []) (sym cut.kept)
-          (subst (λ ns. IsRun eq (fold ns) left run.wild new.lent.items now.kept []) (sym cut.nodes) r)))
+          let r : IsRun eq (fold run.nodes) left run.wild run.far new.lent.items now.kept [] =
+          left-run eq laws exact (fold run.nodes) run.kept run.wild run.far run.lent.items t.opened change pages t.kept now.kept looked sweeps-now is once
+          at_root.0 false (at_root.1, at_root.2, at_root.3) left leaves.within stay go new.lent.items cut.lent holds-now in
+          subst (λ st. IsRun eq (fold new.nodes) new.kept new.wild new.far new.lent.items now.kept st) (sym opened)
+          (subst (λ u. IsRun eq (fold new.nodes) new.kept new.wild u new.lent.items now.kept []) (sym cut.far)
+          (subst (λ w. IsRun eq (fold new.nodes) new.kept w run.far new.lent.items now.kept []) (sym cut.wild)
+          (subst (λ k. IsRun eq (fold new.nodes) k run.wild run.far new.lent.items now.kept []) (sym cut.kept)
+          (subst (λ ns. IsRun eq (fold ns) left run.wild run.far new.lent.items now.kept []) (sym cut.nodes) r))))
 
       pub some-swept : (new : Run S) → IsCut left run new → (told : ℕ)
           → length (viewed eq fold (Some run) t).kept ≤ told + length (viewed eq fold (Some new) now).kept
@@ -809,8 +812,8 @@ module _ {N A S : Type 0} (eq : N → N → Bool) (laws : IsEquivalence eq) (exa
           let view : (viewed eq fold (Some new) now).kept ≡ with_folded eq (first_of (fold run.nodes) left) now.kept =
           (λ i. with_folded eq (first_of (fold (cut.nodes i)) (cut.kept i)) now.kept) in
           subst (λ xs. Sweeps change pages before xs told) (sym view)
-          (swept eq laws exact (fold run.nodes) run.kept run.wild run.lent.items t.opened change pages t.kept now.kept looked sweeps-now is once at_root.0 false
-          (at_root.1, at_root.2, at_root.3) left leaves.within stay go told (subst (λ xs. length before ≤ told + length xs) view least)
+          (swept eq laws exact (fold run.nodes) run.kept run.wild run.far run.lent.items t.opened change pages t.kept now.kept looked sweeps-now is once
+          at_root.0 false (at_root.1, at_root.2, at_root.3) left leaves.within stay go told (subst (λ xs. length before ≤ told + length xs) view least)
           (subst (λ xs. (told ≤ looked) ⊎ (told + length xs ≤ length before)) view most))
 
     -- where it goes
@@ -821,11 +824,11 @@ module _ {N A S : Type 0} (eq : N → N → Bool) (laws : IsEquivalence eq) (exa
     none-swept n root gone told least most =
         let f = fold run.nodes in
         let out : HasNoEntry eq now.kept f.root = subst (HasNoEntry eq now.kept) root (subst (λ v. HasNoEntry eq v.kept n) (sym then) gone) in
-        let r = root-goes eq laws exact f run.kept run.wild run.lent.items t.opened change pages t.kept now.kept looked sweeps-now is once out in
+        let r = root-goes eq laws exact f run.kept run.wild run.far run.lent.items t.opened change pages t.kept now.kept looked sweeps-now is once out in
         let all = with_none now.kept in
         subst (λ xs. Sweeps change pages (viewed eq fold (Some run) t).kept xs told) all
-        (swept eq laws exact f run.kept run.wild run.lent.items t.opened change pages t.kept now.kept looked sweeps-now is once r.0 true r.1 0 (omega arith)
-        (λ j lt. absurd (omega arith)) (λ j le lt. or_true (list_any (is_use_touched change) (f.entry j).uses)) told
+        (swept eq laws exact f run.kept run.wild run.far run.lent.items t.opened change pages t.kept now.kept looked sweeps-now is once r.0 true r.1 0
+        (omega arith) (λ j lt. absurd (omega arith)) (λ j le lt. or_true (list_any (is_use_touched change) (f.entry j).uses)) told
         (subst (λ xs. length (viewed eq fold (Some run) t).kept ≤ told + length xs) (sym all) least)
         (subst (λ xs. (told ≤ looked) ⊎ (told + length xs ≤ length (viewed eq fold (Some run) t).kept)) (sym all) most))
 

@@ -14,13 +14,13 @@ use Rattle.ksv_memo.proofs.Beside.{seen_entry, seen_folded, seen_none, seen_lent
 use Rattle.ksv_memo.proofs.Leasts.{lower}
 use Rattle.ksv_memo.proofs.Tabling.{keeps_or_not}
 
-module _ {N V F S : Type 0} (fold : S → Fold N (Result V F)) (j : ℕ) (v : V) (old_run new_run : Run S) (old new : Nodes N (Result V F)) where
-  -- memory is refused for its number: it is taken out
-  pub fails-first : (b : Bool) → is_there old.opened ≡ true → TakesFirst b old.opened new.opened → new.kept ≡ old.kept
-      → SameRun old_run new_run old_run.lent.items → FailsToLend fold j v old_run new_run old new
-  fails-first true there takes kept same = record { first = takes.0; was = takes.1; kept = inl (kept, same) }
-  fails-first false there takes kept same = let none : is_there old.opened ≡ false = ap is_there takes.0 in absurd (true≢false (sym there ∙ none))
+-- memory is refused for its number: it is taken out
+pub loses-first : {N A : Type 0} (b : Bool) (old new : Nodes N A) → is_there old.opened ≡ true → TakesFirst b old.opened new.opened → new.kept ≡ old.kept
+    → LosesFirst old new
+loses-first true old new there takes kept = record { first = takes.0; was = takes.1; kept = kept }
+loses-first false old new there takes kept = let none : is_there old.opened ≡ false = ap is_there takes.0 in absurd (true≢false (sym there ∙ none))
 
+module _ {N V F S : Type 0} (fold : S → Fold N (Result V F)) (j : ℕ) (v : V) (old_run new_run : Run S) (old new : Nodes N (Result V F)) where
   -- it isn't kept
   pub fails-lost : LosesFirst old new → SameRun old_run new_run old_run.lent.items → FailsToLend fold j v old_run new_run old new
   fails-lost lost same = record { first = lost.first; was = lost.was; kept = inl (lost.kept, same) }
@@ -68,16 +68,17 @@ apart-heard P m a (o ∷ st) h = h
 
 -- the same run, by other names
 pub same-run : {N A S : Type 0} (eq : N → N → Bool) (fold : S → Fold N A) (old new : Run S) (items : List ℕ) (es : List (Entry N A)) (st : List (Open N A))
-    → SameRun old new items → IsRun eq (fold old.nodes) old.kept old.wild items es st → IsRun eq (fold new.nodes) new.kept new.wild new.lent.items es st
-same-run eq fold old new items es st same h = rw same.nodes (rw same.kept (rw same.wild (rw same.lent h)))
+    → SameRun old new items → IsRun eq (fold old.nodes) old.kept old.wild old.far items es st
+    → IsRun eq (fold new.nodes) new.kept new.wild new.far new.lent.items es st
+same-run eq fold old new items es st same h = rw same.nodes (rw same.kept (rw same.wild (rw same.far (rw same.lent h))))
 
-module _ {N A : Type 0} (eq : N → N → Bool) (laws : IsEquivalence eq) (exact : (a b : N) → eq a b ≡ true → a ≡ b) (f : Fold N A) (kept wild : ℕ)
+module _ {N A : Type 0} (eq : N → N → Bool) (laws : IsEquivalence eq) (exact : (a b : N) → eq a b ≡ true → a ≡ b) (f : Fold N A) (kept wild far : ℕ)
     (lent : List ℕ) where
   abbrev pub sees : Nodes N A → Nodes N A
   sees t = record { kept = with_folded eq (first_of f kept) t.kept; opened = t.opened }
 
   abbrev pub Runs : List ℕ → Nodes N A → Type 0
-  Runs js t = IsRun eq f kept wild js t.kept t.opened
+  Runs js t = IsRun eq f kept wild far js t.kept t.opened
 
   -- other open nodes
   pub reopened : (js : List ℕ) (old new : Nodes N A) → Runs js old → new.kept ≡ old.kept → AllByRecursion (λ o. IsNoneBelow f wild o.node) new.opened
@@ -85,6 +86,7 @@ module _ {N A : Type 0} (eq : N → N → Bool) (laws : IsEquivalence eq) (exact
   reopened js old new h same apart = record {
     laid = h.laid;
     order = h.order;
+    reach = h.reach;
     in_size = h.in_size;
     root = rw same h.root;
     same = rw same h.same;
@@ -93,7 +95,11 @@ module _ {N A : Type 0} (eq : N → N → Bool) (laws : IsEquivalence eq) (exact
     below = h.below;
   }
 
-  -- a node that may have a slot is opened
+  -- no fewer may have slots than are kept
+  in-reach : (t : Nodes N A) → Runs lent t → kept ≤ far
+  in-reach t h = let order = h.order in let reach = h.reach in omega arith
+
+  -- a node that may be open is opened
   opens-on : (old new : Nodes N A) → Runs lent old → (n : N) → IsNoneBelow f wild n → Opens eq n old new → Runs lent new × Opens eq n (sees old) (sees new)
   opens-on old new h n free o =
       let same : n ≡ o.node = exact n o.node o.passes in
@@ -122,13 +128,13 @@ module _ {N A : Type 0} (eq : N → N → Bool) (laws : IsEquivalence eq) (exact
         (apart-heard (IsNoneBelow f wild) r.entry.node r.entry.answer old.opened h.apart)),
     record {
       entry = r.entry;
-      is = seen_entry eq laws exact f kept old.kept wild h.order h.same n r.entry r.is;
+      is = seen_entry eq laws exact f kept old.kept far (in-reach old h) h.same n r.entry r.is;
       kept = ap (with_folded eq (first_of f kept)) r.kept;
       opened = r.opened;
     },
   )
 
-  -- a node is asked that may have a slot, or is kept
+  -- a node is asked that may be open, or is kept
   pub asks-on : (old new : Nodes N A) → Runs lent old → (n : N) → IsNoneBelow f wild n ⊎ KeepsNode eq old.kept n → (came : Option N) → Asks eq n old new came
       → Runs lent new × Asks eq n (sees old) (sees new) came
   asks-on old new h n free None (inl replies) = let on = replies-on old new h n replies in (on.0, inl on.1)
@@ -140,7 +146,7 @@ module _ {N A : Type 0} (eq : N → N → Bool) (laws : IsEquivalence eq) (exact
   pub starts-some : (old new : Nodes N A) → Runs lent old → (n : N) → (out : Outcome N A) → Starts eq n old new (Some out)
       → Runs lent new × Starts eq n (sees old) (sees new) (Some out)
   starts-some old new h n (Answered a) (has, same) =
-      (subst (Runs lent) (sym same) h, ((has.0, seen_entry eq laws exact f kept old.kept wild h.order h.same n has.0 has.1, has.2), ap sees same))
+      (subst (Runs lent) (sym same) h, ((has.0, seen_entry eq laws exact f kept old.kept far (in-reach old h) h.same n has.0 has.1, has.2), ap sees same))
   starts-some old new h n (CircleOf m) circles = circles-on old new h n m circles
 
   -- or a question for it starts
@@ -169,8 +175,8 @@ module _ {N A : Type 0} (eq : N → N → Bool) (laws : IsEquivalence eq) (exact
   opens-only old new n none (inr o) = o
 
 -- ---- a folded node that gets a slot
-module _ {N V F : Type 0} (eq : N → N → Bool) (laws : IsEquivalence eq) (exact : (a b : N) → eq a b ≡ true → a ≡ b) (f : Fold N (Result V F)) (kept wild : ℕ)
-    (lent : List ℕ) where
+module _ {N V F : Type 0} (eq : N → N → Bool) (laws : IsEquivalence eq) (exact : (a b : N) → eq a b ≡ true → a ≡ b) (f : Fold N (Result V F))
+    (kept wild far : ℕ) (lent : List ℕ) where
   -- which of the first nodes a node is
   first_test : IsLaid f → (t j : ℕ) → t ≤ f.size → j < f.size → is_one eq (first_of f t) (f.entry j).node ≡ nat_lt j t
   first_test laid t j le lt = by (nat_lt j t) refl (is_one eq (first_of f t) (f.entry j).node) refl
@@ -185,22 +191,24 @@ module _ {N V F : Type 0} (eq : N → N → Bool) (laws : IsEquivalence eq) (exa
           absurd (true≢false (sym ((Decides-ltb j t).1 (omega arith)) ∙ is))
 
   -- what is kept of it is what the sequence says
-  as-told : IsLaid f → (j : ℕ) (v : V) (o : Open N (Result V F)) → (f.entry j).node ≡ o.node → (f.entry j).answer ≡ Ok v → entry_as f j v o ≡ f.entry j
+  pub as-told : IsLaid f → (j : ℕ) (v : V) (o : Open N (Result V F)) → (f.entry j).node ≡ o.node → (f.entry j).answer ≡ Ok v → entry_as f j v o ≡ f.entry j
   as-told laid j v o node answer = λ i. record { node = sym node i; answer = sym answer i; asked = sym (laid.named j) i; uses = (f.entry j).uses }
 
   -- a run once it has a slot
-  lent-on : (j : ℕ) (old : Nodes N (Result V F)) → IsRun eq f kept wild lent old.kept old.opened → j < kept → (es : List (Entry N (Result V F)))
+  pub lent-on : (j : ℕ) (old : Nodes N (Result V F)) → IsRun eq f kept wild far lent old.kept old.opened → j < kept → (es : List (Entry N (Result V F)))
       → IsPut (f.entry j) old.kept es → (st : List (Open N (Result V F))) → AllByRecursion (λ o. IsNoneBelow f wild o.node) st
-      → IsRun eq f kept wild (lent ++ j ∷ []) es st
+      → IsRun eq f kept wild far (lent ++ j ∷ []) es st
   lent-on j old h lt es put st apart =
       let order = h.order in
+      let reach = h.reach in
       let size = h.in_size in
       record {
         laid = h.laid;
         order = h.order;
+        reach = h.reach;
         in_size = h.in_size;
         root = (h.root.0, record { there = put_one (f.entry j) h.root.0 old.kept es put h.root.1.there; passes = h.root.1.passes });
-        same = put_all (λ e. (i : ℕ) → i < wild → (f.entry i).node ≡ e.node → (i < kept) × (e ≡ f.entry i)) (f.entry j) old.kept es put h.same
+        same = put_all (λ e. (i : ℕ) → i < far → (f.entry i).node ≡ e.node → (i < kept) × (e ≡ f.entry i)) (f.entry j) old.kept es put h.same
             (λ i below same. (let is : i ≡ j = h.laid.once i j (omega arith) (omega arith) same in ((omega arith), ap f.entry (sym is))));
         apart = apart;
         counted = λ t le.
@@ -215,9 +223,9 @@ module _ {N V F : Type 0} (eq : N → N → Bool) (laws : IsEquivalence eq) (exa
           let none : count_by p [] ≡ 0 = refl in omega arith
 
   module _ {S : Type 0} (fold : S → Fold N (Result V F)) (old_run new_run : Run S) (is : fold old_run.nodes ≡ f) (kept_is : old_run.kept ≡ kept)
-      (wild_is : old_run.wild ≡ wild) (lent_is : old_run.lent.items ≡ lent) (j : ℕ) (v : V) (n : N) (lt : j < kept) (at : (f.entry j).node ≡ n)
-      (answer : (f.entry j).answer ≡ Ok v) (old mid new : Nodes N (Result V F)) (h : IsRun eq f kept wild lent old.kept old.opened)
-      (opens : Opens eq n old mid) where
+      (wild_is : old_run.wild ≡ wild) (far_is : old_run.far ≡ far) (lent_is : old_run.lent.items ≡ lent) (j : ℕ) (v : V) (n : N) (lt : j < kept)
+      (at : (f.entry j).node ≡ n) (answer : (f.entry j).answer ≡ Ok v) (old mid new : Nodes N (Result V F))
+      (h : IsRun eq f kept wild far lent old.kept old.opened) (opens : Opens eq n old mid) where
     same_node : (f.entry j).node ≡ opens.node
     same_node = at ∙ exact n opens.node opens.passes
 
@@ -232,8 +240,8 @@ module _ {N V F : Type 0} (eq : N → N → Bool) (laws : IsEquivalence eq) (exa
 
     -- the last open node is the one that was opened
     pub lends-on : LendsTo fold j v old_run new_run mid.opened mid new
-        → IsRun eq (fold new_run.nodes) new_run.kept new_run.wild new_run.lent.items new.kept new.opened
-        × Replies eq n (sees eq laws exact f kept wild lent old)
+        → IsRun eq (fold new_run.nodes) new_run.kept new_run.wild new_run.far new_run.lent.items new.kept new.opened
+        × Replies eq n (sees eq laws exact f kept wild far lent old)
         (record { kept = with_folded eq (first_of (fold new_run.nodes) new_run.kept) new.kept; opened = new.opened })
     lends-on l =
         let l2 : LendsTo fold j v old_run new_run (newly opens.node ∷ old.opened) mid new =
@@ -241,9 +249,9 @@ module _ {N V F : Type 0} (eq : N → N → Bool) (laws : IsEquivalence eq) (exa
         let put = put_here (newly opens.node) refl new.kept l2.0 in
         let apart : AllByRecursion (λ w. IsNoneBelow f wild w.node) new.opened = subst (AllByRecursion (λ w. IsNoneBelow f wild w.node)) (sym l2.1)
         (apart-heard (IsNoneBelow f wild) opens.node (Ok v) old.opened h.apart) in
-        let run : IsRun eq f kept wild (lent ++ j ∷ []) new.kept new.opened = lent-on j old h lt new.kept put new.opened apart in (
+        let run : IsRun eq f kept wild far (lent ++ j ∷ []) new.kept new.opened = lent-on j old h lt new.kept put new.opened apart in (
           same-run eq fold old_run new_run (old_run.lent.items ++ j ∷ []) new.kept new.opened l2.2
-              (rw is (rw kept_is (rw wild_is (rw lent_is run)))),
+              (rw is (rw kept_is (rw wild_is (rw far_is (rw lent_is run))))),
           record {
             entry = f.entry j;
             is = seen_folded eq laws exact f kept old.kept j n lt at;
@@ -254,7 +262,7 @@ module _ {N V F : Type 0} (eq : N → N → Bool) (laws : IsEquivalence eq) (exa
 
     -- or the memory for that is refused
     pub fails-on : FailsToLend fold j v old_run new_run mid new
-        → IsRun eq (fold new_run.nodes) new_run.kept new_run.wild new_run.lent.items new.kept new.opened
+        → IsRun eq (fold new_run.nodes) new_run.kept new_run.wild new_run.far new_run.lent.items new.kept new.opened
         × (with_folded eq (first_of (fold new_run.nodes) new_run.kept) new.kept ≡ with_folded eq (first_of f kept) old.kept)
     fails-on l =
         let both : newly opens.node ∷ old.opened ≡ l.first ∷ new.opened = sym opens.opened ∙ l.was in
@@ -264,13 +272,14 @@ module _ {N V F : Type 0} (eq : N → N → Bool) (laws : IsEquivalence eq) (exa
         elim l.kept [
           | inl lost ↦ (
             same-run eq fold old_run new_run old_run.lent.items new.kept new.opened lost.1
-                (rw is (rw kept_is (rw wild_is (rw lent_is (reopened eq laws exact f kept wild lent lent old new h (lost.0 ∙ opens.kept) apart))))),
+                (rw is (rw kept_is (rw wild_is (rw far_is (rw lent_is (reopened eq laws exact f kept wild far lent lent old new h (lost.0 ∙ opens.kept)
+                apart)))))),
             as_new lost.1 new.kept ∙ ap (with_folded eq (first_of f kept)) (lost.0 ∙ opens.kept),
           )
           | inr kept_it ↦
               let put = put_here l.first (ap (λ (o : Open N (Result V F)). o.node) (sym first)) new.kept kept_it.0 in (
                 same-run eq fold old_run new_run (old_run.lent.items ++ j ∷ []) new.kept new.opened kept_it.1
-                    (rw is (rw kept_is (rw wild_is (rw lent_is (lent-on j old h lt new.kept put new.opened apart))))),
+                    (rw is (rw kept_is (rw wild_is (rw far_is (rw lent_is (lent-on j old h lt new.kept put new.opened apart)))))),
                 as_new kept_it.1 new.kept ∙ seen_lent eq laws exact f kept (f.entry j) old.kept new.kept (own eq laws exact f kept j lt) put,
               )
         ]

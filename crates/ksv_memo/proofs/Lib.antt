@@ -30,3 +30,4 @@ pub mod Counted
 pub mod Runs
 pub mod Leaving
 pub mod Growth
+pub mod Absorbing

@@ -3,16 +3,18 @@ use Rattle.ksv_memo.proofs.Common.{◌⊎◌, ◌≡◌, ℕ, ◌+◌, ◌<◌, 
 use Rattle.ksv_memo.proofs.Common.{◌∙◌, ap, subst, inl, inr, Decides-ltb, IsEquivalence, list_any, Next, Need, Done, Outcome, Answered, Circle, IsLawful}
 use Rattle.ksv_memo.proofs.Common.{Meaning, Standing, IsSettled, on, law_on, is_among, tells, done, answering, Entry, Open, newly, with_uses, with_answer}
 use Rattle.ksv_memo.proofs.Common.{Replies, Opens, Circles, Closes, MayKeep, nodes_of, IsRight, Agrees, GoesOn, HasFinished, IsLeft, rest_of, to_keep, debt}
-use Rattle.ksv_memo.proofs.Common.{AreSame, IsOut, IsIn, agrees, self_in}
+use Rattle.ksv_memo.proofs.Common.{AreSame, IsOut, IsIn, IsStack, agrees, self_in}
 use Rattle.std.proofs.Common.{true≢false}
 use Rattle.ksv_memo_rules.specs.Evaluation.{IsAnswered}
-use Rattle.ksv_memo.specs.Nodes.{Nodes, IsEntry, HasNoEntry, Starts, Steps}
+use Rattle.ksv_memo.specs.Nodes.{Nodes, IsEntry, HasNoEntry, Keeps, Starts, Steps, kept_of}
 use Rattle.ksv_memo_rules.specs.Right.{counted}
+use Rattle.ksv_memo.specs.Running.{ClosesRight, HasEnded, KeepsRight, MayKeepRight}
 use Rattle.ksv_memo.specs.Running.{account_at, GoesOnWith, IsRunning, HasReached, AdvancesFrom, AdvancesAt, LeftFrom, LeftAt, Holds, HoldsWith}
 use Rattle.ksv_memo.specs.Running.{Counts, CountsWith, turns_left}
 use Rattle.ksv_memo.proofs.Laying.{one_of-all}
 use Rattle.ksv_memo.specs.Growing.{GrowsBy}
 use Rattle.ksv_memo.proofs.Growing.{counted-swap, counts-ahead, grown-all, grown-came-on, grown-debt, grown-in, grown-left, grown-stack}
+use Rattle.ksv_memo.proofs.Moves.{keeps}
 use Rattle.ksv_memo.proofs.Turns.{any_entry, waits_among, need-replies, need-opens, need-ends, finish-goes, finish-ends, finish-left, left-same, turn-account}
 use Rattle.ksv_memo.proofs.Turns.{turn-steps, begins, comes, covers-begins, turns-begin, value-begins, counts-end, counts-step, covers-kept, none-owed}
 
@@ -79,28 +81,47 @@ module _ {N A : Type 0} (q : Asking N A) where
 
   -- ---- the last open node has its answer
   pub closes_on : (es : List (Entry N A)) (st : List (Open N A)) (a : A) (now : Nodes N A) → HasReached q.world es st (Done a)
-      → Closes a st (record { kept = es; opened = st }) now → nat_lt 1 (length st) ≡ true → AdvancesAt q.world es st (Done a) now None
+      → ClosesRight q.world a st (record { kept = es; opened = st }) now → nat_lt 1 (length st) ≡ true → AdvancesAt q.world es st (Done a) now None
   closes_on es [] a now reached r more = absurd reached
   closes_on es (o ∷ []) a now reached r more = let lt = (Decides-ltb 1 (length (o ∷ []))).0 more in absurd (omega arith)
   closes_on es (o ∷ p ∷ rest) a now reached r more =
-      let goes : GoesOn q.world (account_at q.world es o (p ∷ rest) (Done a)) es now.kept (with_answer p o.node a) rest =
-      finish-goes _ q.law _ _ r.0.front r.0.back _ p _ _ _ _ _ reached.0 reached.1 r.0.each r.0.was
-      r.0.kept refl refl in
-      subst (GoesOnWith q.world (account_at q.world es o (p ∷ rest) (Done a)) es now.kept) (sym r.1) goes
+      subst (GoesOnWith q.world (account_at q.world es o (p ∷ rest) (Done a)) es now.kept) (sym r.1)
+      (finish-goes q.world q.law es now.kept o p rest a reached.0 reached.1 r.0)
 
   pub closes_last : (es : List (Entry N A)) (st : List (Open N A)) (a c : A) (now : Nodes N A) → HasReached q.world es st (Done a)
-      → Closes a st (record { kept = es; opened = st }) now → nat_lt 1 (length st) ≡ false → c ≡ a → AdvancesAt q.world es st (Done a) now (Some (Answered c))
+      → ClosesRight q.world a st (record { kept = es; opened = st }) now → nat_lt 1 (length st) ≡ false → c ≡ a
+      → AdvancesAt q.world es st (Done a) now (Some (Answered c))
   closes_last es [] a c now reached r one copy = absurd reached
   closes_last es (o ∷ p ∷ rest) a c now reached r one copy = let yes = (Decides-ltb 1 (length (o ∷ p ∷ rest))).1 (omega arith) in absurd (cc)
-  closes_last es (o ∷ []) a c now reached r one copy =
-      finish-ends _ q.law _ _ r.0.front r.0.back _ _ _ _ _ reached.0 reached.1 r.0.each r.0.was r.0.kept refl copy
+  closes_last es (o ∷ []) a c now reached r one copy = finish-ends q.world q.law es now.kept o a c reached.0 reached.1 r.0 copy
 
-  pub closes_left : (es : List (Entry N A)) (st : List (Open N A)) (a : A) (now : List (Entry N A)) → HasReached q.world es st (Done a) → MayKeep a st es now
-      → LeftAt q.world es st (Done a) now
+  pub closes_left : (es : List (Entry N A)) (st : List (Open N A)) (a : A) (now : List (Entry N A)) → HasReached q.world es st (Done a)
+      → MayKeepRight q.world a st es now → LeftAt q.world es st (Done a) now
   closes_left es [] a now reached may = absurd reached
   closes_left es (o ∷ st) a now reached (inl same) = left-same _ q.law _ _ _ reached.0.right same
-  closes_left es (o ∷ st) a now reached (inr keeps) =
-      finish-left _ q.law _ _ keeps.front keeps.back _ _ _ _ reached.0 reached.1 keeps.each keeps.was keeps.kept
+  closes_left es (o ∷ st) a now reached (inr keeps) = finish-left q.world q.law es now o st a reached.0 keeps
+
+  -- what is kept with what its node asked and used is right
+  keeps-right : (es now : List (Entry N A)) (o : Open N A) (st : List (Open N A)) (a : A) → IsStack q.world es o.node st → HasEnded q.world es o a
+      → Keeps o a es now → KeepsRight q.world o a es now
+  keeps-right es now o st a stack ended k = record {
+    entry = kept_of o a k.once;
+    node = refl;
+    answer = refl;
+    put = record { front = k.front; back = k.back; was = k.was; now = k.kept };
+    right = keeps q.world q.law es o st a k.once stack ended k.each;
+  }
+
+  pub closes-right : (es : List (Entry N A)) (st : List (Open N A)) (a : A) (now : Nodes N A) → HasReached q.world es st (Done a)
+      → Closes a st (record { kept = es; opened = st }) now → ClosesRight q.world a st (record { kept = es; opened = st }) now
+  closes-right es [] a now reached c = c
+  closes-right es (o ∷ st) a now reached c = (keeps-right es now.kept o st a reached.0 reached.1 c.0, c.1)
+
+  pub may-right : (es : List (Entry N A)) (st : List (Open N A)) (a : A) (now : List (Entry N A)) → HasReached q.world es st (Done a)
+      → MayKeep a st es now → MayKeepRight q.world a st es now
+  may-right es [] a now reached may = may
+  may-right es (o ∷ st) a now reached (inl same) = inl same
+  may-right es (o ∷ st) a now reached (inr k) = inr (keeps-right es now o st a reached.0 reached.1 k)
 
   -- a turn of the question for n, which began with what es has: a call of the rules, which leaves what is kept
   pub record Turn (n : N) (es : List (Entry N A)) (first : Option ℕ) (s : Next N A) : Type 0 where

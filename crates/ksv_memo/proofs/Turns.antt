@@ -1,19 +1,19 @@
 -- What the code's tests and moves say of kept and open nodes.
 use Rattle.ksv_memo.proofs.Common.{◌≡◌, ℕ, suc, ◌+◌, ◌-◌, ◌*◌, ◌<◌, ◌≤◌, Bool, true, false, List, [], ◌∷◌, ◌++◌, length, refl, sym, ◌∙◌, ap, subst, nat_eq}
-use Rattle.ksv_memo.proofs.Common.{arith, length-append, eq-eqb, Option, Result, IsEquivalence, AllByRecursion, list_any, append-nil, Use, Next, Need}
+use Rattle.ksv_memo.proofs.Common.{arith, length-append, eq-eqb, Option, Result, IsEquivalence, AllByRecursion, list_any, append-nil, Next, Need}
 use Rattle.ksv_memo.proofs.Common.{Done, Outcome, Answered, Circle, Standing, IsSettled, is_among, tells, done, answering, Entry, Open, nodes_in}
-use Rattle.ksv_memo.proofs.Common.{newly, with_uses, with_answer, nodes_of, HasEachOnce, IsRight, fresh, costs, Agrees, HasCome, IsWaiting, IsStack, rest_of}
+use Rattle.ksv_memo.proofs.Common.{newly, with_uses, with_answer, nodes_of, IsRight, fresh, costs, Agrees, HasCome, IsWaiting, IsStack, rest_of}
 use Rattle.ksv_memo.proofs.Common.{to_keep, debt, HasFinished, GoesOn, IsLeft, All-right, IsOut, eqb_true, IsIn, AreDistinct-none, agrees, self_in}
 use Rattle.ksv_memo.proofs.Common.{nodes_of-append}
 use Rattle.std.proofs.Common.{Ok, Err, OnErr}
-use Rattle.ksv_memo.specs.Nodes.{kept_of}
 use Rattle.ksv_memo_rules.specs.Right.{counted}
+use Rattle.ksv_memo.specs.Running.{KeepsRight}
 use Rattle.ksv_memo.specs.Running.{HasEnded, HasStepped, value_of, calls_of, calls_left, climbed_rest, rest_at, made, Counts, account_of, account_at}
 use Rattle.ksv_memo_rules.proofs.Evals.{AreDistinct-cons, tells-free}
 use Rattle.ksv_memo_rules.proofs.Keeping.{IsIn-append, done-kept}
 use Rattle.ksv_memo.proofs.Places.{goes-moved, finished-moved, left-moved}
 use Rattle.ksv_memo.proofs.Moves.{stepped, value-stepped, rest-stepped, rest-replied, rest-starts, rest-circle, covers-keep, covers-drop, to_keep-nil}
-use Rattle.ksv_memo.proofs.Moves.{fresh-nil, debt-keep, debt-drop, replied, value-replied, value-circle, starts, value-starts, room, opens, keeps, closes}
+use Rattle.ksv_memo.proofs.Moves.{fresh-nil, debt-keep, debt-drop, replied, value-replied, value-circle, starts, value-starts, room, opens, closes}
 use Rattle.ksv_memo.proofs.Moves.{IsWaiting-keep}
 
 -- ---- `==` on nodes is that of their numbers
@@ -94,87 +94,76 @@ calls-open d d' oa ma e = omega arith
 -- ---- what a turn yields
 module _ {N A : Type 0} (w : Standing N A) (law : IsSettled w) where
   -- a node is kept and the one below goes on
-  goes-kept : (es : List (Entry N A)) (o p : Open N A) (st : List (Open N A)) (a : A) (once : List Use)
-      → IsStack w es o.node (p ∷ st) → HasEnded w es o a → HasEachOnce once o.uses
-      → GoesOn w (account_at w es o (p ∷ st) (Done a)) es (es ++ kept_of o a once ∷ []) (with_answer p o.node a) st
-  goes-kept es o p st a once h ended each =
-      let e : Entry N A = kept_of o a once in
-      let right : IsRight w (es ++ e ∷ []) = keeps _ law _ _ _ _ _ h ended each in
+  goes-kept : (es : List (Entry N A)) (o p : Open N A) (st : List (Open N A)) (a : A) (e : Entry N A)
+      → IsStack w es o.node (p ∷ st) → HasEnded w es o a → e.node ≡ o.node → e.answer ≡ a → IsRight w (es ++ e ∷ [])
+      → GoesOn w (account_at w es o (p ∷ st) (Done a)) es (es ++ e ∷ []) (with_answer p o.node a) st
+  goes-kept es o p st a e h ended node answer right =
       let waits : IsWaiting w (es ++ e ∷ []) p o.node = IsWaiting-keep _ _ e _ _ h.chain.0 in
-      let says : (g : N → Outcome N A) → Agrees (es ++ e ∷ []) g
-      → g o.node ≡ Answered a = λ g agree. (All-right (λ (x : Entry N A). g x.node ≡ Answered x.answer) es (e ∷ []) agree).0 in
+      let says : (g : N → Outcome N A) → Agrees (es ++ e ∷ []) g → g o.node ≡ Answered a =
+      λ g agree. ap g (sym node) ∙ (All-right (λ (x : Entry N A). g x.node ≡ Answered x.answer) es (e ∷ []) agree).0 ∙ ap Answered answer in
       let left_over : debt w (es ++ e ∷ []) (rest_of w (with_answer p o.node a) st) ≡ debt w (es ++ e ∷ []) (climbed_rest w (p ∷ st) (Answered a)) =
       ap (debt w (es ++ e ∷ [])) (rest-replied w p o.node a st) in
       let paid : debt w es (rest_at w o (p ∷ st) (Done a)) ≡ length o.asked + 1 + debt w (es ++ e ∷ []) (climbed_rest w (p ∷ st) (Answered a)) =
-      debt-keep _ law _ e _ _ _ (climbed_rest w (p ∷ st) (Answered a)) h ended refl in
+      debt-keep _ law _ e _ _ _ (climbed_rest w (p ∷ st) (Answered a)) h ended node in
       record {
-        stack = closes w es o p st e h refl right;
-        came = replied _ _ _ _ a waits (kept_last w es e) says;
+        stack = closes w es o p st e h node right;
+        came = replied _ _ _ _ a waits (subst (IsIn w (nodes_of (es ++ e ∷ []))) node (kept_last w es e)) says;
         grown = λ x k. cc (nodes_of-append es (e ∷ []), IsIn-append w (nodes_of es) (e.node ∷ []) x k);
         value = value-replied w p o.node a st;
         fewer = calls-kept w es e o p o.node a st ended.few h.chain.0.few;
         all = λ x. ap (λ ns. is_among w.number ns x)
-            (cc (rest-replied w p o.node a st, covers-keep w es e _ (climbed_rest w (p ∷ st) (Answered a)) refl h.apart.0));
+            (cc (rest-replied w p o.node a st, covers-keep w es e _ (climbed_rest w (p ∷ st) (Answered a)) node h.apart.0));
         calls = calls-paid _ _ _ (length o.asked) (length p.asked) (made st) _ left_over paid
             (length-append p.asked (o.node ∷ []));
       }
 
-  pub finish-goes : (es all front back : List (Entry N A)) (o p q : Open N A) (st rest : List (Open N A)) (a : A) (once : List Use)
-      → IsStack w es o.node st → HasEnded w es o a → HasEachOnce once o.uses → es ≡ front ++ back → all ≡ front ++ kept_of o a once ∷ back → st ≡ p ∷ rest
-      → q ≡ with_answer p o.node a
-      → GoesOn w (account_at w es o st (Done a)) es all q rest
-  finish-goes es all front back o p q st rest a once h ended each was more popped is =
-      let stack : IsStack w es o.node (p ∷ rest) = subst (IsStack w es o.node) popped h in
-      let P : List (Open N A) → List (Entry N A) → Open N A → Type 0 = λ below xs r. GoesOn w (account_at w es o below (Done a)) es xs r rest in
-      let goes = subst (λ xs. P (p ∷ rest) (xs ++ kept_of o a once ∷ []) (with_answer p o.node a)) was (goes-kept es o p rest a once stack ended each) in
-      let moved : P (p ∷ rest) (front ++ kept_of o a once ∷ back) (with_answer p o.node a) =
-      goes-moved w front back (kept_of o a once) (account_at w es o (p ∷ rest) (Done a)) es (with_answer p o.node a) rest goes in
-      subst (λ below. P below all q) (sym popped)
-      (subst (λ xs. P (p ∷ rest) xs q) (sym more) (subst (P (p ∷ rest) (front ++ kept_of o a once ∷ back)) (sym is) moved))
+  pub finish-goes : (es all : List (Entry N A)) (o p : Open N A) (rest : List (Open N A)) (a : A)
+      → IsStack w es o.node (p ∷ rest) → HasEnded w es o a → KeepsRight w o a es all
+      → GoesOn w (account_at w es o (p ∷ rest) (Done a)) es all (with_answer p o.node a) rest
+  finish-goes es all o p rest a h ended k =
+      let P : List (Entry N A) → Type 0 = λ xs. GoesOn w (account_at w es o (p ∷ rest) (Done a)) es xs (with_answer p o.node a) rest in
+      let goes = subst (λ xs. P (xs ++ k.entry ∷ [])) k.put.was (goes-kept es o p rest a k.entry h ended k.node k.answer k.right) in
+      subst P (sym k.put.now)
+      (goes-moved w k.put.front k.put.back k.entry (account_at w es o (p ∷ rest) (Done a)) es (with_answer p o.node a) rest goes)
 
   -- the lowest node is kept
-  ends-kept : (es : List (Entry N A)) (o : Open N A) (a : A) (once : List Use) → IsStack w es o.node [] → HasEnded w es o a → HasEachOnce once o.uses
-      → HasFinished w (account_at w es o [] (Done a)) (es ++ kept_of o a once ∷ []) (Answered a)
-  ends-kept es o a once h ended each =
-      let e : Entry N A = kept_of o a once in
-      let paid : debt w es (o.node ∷ []) ≡ length o.asked + 1 + debt w (es ++ e ∷ []) [] = debt-keep w law es e o [] a [] h ended refl in
+  ends-kept : (es : List (Entry N A)) (o : Open N A) (a : A) (e : Entry N A) → IsStack w es o.node [] → HasEnded w es o a → e.node ≡ o.node
+      → IsRight w (es ++ e ∷ []) → HasFinished w (account_at w es o [] (Done a)) (es ++ e ∷ []) (Answered a)
+  ends-kept es o a e h ended node right =
+      let paid : debt w es (o.node ∷ []) ≡ length o.asked + 1 + debt w (es ++ e ∷ []) [] = debt-keep w law es e o [] a [] h ended node in
       let nothing : debt w (es ++ e ∷ []) [] ≡ 0 = ap (costs w) (fresh-nil w.number (nodes_of (es ++ e ∷ []))) in
       let now : length o.asked + 0 + 1 ≡ debt w es (o.node ∷ []) = omega arith in
       record {
         value = refl;
-        right = keeps _ law _ _ _ _ _ h ended each;
-        all = λ x. ap (λ ns. is_among w.number ns x) (to_keep-nil w (es ++ e ∷ []) ∙ covers-keep w es e _ [] refl h.apart.0);
+        right = right;
+        all = λ x. ap (λ ns. is_among w.number ns x) (to_keep-nil w (es ++ e ∷ []) ∙ covers-keep w es e _ [] node h.apart.0);
         calls = λ _. now;
       }
 
-  pub finish-ends : (es all front back : List (Entry N A)) (o : Open N A) (st : List (Open N A)) (a b : A) (once : List Use)
-      → IsStack w es o.node st → HasEnded w es o a → HasEachOnce once o.uses → es ≡ front ++ back → all ≡ front ++ kept_of o a once ∷ back → st ≡ [] → b ≡ a
-      → HasFinished w (account_at w es o st (Done a)) all (Answered b)
-  finish-ends es all front back o st a b once h ended each was more none copy =
-      let stack : IsStack w es o.node [] = subst (IsStack w es o.node) none h in
-      let P : List (Open N A) → List (Entry N A) → A → Type 0 = λ below xs x. HasFinished w (account_at w es o below (Done a)) xs (Answered x) in
-      let ends = subst (λ xs. P [] (xs ++ kept_of o a once ∷ []) a) was (ends-kept _ _ _ _ stack ended each) in
-      let moved : P [] (front ++ kept_of o a once ∷ back) a =
-      finished-moved _ front back (kept_of o a once) _ _ ends in
-      subst (λ below. P below all b) (sym none) (subst (λ xs. P [] xs b) (sym more) (subst (P [] (front ++ kept_of o a once ∷ back)) (sym copy) moved))
+  pub finish-ends : (es all : List (Entry N A)) (o : Open N A) (a b : A) → IsStack w es o.node [] → HasEnded w es o a → KeepsRight w o a es all → b ≡ a
+      → HasFinished w (account_at w es o [] (Done a)) all (Answered b)
+  finish-ends es all o a b h ended k copy =
+      let P : List (Entry N A) → A → Type 0 = λ xs x. HasFinished w (account_at w es o [] (Done a)) xs (Answered x) in
+      let ends = subst (λ xs. P (xs ++ k.entry ∷ []) a) k.put.was (ends-kept es o a k.entry h ended k.node k.right) in
+      let moved : P (k.put.front ++ k.entry ∷ k.put.back) a = finished-moved _ k.put.front k.put.back k.entry _ _ ends in
+      subst (λ xs. P xs b) (sym k.put.now) (subst (P (k.put.front ++ k.entry ∷ k.put.back)) (sym copy) moved)
 
   -- memory is refused once a node is kept, or before
-  pub finish-left : (es all front back : List (Entry N A)) (o : Open N A) (st : List (Open N A)) (a : A) (once : List Use)
-      → IsStack w es o.node st → HasEnded w es o a → HasEachOnce once o.uses → es ≡ front ++ back → all ≡ front ++ kept_of o a once ∷ back
+  pub finish-left : (es all : List (Entry N A)) (o : Open N A) (st : List (Open N A)) (a : A) → IsStack w es o.node st → KeepsRight w o a es all
       → IsLeft w (account_at w es o st (Done a)).all es all
-  finish-left es all front back o st a once h ended each was more =
-      let e : Entry N A = kept_of o a once in
+  finish-left es all o st a h k =
+      let e : Entry N A = k.entry in
       let rest : List N = climbed_rest w st (Answered a) in
       let P : List (Entry N A) → Type 0 = λ xs. IsLeft w (to_keep w es (o.node ∷ rest)) es xs in
       let here : P (es ++ e ∷ []) = record {
-        right = keeps _ law _ _ _ _ _ h ended each;
-        grown = λ x k. cc (nodes_of-append es (e ∷ []), IsIn-append w (nodes_of es) (e.node ∷ []) x k);
-        within = λ x k. cc (
-          covers-keep w es e _ rest refl h.apart.0,
-          IsIn-append w (nodes_of (es ++ e ∷ [])) (fresh w.number (nodes_of (es ++ e ∷ [])) rest) x k,
+        right = k.right;
+        grown = λ x is. cc (nodes_of-append es (e ∷ []), IsIn-append w (nodes_of es) (e.node ∷ []) x is);
+        within = λ x is. cc (
+          covers-keep w es e _ rest k.node h.apart.0,
+          IsIn-append w (nodes_of (es ++ e ∷ [])) (fresh w.number (nodes_of (es ++ e ∷ [])) rest) x is,
         );
       } in
-      subst P (sym more) (left-moved _ front back e _ _ (rw (← was) here))
+      subst P (sym k.put.now) (left-moved _ k.put.front k.put.back e _ _ (rw (← k.put.was) here))
 
   pub left-same : (es all : List (Entry N A)) (rest : List N) → IsRight w es → all ≡ es → IsLeft w (to_keep w es rest) es all
   left-same es all rest right same =

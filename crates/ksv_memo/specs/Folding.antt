@@ -28,6 +28,24 @@ abbrev pub IsFirst : {N A : Type 0} → N → List (Open N A) → Type 0
 IsFirst n [] = ⊥
 IsFirst n (o ∷ st) = n ≡ o.node
 
+-- the last open node is that of a number
+abbrev pub IsLastAt : {N A : Type 0} → Fold N A → ℕ → List (Open N A) → Type 0
+IsLastAt f j [] = ⊥
+IsLastAt f j (o ∷ st) = (j < f.size) × ((f.entry j).node ≡ o.node)
+
+-- it is that of none
+abbrev pub IsLastOut : {N A : Type 0} → Fold N A → List (Open N A) → Type 0
+IsLastOut f [] = Unit {0}
+IsLastOut f (o ∷ st) = IsNoneBelow f f.size o.node
+
+-- an open node is that of the first number that isn't kept, below one from which on nodes may have slots; it has this answer, and no other open node is it
+pub record NextOf {N A : Type 0} (f : Fold N A) (kept far j : ℕ) (a : A) (o : Open N A) (st : List (Open N A)) : Type 0 where
+  pub is : j ≡ kept
+  pub before : kept < far
+  pub node : (f.entry j).node ≡ o.node
+  pub answer : (f.entry j).answer ≡ a
+  pub apart : AllByRecursion (λ w. w.node ≡ o.node → ⊥) st
+
 -- what is kept of an open node that is that of a number
 abbrev pub entry_as : {N V F : Type 0} → Fold N (Result V F) → ℕ → V → Open N (Result V F) → Entry N (Result V F)
 entry_as f j v o = record { node = o.node; answer = Ok v; asked = f.root ∷ []; uses = (f.entry j).uses }
@@ -52,26 +70,28 @@ is_one eq es n = list_any (λ e. eq n e.node) es
 abbrev pub with_folded : {N A : Type 0} → (N → N → Bool) → List (Entry N A) → List (Entry N A) → List (Entry N A)
 with_folded eq folded es = filter (λ e. not (is_one eq folded e.node)) es ++ folded
 
--- The first nodes of a sequence are folded. Its root has a slot. Of the nodes below a number that it hasn't reached yet none has a slot or is open, but for
--- folded nodes that were asked: they are kept in slots too, by the same entries. The numbers of these are listed.
-pub record IsRun {N A : Type 0} (eq : N → N → Bool) (f : Fold N A) (kept wild : ℕ) (lent : List ℕ) (es : List (Entry N A)) (st : List (Open N A)) : Type 0 where
+-- The first nodes of a sequence are folded. Its root has a slot. Of the nodes below a number that it hasn't reached yet none is open, and below one that is no less
+-- none has a slot, but for folded nodes that were asked: they are kept in slots too, by the same entries. The numbers of these are listed.
+pub record IsRun {N A : Type 0} (eq : N → N → Bool) (f : Fold N A) (kept wild far : ℕ) (lent : List ℕ) (es : List (Entry N A)) (st : List (Open N A)) : Type 0 where
   pub laid : IsLaid f
   pub order : kept ≤ wild
-  pub in_size : wild ≤ f.size
+  pub reach : wild ≤ far
+  pub in_size : far ≤ f.size
   pub root : KeepsNode eq es f.root
-  pub same : AllByRecursion (λ e. (j : ℕ) → j < wild → (f.entry j).node ≡ e.node → (j < kept) × (e ≡ f.entry j)) es
+  pub same : AllByRecursion (λ e. (j : ℕ) → j < far → (f.entry j).node ≡ e.node → (j < kept) × (e ≡ f.entry j)) es
   pub apart : AllByRecursion (λ o. IsNoneBelow f wild o.node) st
   pub counted : (t : ℕ) → t ≤ kept → count_by (λ e. is_one eq (first_of f t) e.node) es ≡ count_by (λ j. nat_lt j t) lent
   pub below : AllByRecursion (λ j. j < kept) lent
 
--- a run begins: the last open node is its root, and none of its nodes is kept or open below a number
-pub record IsFounded {N A : Type 0} (f : Fold N A) (kept wild : ℕ) (lent : List ℕ) (es : List (Entry N A)) (o : Open N A) (st : List (Open N A)) : Type 0 where
+-- a run begins: the last open node is its root, and none of its nodes is open below a number, or kept below one that is no less
+pub record IsFounded {N A : Type 0} (f : Fold N A) (kept wild far : ℕ) (lent : List ℕ) (es : List (Entry N A)) (o : Open N A) (st : List (Open N A)) : Type 0 where
   pub laid : IsLaid f
   pub root : f.root ≡ o.node
   pub none : kept ≡ 0
-  pub in_size : wild ≤ f.size
+  pub reach : wild ≤ far
+  pub in_size : far ≤ f.size
   pub no_lent : lent ≡ []
-  pub out : AllByRecursion (λ e. IsNoneBelow f wild e.node) es
+  pub out : AllByRecursion (λ e. IsNoneBelow f far e.node) es
   pub apart : AllByRecursion (λ w. IsNoneBelow f wild w.node) (o ∷ st)
 
 -- ---- runs
@@ -81,17 +101,20 @@ module _ {S : Type 0} where
     pub nodes : new.nodes ≡ old.nodes
     pub kept : new.kept ≡ old.kept
     pub wild : new.wild ≡ old.wild
+    pub far : new.far ≡ old.far
     pub lent : new.lent.items ≡ items
 
-  -- the same, but that more nodes may have slots
+  -- the same, but that more nodes may be open
   abbrev pub SameButWild : Run S → Run S → Type 0
-  SameButWild old new = (new.nodes ≡ old.nodes) × (new.kept ≡ old.kept) × (new.wild ≤ old.wild) × (new.kept ≤ new.wild) × (new.lent.items ≡ old.lent.items)
+  SameButWild old new = (new.nodes ≡ old.nodes) × (new.kept ≡ old.kept) × (new.wild ≤ old.wild) × (new.kept ≤ new.wild) × (new.far ≡ old.far)
+      × (new.lent.items ≡ old.lent.items)
 
   -- so many of the first are left
   pub record IsCut (left : ℕ) (old new : Run S) : Type 0 where
     pub nodes : new.nodes ≡ old.nodes
     pub kept : new.kept ≡ left
     pub wild : new.wild ≡ old.wild
+    pub far : new.far ≡ old.far
     pub lent : (new.lent.items ≡ filter (λ j. nat_lt j left) old.lent.items) ⊎ ((left ≡ old.kept) × (new.lent.items ≡ old.lent.items))
 
 module _ {N A S : Type 0} (fold : S → Fold N A) where
@@ -99,13 +122,23 @@ module _ {N A S : Type 0} (fold : S → Fold N A) where
   abbrev pub IsCovered : Run S → ℕ → N → Type 0
   IsCovered run j n = (j < run.kept) × (((fold run.nodes).entry j).node ≡ n)
 
-  -- the nodes that may have slots begin among those of the sequence
+  -- the nodes that may be open begin among those of the sequence
   abbrev pub IsWithin : Run S → Type 0
   IsWithin run = (run.kept ≤ run.wild) × (run.wild ≤ (fold run.nodes).size)
 
-  -- a node may have a slot, or be open
+  -- a node may be open
   abbrev pub IsFree : Run S → N → Type 0
   IsFree run n = IsNoneBelow (fold run.nodes) run.wild n
+
+  -- the last open node is the next one, with this answer, and may be kept by its number
+  abbrev pub IsNext : Run S → ℕ → A → List (Open N A) → Type 0
+  IsNext run j a [] = ⊥
+  IsNext run j a (o ∷ st) = NextOf (fold run.nodes) run.kept run.far j a o st
+
+  -- the last open node may have a slot as any other
+  abbrev pub IsLastFree : Run S → List (Open N A) → Type 0
+  IsLastFree run [] = Unit {0}
+  IsLastFree run (o ∷ st) = IsNoneBelow (fold run.nodes) run.far o.node
 
 -- ---- a folded node that is lent
 module _ {N V F S : Type 0} (fold : S → Fold N (Result V F)) (j : ℕ) (v : V) (old_run new_run : Run S) where
@@ -130,7 +163,7 @@ module _ {N A S : Type 0} (eq : N → N → Bool) (fold : S → Fold N A) where
 
   abbrev pub IsFolding : Option (Run S) → Nodes N A → Type 0
   IsFolding None t = Unit {0}
-  IsFolding (Some run) t = IsRun eq (fold run.nodes) run.kept run.wild run.lent.items t.kept t.opened
+  IsFolding (Some run) t = IsRun eq (fold run.nodes) run.kept run.wild run.far run.lent.items t.kept t.opened
 
   -- a table with the folded nodes
   abbrev pub viewed : Option (Run S) → Tabled N A → Tabled N A
@@ -141,4 +174,4 @@ module _ {N A S : Type 0} (eq : N → N → Bool) (fold : S → Fold N A) where
   abbrev pub Founds : Option (Run S) → List (Entry N A) → List (Open N A) → Type 0
   Founds None es st = Unit {0}
   Founds (Some run) es [] = ⊥
-  Founds (Some run) es (o ∷ st) = IsFounded (fold run.nodes) run.kept run.wild run.lent.items es o st
+  Founds (Some run) es (o ∷ st) = IsFounded (fold run.nodes) run.kept run.wild run.far run.lent.items es o st

@@ -118,6 +118,10 @@ pub record IsPut {X : Type 0} (x : X) (before after : List X) : Type 0 where
   pub was : before ≡ front ++ back
   pub now : after ≡ front ++ x ∷ back
 
+-- an entry was put among others, or they are the same
+abbrev pub MayPut : {X : Type 0} → X → List X → List X → Type 0
+MayPut x before after = (after ≡ before) ⊎ IsPut x before after
+
 -- whether there is an element
 abbrev pub is_there : {X : Type 0} → List X → Bool
 is_there [] = false
@@ -132,6 +136,11 @@ Steps w (o ∷ st) now s = (s ≡ w.follow o.node o.replies) × (now ≡ with_us
 abbrev pub Closes : {N A : Type 0} → A → List (Open N A) → Nodes N A → Nodes N A → Type 0
 Closes a [] old new = ⊥
 Closes a (o ∷ st) old new = Keeps o a old.kept new.kept × (new.opened ≡ heard o.node a st)
+
+-- the last open node isn't open any more, and the one below got this answer, if there is one
+abbrev pub IsHeard : {N A : Type 0} → A → List (Open N A) → List (Open N A) → Type 0
+IsHeard a [] now = ⊥
+IsHeard a (o ∷ st) now = now ≡ heard o.node a st
 
 -- after a refused memory the last open node was kept, or nothing was
 abbrev pub MayKeep : {N A : Type 0} → A → List (Open N A) → List (Entry N A) → List (Entry N A) → Type 0

@@ -1,6 +1,6 @@
 -- The stack of open nodes while a question is answered: what it determines about the answers to come, the nodes
 -- that are still to be kept, and the calls that are left. Only the machine's own contracts use it.
-use Rattle.std.specs.Prelude.{◌≡◌, ℕ, suc, ◌+◌, ◌-◌, ◌*◌, ◌<◌, ◌≤◌, true, false, List, [], ◌∷◌, ◌++◌, length, Option, Some, None}
+use Rattle.std.specs.Prelude.{◌≡◌, ℕ, suc, ◌+◌, ◌-◌, ◌*◌, ◌<◌, ◌≤◌, true, false, List, [], ◌∷◌, ◌++◌, length, ◌⊎◌, Option, Some, None}
 use Rattle.std.specs.List.{AllByRecursion, flat_map}
 use Rattle.ksv_memo_rules.specs.declared.rules.Outcome.{Outcome}
 use Rattle.ksv_memo_rules.specs.declared.rules.Outcome.TheVariants.{Answered}
@@ -9,8 +9,8 @@ use Rattle.ksv_memo_rules.specs.declared.rules.Next.TheVariants.{Need, Done}
 use Rattle.ksv_memo_rules.specs.Meaning.{Standing}
 use Rattle.ksv_memo_rules.specs.Evaluation.{Told, is_among, tells, told, after, with_reply, done, if_answered, IsAnswered, answering}
 use Rattle.ksv_memo_rules.specs.Entry.{Entry}
-use Rattle.ksv_memo.specs.Open.{Open, nodes_in}
-use Rattle.ksv_memo.specs.Nodes.{Nodes}
+use Rattle.ksv_memo.specs.Open.{Open, heard, nodes_in}
+use Rattle.ksv_memo.specs.Nodes.{Nodes, IsPut}
 use Rattle.ksv_memo_rules.specs.Right.{Agrees, nodes_of, AreDistinct, IsRight, fresh, costs, counted}
 
 -- for all answers that agree with the kept ones, the node gets these replies
@@ -65,6 +65,24 @@ value_at w o st (Need m) = climbed w (o ∷ st) (answering w (o.node ∷ nodes_i
 abbrev pub HasStepped : {N A : Type 0} → Standing N A → List (Entry N A) → Open N A → Next N A → Type 0
 HasStepped w es o (Done a) = HasEnded w es o a
 HasStepped w es o (Need m) = IsWaiting w es o m
+
+-- an open node was kept with its answer somewhere among the others, by an entry that is right beside them
+pub record KeepsRight {N A : Type 0} (w : Standing N A) (o : Open N A) (a : A) (before after : List (Entry N A)) : Type 0 where
+  pub entry : Entry N A
+  pub node : entry.node ≡ o.node
+  pub answer : entry.answer ≡ a
+  pub put : IsPut entry before after
+  pub right : IsRight w (before ++ entry ∷ [])
+
+-- the last open node was kept so, and the one below got its answer, if there is one
+abbrev pub ClosesRight : {N A : Type 0} → Standing N A → A → List (Open N A) → Nodes N A → Nodes N A → Type 0
+ClosesRight w a [] old new = ⊥
+ClosesRight w a (o ∷ st) old new = KeepsRight w o a old.kept new.kept × (new.opened ≡ heard o.node a st)
+
+-- after a refused memory the last open node was kept so, or nothing was
+abbrev pub MayKeepRight : {N A : Type 0} → Standing N A → A → List (Open N A) → List (Entry N A) → List (Entry N A) → Type 0
+MayKeepRight w a [] before after = ⊥
+MayKeepRight w a (o ∷ st) before after = (after ≡ before) ⊎ KeepsRight w o a before after
 
 -- an upper bound on the calls that are left for open nodes
 abbrev pub calls_of : {N A : Type 0} → Standing N A → List (Open N A) → ℕ

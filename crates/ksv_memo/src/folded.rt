@@ -1,13 +1,13 @@
 //! The table of kept and open nodes, with nodes that are kept by numbers alone.
 ghost use Rattle.std.specs.List.{AllByRecursion};
-ghost use Rattle.std.specs.Prelude.{◌≡◌, ◌<◌, ◌≤◌, ◌+◌, ◌++◌, ◌∷◌, [], Some, length, true, nat_lt, IfOk, IfSome, IfNone, OnOk, OnErr};
+ghost use Rattle.std.specs.Prelude.{◌≡◌, ◌<◌, ◌≤◌, ◌+◌, ◌++◌, ◌∷◌, [], Some, Ok, length, true, is_ok, nat_lt, IfOk, IfSome, IfNone, OnOk, OnErr};
 ghost use Rattle.ksv_memo_links.specs.Touching.{AreWithin};
 ghost use Rattle.ksv_memo_rules.specs.Meaning.{on};
 ghost use Rattle.ksv_memo_rules.specs.Right.{IsRight, counted};
-ghost use Rattle.ksv_memo.specs.Folding.{FailsToLend, Founds, IsCovered, IsCut, IsFolding, IsFree, IsWithin, LendsTo, SameButWild, viewed};
+ghost use Rattle.ksv_memo.specs.Folding.{ClosesAs, FailsToLend, Founds, IsCovered, IsCut, IsFolding, IsFree, IsLastFree, IsNext, IsWithin, LendsTo, LosesFirst, SameButWild, SameRun, viewed};
 ghost use Rattle.ksv_memo.specs.Growing.{AsksGrown, Grows};
-ghost use Rattle.ksv_memo.specs.Nodes.{Asks, Closes, KeepsNode, MayKeep, Starts, Steps, TakesFirst, is_there, nodes};
-ghost use Rattle.ksv_memo.specs.Running.{HasReached};
+ghost use Rattle.ksv_memo.specs.Nodes.{Asks, IsHeard, IsPut, KeepsNode, MayPut, Starts, Steps, TakesFirst, is_there, nodes};
+ghost use Rattle.ksv_memo.specs.Running.{ClosesRight, HasReached, MayKeepRight};
 ghost use Rattle.ksv_memo.specs.Sweep.{Sweeps};
 
 use crate::machine::turns::Turns;
@@ -27,8 +27,10 @@ pub struct Run<S> {
     pub nodes: S,
     /// How many are kept so.
     pub kept: u32,
-    /// The number from which on nodes may have slots or be open as any others. It only falls.
+    /// The number from which on nodes may be open.
     pub wild: u32,
+    /// The number from which on nodes may have slots as any others, which is no less. It only falls.
+    pub far: u32,
     /// The numbers of those that have slots too, since they were asked.
     pub lent: Vec<u32>,
 }
@@ -46,7 +48,7 @@ impl<S> Run<S> {
     }
 }
 
-/// The number of a node that is kept by it alone. One that isn't, and could be, may have a slot or be open from now on.
+/// The number of a node that is kept by it alone. One that isn't, and could be, may be open from now on.
 #[inline(always)]
 fn covered<R: Rules>(run: &mut Run<R::Fold>, node: &R::Node) -> Option<u32>
     requires { IsWithin R.Fold.fold run.old }
@@ -60,6 +62,35 @@ fn covered<R: Rules>(run: &mut Run<R::Fold>, node: &R::Node) -> Option<u32>
     }
     run.wild = run.wild.min(place);
     None
+}
+
+/// Keeps the last open node, which is that of a number, in its slot, by the run's root. The one below gets its answer, if there is one;
+/// whether that could be noted. If memory is refused for the node, it isn't open any more.
+fn keep_beside<R: Rules>(
+    table: &mut Table<R>,
+    run: &mut Run<R::Fold>,
+    place: u32,
+    value: R::Value,
+) -> Result<bool, AllocError>
+    requires there { is_there table.old.opened ≡ true }
+    requires root { KeepsNode R.Node.eq table.old.kept (R.Fold.fold run.old.nodes).root }
+    requires place_in { place < (R.Fold.fold run.old.nodes).size }
+    ensures ok { IfOk result (λ is_heard. ClosesAs (R.Fold.fold run.old.nodes) place value is_heard table.old.opened (nodes table.old) (nodes table.new)) }
+    ensures err { OnErr result (LosesFirst (nodes table.old) (nodes table.new)) }
+    ensures lent { OnOk result (SameRun run.old run.new (run.old.lent.items ++ place ∷ [])) }
+    ensures same { OnErr result (SameRun run.old run.new run.old.lent.items) }
+    ensures grows { table.old.looks ≤ table.new.looks }
+{
+    match run.lent.reserve(1) {
+        Ok(()) => {}
+        Err(refused) => {
+            table.abandon();
+            return Err(refused);
+        }
+    }
+    let is_heard = table.close_folded(&run.nodes, place, value)?;
+    run.lent.push_reserved(place);
+    Ok(is_heard)
 }
 
 /// Keeps the last open node, which is kept by its number alone, in its slot too. The one below gets its answer, if there is one. If memory is
@@ -77,19 +108,33 @@ fn lend<R: Rules>(
     ensures err { OnErr result (FailsToLend R.Fold.fold place value run.old run.new (nodes table.old) (nodes table.new)) }
     ensures grows { table.old.looks ≤ table.new.looks }
 {
-    match run.lent.reserve(1) {
-        Ok(()) => {}
-        Err(refused) => {
-            table.abandon();
-            return Err(refused);
-        }
+    if keep_beside(table, run, place, value)? {
+        Ok(())
+    } else {
+        Err(AllocError)
     }
-    let is_heard = table.close_folded(&run.nodes, place, value)?;
-    run.lent.push_reserved(place);
-    if !is_heard {
-        return Err(AllocError);
-    }
-    Ok(())
+}
+
+/// Keeps the last open node, which is the next after those that are kept by numbers alone, by its number, and in its slot too. The one below
+/// gets its answer, if there is one.
+fn absorb<R: Rules>(
+    table: &mut Table<R>,
+    run: &mut Run<R::Fold>,
+    place: u32,
+    value: R::Value,
+) -> Result<(), AllocError>
+    requires run { IsFolding R.Node.eq R.Fold.fold (Some run.old) (nodes table.old) }
+    requires next { IsNext R.Fold.fold run.old place (Ok value) table.old.opened }
+    ensures run { IsFolding R.Node.eq R.Fold.fold (Some run.new) (nodes table.new) }
+    ensures ok { OnOk result (IsPut ((R.Fold.fold run.old.nodes).entry place) (viewed R.Node.eq R.Fold.fold (Some run.old) table.old).kept (viewed R.Node.eq R.Fold.fold (Some run.new) table.new).kept) }
+    ensures heard { OnOk result (IsHeard (Ok value) table.old.opened table.new.opened) }
+    ensures err { OnErr result (MayPut ((R.Fold.fold run.old.nodes).entry place) (viewed R.Node.eq R.Fold.fold (Some run.old) table.old).kept (viewed R.Node.eq R.Fold.fold (Some run.new) table.new).kept) }
+    ensures grows { table.old.looks ≤ table.new.looks }
+{
+    let is_heard = keep_beside(table, run, place, value)?;
+    run.kept = place + 1;
+    run.wild = table.least_open(&run.nodes, run.far).max(run.kept);
+    if is_heard { Ok(()) } else { Err(AllocError) }
 }
 
 /// Asks for a node that is kept by its number alone.
@@ -219,6 +264,65 @@ fn ask_grown<R: Rules>(
     ask_beside(table, run, alloc, node)
 }
 
+/// The number of the last open node, which has its answer, if it is the next after those that are kept by numbers alone, and can be kept so.
+/// Else it may have a slot as any other from now on.
+fn next_open<R: Rules>(
+    table: &mut Table<R>,
+    run: &mut Run<R::Fold>,
+    rules: &R,
+    bytes: &Buffer,
+    answer: &Reply<R>,
+) -> Option<u32>
+    requires run { IsFolding R.Node.eq R.Fold.fold (Some run.old) (nodes table.old) }
+    requires reached { HasReached (on (R.meaning rules.now) bytes.now) (viewed R.Node.eq R.Fold.fold (Some run.old) table.old).kept table.old.opened (Next.Done answer.now) }
+    ensures run { IsFolding R.Node.eq R.Fold.fold (Some run.new) (nodes table.new) }
+    ensures seen { viewed R.Node.eq R.Fold.fold (Some run.new) table.old ≡ viewed R.Node.eq R.Fold.fold (Some run.old) table.old }
+    ensures nodes { nodes table.new ≡ nodes table.old }
+    ensures some { IfSome result (λ place. IsNext R.Fold.fold run.new place answer.now table.old.opened) }
+    ensures right { IfSome result (λ place. IsRight (on (R.meaning rules.now) bytes.now) ((viewed R.Node.eq R.Fold.fold (Some run.old) table.old).kept ++ (R.Fold.fold run.new.nodes).entry place ∷ [])) }
+    ensures value { IfSome result (λ place. is_ok answer.now ≡ true) }
+    ensures none { IfNone result (IsLastFree R.Fold.fold run.new table.old.opened) }
+    ensures grows { table.old.looks ≤ table.new.looks }
+{
+    // None of its nodes is open.
+    if run.wild == run.far {
+        return None;
+    }
+    let place = table.last_place(&run.nodes)?;
+    let count = table.foldable(rules, &run.nodes, bytes);
+    if answer.is_ok() && place == run.kept && place < count {
+        return Some(place);
+    }
+    run.far = run.far.min(place);
+    None
+}
+
+/// Keeps the last open node with its answer, where some are kept by numbers alone: by its number too, if it is the next of these.
+#[inline(never)]
+fn close_beside<R: Rules>(
+    table: &mut Table<R>,
+    run: &mut Run<R::Fold>,
+    alloc: Global,
+    rules: &R,
+    bytes: &Buffer,
+    answer: Reply<R>,
+) -> Result<(), AllocError>
+    requires run { IsFolding R.Node.eq R.Fold.fold (Some run.old) (nodes table.old) }
+    requires reached { HasReached (on (R.meaning rules.now) bytes.now) (viewed R.Node.eq R.Fold.fold (Some run.old) table.old).kept table.old.opened (Next.Done answer) }
+    ensures run { IsFolding R.Node.eq R.Fold.fold (Some run.new) (nodes table.new) }
+    ensures ok { OnOk result (ClosesRight (on (R.meaning rules.now) bytes.now) answer table.old.opened (nodes (viewed R.Node.eq R.Fold.fold (Some run.old) table.old)) (nodes (viewed R.Node.eq R.Fold.fold (Some run.new) table.new))) }
+    ensures err { OnErr result (MayKeepRight (on (R.meaning rules.now) bytes.now) answer table.old.opened (viewed R.Node.eq R.Fold.fold (Some run.old) table.old).kept (viewed R.Node.eq R.Fold.fold (Some run.new) table.new).kept) }
+    ensures grows { table.old.looks ≤ table.new.looks }
+{
+    match next_open(table, run, rules, bytes, &answer) {
+        Some(place) => match answer {
+            Ok(value) => absorb(table, run, place, value),
+            Err(_fault) => unreachable!(),
+        },
+        None => table.close(alloc, answer),
+    }
+}
+
 /// The run of nodes that can be kept by numbers alone once the last open node has this answer, if there are enough of them.
 #[cold]
 #[inline(never)]
@@ -247,6 +351,7 @@ fn founded<R: Rules>(
         nodes,
         kept: 0,
         wild,
+        far: count,
         lent: Vec::new(alloc),
     }))
 }
@@ -309,14 +414,13 @@ impl<R: Rules> Folded<R> {
         self.table.tidy();
     }
 
-    /// Starts a question for a node: its outcome if the node is kept; else the node is opened. No node is open before.
+    /// Starts a question for a node: its outcome if the node is kept or open; else the node is opened.
     pub(crate) fn start(
         &mut self,
         alloc: Global,
         rules: &R,
         node: R::Node,
     ) -> Result<Option<Outcome<R::Node, Reply<R>>>, AllocError>
-        requires opened { self.old.opened ≡ [] }
         ensures ok { IfOk result (Starts R.Node.eq node (nodes self.old) (nodes self.new)) }
         ensures err { OnErr result (self.new.kept ≡ self.old.kept) }
         ensures grows { self.old.looks ≤ self.new.looks }
@@ -348,15 +452,19 @@ impl<R: Rules> Folded<R> {
         }
     }
 
-    /// Grows by nodes that evaluation of a node completes, for which a question is about to start; their calls are counted.
+    /// Grows by nodes that evaluation of a node completes, for which a question is about to start; their calls are counted. No node is open.
     pub(crate) fn grow(&mut self, rules: &R, bytes: &Buffer, node: &R::Node, turns: &mut Turns)
+        requires opened { self.old.opened ≡ [] }
         requires right { IsRight (on (R.meaning rules.now) bytes.now) self.old.kept }
         ensures grown { Grows (on (R.meaning rules.now) bytes.now) node.now self.old self.new turns.old turns.new }
         ensures grows { self.old.looks ≤ self.new.looks }
     {
         match &mut self.run {
             None => {}
-            Some(run) => grow_run(&mut self.table, run, rules, bytes, node, turns),
+            Some(run) => {
+                run.wild = run.far;
+                grow_run(&mut self.table, run, rules, bytes, node, turns);
+            }
         }
     }
 
@@ -379,7 +487,7 @@ impl<R: Rules> Folded<R> {
     }
 
     /// Keeps the last open node with its answer, which the one below gets, if there is one. Once it has this answer, other nodes may be kept by
-    /// numbers alone.
+    /// numbers alone; and where some are, it may be the next of them.
     #[inline(always)]
     pub(crate) fn close(
         &mut self,
@@ -389,31 +497,15 @@ impl<R: Rules> Folded<R> {
         answer: Reply<R>,
     ) -> Result<(), AllocError>
         requires { HasReached (on (R.meaning rules.now) bytes.now) self.old.kept self.old.opened (Next.Done answer) }
-        ensures ok { OnOk result (Closes answer self.old.opened (nodes self.old) (nodes self.new)) }
-        ensures err { OnErr result (MayKeep answer self.old.opened self.old.kept self.new.kept) }
+        ensures ok { OnOk result (ClosesRight (on (R.meaning rules.now) bytes.now) answer self.old.opened (nodes self.old) (nodes self.new)) }
+        ensures err { OnErr result (MayKeepRight (on (R.meaning rules.now) bytes.now) answer self.old.opened self.old.kept self.new.kept) }
         ensures grows { self.old.looks ≤ self.new.looks }
     {
-        if !may_found(rules, &answer) || self.run.is_some() {
-            return self.table.close(alloc, answer);
+        match &mut self.run {
+            Some(run) => return close_beside(&mut self.table, run, alloc, rules, bytes, answer),
+            None => {}
         }
-        self.close_founding(alloc, rules, bytes, answer)
-    }
-
-    /// Keeps the last open node with its answer, where other nodes may be kept by numbers alone once it has it.
-    #[inline(always)]
-    fn close_founding(
-        &mut self,
-        alloc: Global,
-        rules: &R,
-        bytes: &Buffer,
-        answer: Reply<R>,
-    ) -> Result<(), AllocError>
-        requires { HasReached (on (R.meaning rules.now) bytes.now) self.old.kept self.old.opened (Next.Done answer) }
-        ensures ok { OnOk result (Closes answer self.old.opened (nodes self.old) (nodes self.new)) }
-        ensures err { OnErr result (MayKeep answer self.old.opened self.old.kept self.new.kept) }
-        ensures grows { self.old.looks ≤ self.new.looks }
-    {
-        if self.run.is_some() {
+        if !may_found(rules, &answer) {
             return self.table.close(alloc, answer);
         }
         let run = founded(&self.table, alloc, rules, bytes, &answer)?;

@@ -1,5 +1,5 @@
 //! What open nodes asked and used, by frames.
-ghost use Rattle.std.specs.Prelude.{◌≡◌, ◌<◌, ◌≤◌, ◌++◌, ◌∷◌, [], length, false, IfOk, IfSome, IfNone, OnOk, OnErr};
+ghost use Rattle.std.specs.Prelude.{◌≡◌, ◌<◌, ◌≤◌, ◌++◌, ◌∷◌, ℕ, [], length, false, IfOk, IfSome, IfNone, OnOk, OnErr};
 ghost use Rattle.std.specs.List.{AllByRecursion, list_any};
 ghost use Rattle.ksv_memo_rules.specs.Right.{counted};
 ghost use Rattle.ksv_memo.specs.Folding.{IsNoneBelow};
@@ -32,6 +32,15 @@ impl<N> Frame<N> {
         self.node.lend()
     }
 
+    /// The number of its node among nodes that can be kept by numbers alone.
+    pub(crate) fn place_in<V, F, S: Folds<N, V, F>>(&self, nodes: &S) -> Option<u32>
+        ensures in_size { IfSome result (λ j. j < (S.fold nodes.now).size) }
+        ensures some { IfSome result (λ j. ((S.fold nodes.now).entry j).node ≡ self.now.node) }
+        ensures none { IfNone result ((j : ℕ) → j < (S.fold nodes.now).size → ((S.fold nodes.now).entry j).node ≡ self.now.node → ⊥) }
+    {
+        self.node.place_in(nodes)
+    }
+
     /// The nodes that can be kept by numbers alone once its node has this value.
     pub(crate) fn fold<R: Rules<Node = N>>(
         &self,
@@ -57,7 +66,7 @@ pub(crate) fn least_place<N, V, F, S: Folds<N, V, F>>(
 {
     let mut least = most;
     for frame in frames {
-        match frame.node.place_in(nodes) {
+        match frame.place_in(nodes) {
             Some(place) => least = least.min(place),
             None => {}
         }

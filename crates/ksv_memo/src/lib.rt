@@ -47,6 +47,7 @@
 //!
 //! Lemmas (`proofs/`):
 //!
+//! - `Absorbing`: a node that was open before a run began becomes the next one of it
 //! - `Beside`: folded nodes beside those that have slots
 //! - `Change`: what is still right when the bytes change
 //! - `Changing`: links and frames after one slot has changed

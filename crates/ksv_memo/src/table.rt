@@ -7,7 +7,7 @@ ghost use Rattle.ksv_memo_rules.specs.Folds.{IsFold};
 ghost use Rattle.ksv_memo_rules.specs.Right.{counted, nodes_of};
 ghost use Rattle.ksv_memo.specs.Layout.{AreFrames, IsLaidOut};
 ghost use Rattle.ksv_memo.specs.Nodes.{Asks, Closes, HasNoEntry, KeepsNode, MayKeep, MayLose, Opens, Seeks, Starts, Steps, TakesFirst, is_there, looks_of, nodes, nodes_with};
-ghost use Rattle.ksv_memo.specs.Folding.{ClosesAs, IsFirst, IsNoneBelow, IsTold, LosesFirst};
+ghost use Rattle.ksv_memo.specs.Folding.{ClosesAs, IsFirst, IsLastAt, IsLastOut, IsNoneBelow, IsTold, LosesFirst};
 ghost use Rattle.ksv_memo.specs.Moves.{Knows, with_slot};
 ghost use Rattle.ksv_memo_links.specs.Shelved.{ticked};
 ghost use Rattle.ksv_memo_rules.specs.Slots.{answer_in};
@@ -388,6 +388,17 @@ impl<R: Rules> Table<R> {
         match last_frame(self.frames.frames.as_slice()) {
             Some(frame) => frame.fold(rules, alloc, value),
             None => Ok(None),
+        }
+    }
+
+    /// The number of the last open node among nodes that can be kept by numbers alone.
+    pub(crate) fn last_place(&self, folded: &R::Fold) -> Option<u32>
+        ensures some { IfSome result (λ place. IsLastAt (R.Fold.fold folded.now) place self.now.opened) }
+        ensures none { IfNone result (IsLastOut (R.Fold.fold folded.now) self.now.opened) }
+    {
+        match last_frame(self.frames.frames.as_slice()) {
+            Some(frame) => frame.place_in(folded),
+            None => None,
         }
     }
 

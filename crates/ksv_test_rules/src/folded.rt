@@ -53,6 +53,11 @@ impl NodeRules for Slotted {
 
 type SlottedRules = ksv_rule_meaning::Described<Slotted>;
 
+/// How many questions are asked about a file, and how many there are between two edits, about.
+const QUESTIONS: usize = 420;
+
+const QUESTIONS_BETWEEN: usize = 20;
+
 /// A description with long lists, the first bytes of its file, and paths in it, where `#` is an element's number.
 struct Sample {
     text: &'static str,
@@ -60,7 +65,7 @@ struct Sample {
     paths: &'static [&'static str],
 }
 
-static SAMPLES: [Sample; 5] = [
+static SAMPLES: [Sample; 6] = [
     // Bytes to the file's end.
     Sample {
         text: "meta: {id: t}\nseq:\n  - {id: xs, type: u1, repeat: eos}\n",
@@ -78,6 +83,12 @@ static SAMPLES: [Sample; 5] = [
         text: "meta: {id: t, endian: le}\nseq:\n  - {id: xs, type: point, repeat: eos}\ntypes:\n  point:\n    seq:\n      - {id: a, type: u1}\n      - {id: b, type: u2}\n",
         first: b"",
         paths: &["/xs", "/xs/#", "/xs/#/a", "/xs/#/b"],
+    },
+    // Objects of which one field's bytes are mostly other ones than they must be.
+    Sample {
+        text: "meta: {id: t}\nseq:\n  - {id: xs, type: marked, repeat: eos}\ntypes:\n  marked:\n    seq:\n      - {id: mark, contents: [7]}\n      - {id: b, type: u1}\n",
+        first: b"",
+        paths: &["/xs", "/xs/#", "/xs/#/mark", "/xs/#/b"],
     },
     // A list in a window of 1,200 bytes, and one behind it.
     Sample {
@@ -193,6 +204,15 @@ fn edited(bytes: &mut Buffer, how: usize, at: usize, new: &[u8]) -> Option<Chang
     }
 }
 
+/// The place of a random edit: one in eight times among the first bytes, which say how many elements there are.
+fn random_place(bytes: &Buffer, random: &mut Random) -> usize {
+    if random.below(8) == 0 {
+        random.below(4)
+    } else {
+        random.below(bytes.len())
+    }
+}
+
 /// Makes a random edit; which it was, unless the bytes refuse it.
 fn random_edit(
     alloc: Global,
@@ -203,7 +223,7 @@ fn random_edit(
     ensures none { IfOk result (λ made. IfNone made (bytes.new ≡ bytes.old)) }
     ensures err { OnErr result (bytes.new ≡ bytes.old) }
 {
-    let at = random.below(bytes.len());
+    let at = random_place(bytes, random);
     let count = 1 + random.below(3);
     let new = random_bytes(alloc, random, count)?;
     let how = random.below(5);
@@ -310,11 +330,11 @@ fn are_alike<
     let mut first = new_engine(alloc, rules.first, bytes);
     let mut second = new_engine(alloc, rules.second, bytes);
     let mut are_alike = true;
-    for _ in 0..60 {
+    for _ in 0..QUESTIONS {
         let path = random_path(alloc, sample, random)?;
         let asked = (random_kind(random), path.as_str());
         are_alike &= are_told_alike(alloc, rules, &mut first, &mut second, bytes, asked)?;
-        if random.below(3) == 0 {
+        if random.below(QUESTIONS_BETWEEN) == 0 {
             edit_for(alloc, rules, &mut first, &mut second, bytes, random)?;
         }
         are_alike &= first.kept() == second.kept();

@@ -1,6 +1,12 @@
-use Rattle.ksv_memo.proofs.Common.{◌-◌, length, take, drop, subst, refl, on, answers_at, slots_of, EndsWith}
-use Rattle.ksv_memo.proofs.Topping.{runs}
+use Rattle.ksv_memo.proofs.Common.{◌≤◌, ◌-◌, length, take, drop, subst, refl, sym, on, answers_at, slots_of, EndsWith}
+use Rattle.ksv_memo.proofs.Topping.{runs, top}
 use Rattle.ksv_memo.proofs.table.run_last.Goals as goal
+
+-- its part of what open nodes asked is there
+pub slice_bounds-asked-count : goal.slice_bounds-asked-count
+slice_bounds-asked-count g c =
+    let t = top _ _ _ c.requires.waits (subst (EndsWith c.in-Some.frame.now) c.as_slice.ensures.value c.in-Some.ensures.some) in
+    subst (λ asked. c.in-Some.frame.now.asked ≤ length asked) (sym c.deref.ensures.value) t.asks
 
 -- the last open node was run
 pub returns-clause-step : goal.returns-clause-step

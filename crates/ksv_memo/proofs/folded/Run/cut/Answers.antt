@@ -7,5 +7,6 @@ returns-then-kept-self g c = record {
   nodes = refl;
   kept = refl;
   wild = refl;
+  far = refl;
   lent = inl (filter_same _ (λ j. nat_lt j c.args.kept) _ (λ x b f' k. search rules) _ _ c.retain.ensures.filtered);
 }

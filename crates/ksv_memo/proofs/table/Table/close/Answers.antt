@@ -1,4 +1,4 @@
-use Rattle.ksv_memo.proofs.Common.{◌∙◌, ap, refl, sym, subst, length, slice_get_within, EndsWith, IsKept, entries_of, opens_of, Closes, MayKeep, nodes}
+use Rattle.ksv_memo.proofs.Common.{◌≤◌, ◌∙◌, ap, refl, sym, subst, length, slice_get_within, EndsWith, IsKept, entries_of, opens_of, Closes, MayKeep, nodes}
 use Rattle.std.proofs.Common.{◌==◌}
 use Rattle.ksv_memo.proofs.Laying.{All-drop}
 use Rattle.ksv_memo.proofs.Topping.{IsClosed, top, pops, closes-laid, closes-last, closes-more, hears-laid, may-keep, may-lose, no-items, same-frames}
@@ -8,6 +8,17 @@ use Rattle.ksv_memo.proofs.Turns.{on_err_always}
 use Rattle.ksv_memo.proofs.table.Table.close.Given
 use Rattle.ksv_memo.proofs.table.Table.close.Goals.{After-take_last}
 use Rattle.ksv_memo.proofs.table.Table.close.Goals as goal
+
+-- its part of what open nodes asked and used is there
+pub slice_bounds-uses-count : goal.slice_bounds-uses-count
+slice_bounds-uses-count g c =
+    let t = top _ _ _ c.self.invariant.waits (subst (EndsWith c.in-Some.frame.now) c.as_slice.ensures.value c.in-Some.ensures.some) in
+    subst (λ uses. c.in-Some.frame.now.uses ≤ length uses) (sym c.deref.ensures.value) t.count
+
+pub slice_bounds-asked-count : goal.slice_bounds-asked-count
+slice_bounds-asked-count g c =
+    let t = top _ _ _ c.self.invariant.waits (subst (EndsWith c.in-Some.frame.now) c.as_slice.ensures.value c.in-Some.ensures.some) in
+    subst (λ asked. c.in-Some.frame.now.asked ≤ length asked) (sym c.deref-2.ensures.value) t.asks
 
 pub set-requires : goal.set-requires
 set-requires g c =
@@ -96,3 +107,5 @@ returns-in_err-hear-clause-waiting g c =
     (subst (λ v. MayLose v.opened (opens_of c.set.new.self.entries c.hear.new.self)) c.self.view_is
     (may-lose c.self.inside.slots.entries (closed g (goal.at.returns-in_err-hear-clause-waiting g c).After-take_last) c.hear.new.self
     c.in_err-hear.ensures.err))
+
+-- c
