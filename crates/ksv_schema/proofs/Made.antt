@@ -1,10 +1,5 @@
 -- A loop that makes something of each element.
-use Rattle.ksv_schema.proofs.Common.{◌≡◌, ℕ, zero, suc, ◌<◌, List, [], ◌∷◌, ◌++◌, map, length, get_or, Option, Some, None, refl, sym, ap, ◌∙◌, arith}
-
--- what was made so far, and then the others
-abbrev pub onto : {B : Type 0} → List B → Option (List B) → Option (List B)
-onto so_far None = None
-onto so_far (Some ys) = Some (so_far ++ ys)
+use Rattle.ksv_schema.proofs.Common.{◌≡◌, ℕ, zero, suc, ◌<◌, List, [], ◌∷◌, map, length, get_or, refl, sym, ap, ◌∙◌, arith}
 
 -- ---- two lists with the same parts
 

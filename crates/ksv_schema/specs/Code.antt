@@ -5,7 +5,7 @@
 -- notes faults has the least fault alone: `seen_fault least.new ≡ noted (seen_fault least.old) faults`; it is called
 -- with `&mut reader.least`.
 use Rattle.std.specs.declared.alloc.Global.{Global}
-use Rattle.std.specs.Prelude.{◌≡◌, ◌++◌, ℕ, Bool, not, ◌&&◌, if◌then◌else◌, List, [], ◌∷◌, map, Vec, Option, Some, option_map, option_and_then, Result, Ok, Err, codes}
+use Rattle.std.specs.Prelude.{◌≡◌, ◌++◌, ℕ, Bool, not, ◌&&◌, if◌then◌else◌, List, [], ◌∷◌, map, Vec, Option, Some, None, option_map, option_and_then, Result, Ok, Err, codes}
 use Rattle.ksv_expr_syntax.specs.Faults as expressions
 use Rattle.ksv_schema_names.specs.Table.{declared}
 use Rattle.ksv_yaml_tree.specs.View.{pair}
@@ -121,6 +121,19 @@ present (Err e) = Err e
 abbrev pub kept_if : {A B E : Type 0} → A → Result B E → Result (Option A) E
 kept_if x (Ok done) = Ok (Some x)
 kept_if x (Err e) = Err e
+
+-- what was made, if all of it was
+abbrev pub kept_where : {A : Type 0} → Bool → A → Option A
+kept_where all made = if all then Some made else None
+
+abbrev pub whole_if : {A E : Type 0} → A → Result Bool E → Result (Option A) E
+whole_if made (Ok all) = Ok (kept_where all made)
+whole_if made (Err e) = Err e
+
+-- what was made so far, and then the others
+abbrev pub onto : {A : Type 0} → List A → Option (List A) → Option (List A)
+onto so_far None = None
+onto so_far (Some xs) = Some (so_far ++ xs)
 
 -- the items of a list, and one more after them, if it was read
 abbrev pub items_of : {A : Type 0} → Option (Vec A Global) → Option (List A)

@@ -35,8 +35,7 @@ fn outcome(alloc: Global, tree: &Yaml) -> Result<Result<Desc, DescFault>, AllocE
     ensures refused { IfOk result (λ r. IfErr r (λ f. Refuses (view tree.now) (plain f))) }
 {
     let scopes = Scopes::new(alloc, tree)?;
-    let outcome = outcome_of(alloc, &scopes)?;
-    Ok(outcome)
+    outcome_of(alloc, &scopes)
 }
 
 /// The description that is stated by what is declared, or the least fault.

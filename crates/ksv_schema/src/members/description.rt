@@ -2,6 +2,7 @@
 
 ghost use Rattle.std.specs.Prelude.{◌≡◌, true, map, IfOk, IfErr, OnOk, option_map, flat_map, None, Some};
 ghost use Rattle.std.specs.List.{list_all};
+ghost use Rattle.std.specs.Vec.Iter.{into_iter_items};
 ghost use Rattle.ksv_schema_names.specs.Table.{declared};
 ghost use Rattle.ksv_schema_names.specs.Members.{members_of};
 ghost use Rattle.ksv_schema_names.specs.View.{row_of, member_of as seen_member};
@@ -12,7 +13,7 @@ ghost use Rattle.ksv_schema.specs.Faults.{noted};
 ghost use Rattle.ksv_schema.specs.Reading.{each_from};
 ghost use Rattle.ksv_schema.specs.Members.{member as stated_member};
 ghost use Rattle.ksv_schema.specs.Description.{faults_of, members as stated_members, all_members, all_enums, names_in, are_texts, each_of, member_of, type_of, types_of, described, stated_by};
-ghost use Rattle.ksv_schema.specs.Code.{plain, seen_fault, Reads};
+ghost use Rattle.ksv_schema.specs.Code.{plain, seen_fault, kept_where, onto, Reads};
 ghost use Rattle.ksv_schema.specs.Plain.{context_of};
 
 use crate::members::check::{line_past, member_past, note_past, note_types, type_past};
@@ -20,10 +21,11 @@ use crate::members::enumeration::{enumerations, owned_text};
 use crate::members::member::member;
 use crate::members::number::{Context, number_kind};
 use crate::values::fault::DescFault;
-use crate::values::reader::{Read, Reader, both, paired, pushed};
+use crate::values::reader::{Read, Reader, both, paired, pushed, whole};
 use ksv_desc::{EnumDesc, MemberDesc, MemberKind, Pieces, TypeDesc, as_text};
 use ksv_schema_names::{Member, Names, Row, Scopes};
 use std::alloc::{AllocError, Global};
+use std::vec::IntoIter;
 
 // ---- the names of members
 
@@ -115,6 +117,27 @@ fn member_of(context: &Context, member: &Member, mut kind: MemberKind) -> Option
     Some(MemberDesc { name, kind })
 }
 
+/// Adds each of these members, of which the next ones are the kinds, and returns whether all are added.
+fn add_kinds(
+    made: &mut Vec<MemberDesc>,
+    context: &Context,
+    members: &[Member],
+    kinds: &mut IntoIter<MemberKind>,
+) -> Result<bool, AllocError>
+    ensures { IfOk result (λ all. kept_where all (map plain_member made.new.items) ≡ onto (map plain_member made.old.items) (each_of (member_of (context_of context.now)) (map seen_member members.now) (map plain_kind (into_iter_items kinds.old)))) }
+{
+    for member in members {
+        let Some(kind) = kinds.next() else {
+            return Ok(false);
+        };
+        let Some(desc) = member_of(context, member, kind) else {
+            return Ok(false);
+        };
+        made.push(desc)?;
+    }
+    Ok(true)
+}
+
 /// Each of these members, of which these are the kinds.
 fn members_of(
     alloc: Global,
@@ -124,18 +147,10 @@ fn members_of(
 ) -> Read<Vec<MemberDesc>>
     ensures { IfOk result (λ o. option_map (λ v. map plain_member v.items) o ≡ each_of (member_of (context_of context.now)) (map seen_member members.now) (map plain_kind kinds.items)) }
 {
-    let mut rest = kinds.into_iter();
     let mut made = Vec::new(alloc);
-    for member in members {
-        let Some(kind) = rest.next() else {
-            return Ok(None);
-        };
-        let Some(desc) = member_of(context, member, kind) else {
-            return Ok(None);
-        };
-        made.push(desc)?;
-    }
-    Ok(Some(made))
+    let mut rest = kinds.into_iter();
+    let all = add_kinds(&mut made, context, members, &mut rest);
+    whole(made, all)
 }
 
 /// A type with these members, of which these are the kinds.
@@ -157,6 +172,36 @@ fn type_of(
     }
 }
 
+/// Adds each of these types, of whose members the next ones are the kinds, and returns whether all are added.
+fn add_types<'a>(
+    alloc: Global,
+    made: &mut Vec<TypeDesc>,
+    scopes: &'a Scopes<'a>,
+    names: &'a Names,
+    types: &[Row<'a>],
+    members: &[Vec<Member<'a>>],
+    kinds: &mut IntoIter<Vec<MemberKind>>,
+) -> Result<bool, AllocError>
+    requires { map (λ v. map seen_member v.items) members.now ≡ map members_of (map row_of types.now) }
+    ensures { IfOk result (λ all. kept_where all (map plain_type made.new.items) ≡ onto (map plain_type made.old.items) (types_of (declared scopes.now) names.now 0 (map row_of types.now) (map (λ w. map plain_kind w.items) (into_iter_items kinds.old)))) }
+{
+    for (within, row) in types.iter().enumerate() {
+        let Some(own) = kinds.next() else {
+            return Ok(false);
+        };
+        let context = Context {
+            scopes,
+            names,
+            within,
+        };
+        let Some(desc) = type_of(alloc, &context, row, &members[within], own)? else {
+            return Ok(false);
+        };
+        made.push(desc)?;
+    }
+    Ok(true)
+}
+
 /// Each of these types, of whose members these are the kinds.
 fn types_of<'a>(
     alloc: Global,
@@ -169,23 +214,10 @@ fn types_of<'a>(
     requires { map (λ v. map seen_member v.items) members.now ≡ map members_of (map row_of types.now) }
     ensures { IfOk result (λ o. option_map (λ v. map plain_type v.items) o ≡ types_of (declared scopes.now) names.now 0 (map row_of types.now) (map (λ w. map plain_kind w.items) kinds.items)) }
 {
-    let mut rest = kinds.into_iter();
     let mut made = Vec::new(alloc);
-    for (within, row) in types.iter().enumerate() {
-        let Some(own) = rest.next() else {
-            return Ok(None);
-        };
-        let context = Context {
-            scopes,
-            names,
-            within,
-        };
-        let Some(desc) = type_of(alloc, &context, row, &members[within], own)? else {
-            return Ok(None);
-        };
-        made.push(desc)?;
-    }
-    Ok(Some(made))
+    let mut rest = kinds.into_iter();
+    let all = add_types(alloc, &mut made, scopes, names, types, members, &mut rest);
+    whole(made, all)
 }
 
 // ---- the whole

@@ -4,7 +4,7 @@ ghost use Rattle.std.specs.Prelude.{◌≡◌, map, IfOk};
 ghost use Rattle.ksv_yaml_tree.specs.View.{pair};
 ghost use Rattle.ksv_schema_names.specs.Table.{declared};
 ghost use Rattle.ksv_schema.specs.Values.{home_of, once, position_at};
-ghost use Rattle.ksv_schema.specs.Code.{seen_home, present, paired, both_of, after, kept_if, items_of, Pushes};
+ghost use Rattle.ksv_schema.specs.Code.{seen_home, present, paired, both_of, after, kept_if, whole_if, items_of, Pushes};
 
 use crate::values::fault::Least;
 use ksv_schema_names::{Names, Position, Role, Scopes, Site};
@@ -154,6 +154,17 @@ pub(crate) fn kept<A: Drop>(part: A, done: Result<(), AllocError>) -> Read<A>
 {
     match done {
         Ok(()) => Ok(Some(part)),
+        Err(refused) => Err(refused),
+    }
+}
+
+/// What was made, if all of it was.
+pub(crate) fn whole<A: Drop>(made: A, all: Result<bool, AllocError>) -> Read<A>
+    ensures { result ≡ whole_if made all }
+{
+    match all {
+        Ok(true) => Ok(Some(made)),
+        Ok(false) => Ok(None),
         Err(refused) => Err(refused),
     }
 }

@@ -1,6 +1,6 @@
 //! What a value must meet: conditions in which `_` is that value, read at `valid`.
 
-ghost use Rattle.std.specs.Prelude.{◌≡◌, IfOk, OnOk, [], ◌∷◌, ◌++◌, map, option_map, option_to_list};
+ghost use Rattle.std.specs.Prelude.{◌≡◌, IfOk, MatchResult, [], ◌∷◌, ◌++◌, map, option_map, option_to_list};
 ghost use Rattle.ksv_yaml_tree.specs.View.{pair, view as view_node, seen_entry};
 ghost use Rattle.ksv_expr_tree.specs.declared.tree.BinaryOperator.TheVariants.{Equal};
 ghost use Rattle.ksv_expr_tree.specs.Tree.{view};
@@ -182,16 +182,20 @@ fn bounds(reader: &mut Reader, home: &Home, entries: &[Entry]) -> Read<(Option<E
     both(least, most)
 }
 
-/// Adds a condition, if there is one.
-fn add(conditions: &mut Vec<Expr>, condition: Option<Expr>) -> Result<(), AllocError>
-    ensures { OnOk result (map view conditions.new.items ≡ map view conditions.old.items ++ option_to_list (option_map view condition)) }
+/// These conditions, and one more if there is one.
+fn with_one(
+    conditions: Result<Vec<Expr>, AllocError>,
+    more: Option<Expr>,
+) -> Result<Vec<Expr>, AllocError>
+    ensures { IfOk result (λ all. MatchResult conditions (λ some. map view all.items ≡ map view some.items ++ option_to_list (option_map view more)) (λ _. ⊥)) }
 {
-    match condition {
+    match more {
         Some(condition) => {
+            let mut conditions = conditions?;
             conditions.push(condition)?;
-            Ok(())
+            Ok(conditions)
         }
-        None => Ok(()),
+        None => conditions,
     }
 }
 
@@ -204,11 +208,9 @@ fn in_order(
 ) -> Result<Vec<Expr>, AllocError>
     ensures { IfOk result (λ v. map view v.items ≡ in_order (option_map view condition, (option_map view least, option_map view most))) }
 {
-    let mut conditions = Vec::new(alloc);
-    add(&mut conditions, condition)?;
-    add(&mut conditions, least)?;
-    add(&mut conditions, most)?;
-    Ok(conditions)
+    let conditions = with_one(Ok(Vec::new(alloc)), condition);
+    let conditions = with_one(conditions, least);
+    with_one(conditions, most)
 }
 
 /// The conditions of which each must be true.

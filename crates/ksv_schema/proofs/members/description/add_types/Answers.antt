@@ -1,7 +1,7 @@
 use Rattle.ksv_schema.proofs.Common.{◌∙◌, ap, map, arith, members_of, row_of}
 use Rattle.ksv_schema_names.specs.View.{member_of}
 use Rattle.ksv_schema.proofs.Made.{same_at, same_length}
-use Rattle.ksv_schema.proofs.members.description.types_of.Goals as goal
+use Rattle.ksv_schema.proofs.members.description.add_types.Goals as goal
 
 pub bounds-members-within : goal.bounds-members-within
 bounds-members-within c = let l = same_length (λ v. map member_of v.items) members_of row_of c.args.members.now c.args.types.now c.requires in omega
