@@ -5,11 +5,11 @@ ghost use Rattle.std.specs.Prelude.{◌≡◌};
 ghost use Rattle.ksv_expr_syntax.specs.Faults.{code_of, text_of};
 
 use std::alloc::{AllocError, AllocFailed};
+use std::fmt::{self, Display, Formatter, Write};
 use thiserror::Error;
 
 /// What is wrong with a text.
 #[derive(Clone, Copy, PartialEq, Eq, Debug, Error)]
-#[error("{}", self.text())]
 pub enum ExprFaultKind {
     /// A character that begins no token, or a token that can't come here.
     UnexpectedCharacter,
@@ -52,6 +52,12 @@ impl ExprFaultKind {
             ExprFaultKind::TooLarge => "expression: X5 too large",
             ExprFaultKind::NoMemory => "expression: X6 no memory",
         }
+    }
+}
+
+impl Display for ExprFaultKind {
+    fn fmt<W: Write>(&self, f: &mut Formatter<W>) -> fmt::Result {
+        f.write_str(self.text())
     }
 }
 

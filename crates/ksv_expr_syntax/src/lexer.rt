@@ -13,7 +13,7 @@ use ksv_expr_tree::Literal;
 use std::alloc::{AllocError, Global};
 
 /// How a number is written.
-#[derive(Clone, Copy, PartialEq, Eq)]
+#[derive(Clone, Copy)]
 pub enum Radix {
     /// `0b..`
     Binary,
