@@ -6,6 +6,7 @@ ghost use Rattle.ksv_yaml.specs.Faults.{code_of, text_of};
 
 use ksv_yaml_scan::fault::{LineError, LineFault, ScanFault};
 use std::alloc::{AllocError, AllocFailed};
+use std::fmt::{self, Display, Formatter, Write};
 use thiserror::Error;
 
 /// What is wrong with a text.
@@ -13,7 +14,6 @@ use thiserror::Error;
 /// Y2 is checked first, then Y1. Where several of the others are true of the named line, the first of Y3, Y5, Y9, Y7,
 /// Y4, Y8 and Y6 is given.
 #[derive(Debug, Clone, Copy, Error)]
-#[error("{}", self.text())]
 pub enum YamlKind {
     /// Y1: the text isn't UTF-8; the line is that of the first bad byte.
     NotUtf8,
@@ -72,6 +72,12 @@ impl YamlKind {
             YamlKind::TooDeep => "nested too deeply",
             YamlKind::NoMemory => "no memory",
         }
+    }
+}
+
+impl Display for YamlKind {
+    fn fmt<W: Write>(&self, f: &mut Formatter<W>) -> fmt::Result {
+        f.write_str(self.text())
     }
 }
 
