@@ -1,6 +1,6 @@
 //! Expressions as the parser makes them, each with its plain tree.
 
-ghost use Rattle.std.specs.Prelude.{◌≡◌, None, map, Ok, Err, IfOk, MatchResult, string_bytes, box_value};
+ghost use Rattle.std.specs.Prelude.{◌≡◌, None, map, IfOk, string_bytes, box_value};
 ghost use Rattle.ksv_expr_tree.specs.Tree.{view, arguments_of, literal_of, literal, member, unary, binary, logical, choice, call, index, cast};
 ghost use Rattle.ksv_expr_syntax.specs.Grammar.{special_of, name_tree, select_tree};
 
@@ -9,16 +9,6 @@ use ksv_expr_tree::{
     UnaryOperator,
 };
 use std::alloc::{AllocError, Global};
-
-/// What is there already, and what is added to it; without the second the first is let go.
-pub(crate) fn pair<A: Drop, T, E>(first: A, second: Result<T, E>) -> Result<(A, T), E>
-    ensures { MatchResult result (λ x. (x.0 ≡ first) × (second ≡ Ok x.1)) (λ e. second ≡ Err e) }
-{
-    match second {
-        Ok(value) => Ok((first, value)),
-        Err(fault) => Err(fault),
-    }
-}
 
 pub(crate) fn literal_expr(value: Literal) -> Expr
     ensures { view result ≡ literal (literal_of value) }
@@ -50,8 +40,7 @@ pub(crate) fn member_expr(path: Vec<String>, name: String) -> Expr
 fn boxed(alloc: Global, left: Expr, right: Expr) -> Result<(Box<Expr>, Box<Expr>), AllocError>
     ensures { IfOk result (λ x. (box_value x.0 ≡ left) × (box_value x.1 ≡ right)) }
 {
-    let (right, left) = pair(right, Box::new(alloc, left))?;
-    Ok(pair(left, Box::new(alloc, right))?)
+    Ok((Box::new(alloc, left)?, Box::new(alloc, right)?))
 }
 
 pub(crate) fn unary_expr(
@@ -96,9 +85,8 @@ pub(crate) fn choice_expr(
 ) -> Result<Expr, AllocError>
     ensures { IfOk result (λ e. view e ≡ choice (view condition) (view yes) (view no)) }
 {
-    let (condition, arms) = pair(condition, boxed(alloc, yes, no))?;
-    let ((yes, no), condition) = pair(arms, Box::new(alloc, condition))?;
-    Ok(Expr::Choice(condition, yes, no))
+    let (yes, no) = boxed(alloc, yes, no)?;
+    Ok(Expr::Choice(Box::new(alloc, condition)?, yes, no))
 }
 
 /// A name after a dot, with no number.

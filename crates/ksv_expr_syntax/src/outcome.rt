@@ -1,6 +1,6 @@
 //! Expressions made of what reading their parts gave, a fault included.
 
-ghost use Rattle.std.specs.Prelude.{◌≡◌, ℕ, ◌<◌, length, Option, Ok, IfOk, MatchResult};
+ghost use Rattle.std.specs.Prelude.{◌≡◌, ℕ, ◌<◌, length, Option, Ok, Err, IfOk, MatchResult};
 ghost use Rattle.ksv_expr_tree.specs.Tree.{Tree, view, unary, choice, call, index};
 ghost use Rattle.ksv_expr_syntax.specs.Grammar.{join_tree};
 ghost use Rattle.ksv_expr_syntax.specs.Reading.{Found, FoundList};
@@ -9,7 +9,7 @@ ghost use Rattle.ksv_expr_syntax.specs.declared.fault.ExprFaultKind.TheVariants.
 
 use crate::cursor::{Rest, expect};
 use crate::fault::ExprFault;
-use crate::make::{self, pair};
+use crate::make;
 use crate::token::{Infix, Symbol};
 use ksv_expr_tree::{Expr, UnaryOperator};
 use std::alloc::{AllocError, Global};
@@ -22,6 +22,16 @@ pub(crate) fn beside<'a>(made: Result<Expr, AllocError>, at: Rest<'a>) -> Read<'
     ensures { MatchResult result (λ x. (made ≡ Ok x.0) × (x.1 ≡ at.entry)) (λ f. f.kind ≡ NoMemory) }
 {
     Ok((made?, at))
+}
+
+/// What is there already, and what is added to it; without the second the first is let go.
+fn pair<A: Drop, T, E>(first: A, second: Result<T, E>) -> Result<(A, T), E>
+    ensures { MatchResult result (λ x. (x.0 ≡ first) × (second ≡ Ok x.1)) (λ e. second ≡ Err e) }
+{
+    match second {
+        Ok(value) => Ok((first, value)),
+        Err(fault) => Err(fault),
+    }
 }
 
 /// An expression before this symbol.

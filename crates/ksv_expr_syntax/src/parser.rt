@@ -9,7 +9,7 @@ ghost use Rattle.ksv_expr_syntax.specs.Code.{Gives, GivesArms, GivesList, GivesC
 
 use crate::cursor::{Rest, behind, enter, expect, first, left_out, name, open_group, path, spend};
 use crate::fault::ExprFault;
-use crate::make::{self, pair};
+use crate::make;
 use crate::outcome::{self, Read};
 use crate::token::{
     Infix, Operand, Placed, Precedence, Symbol, Token, comparison_operator, infix_operator,
@@ -91,7 +91,8 @@ fn cast_type<'a>(alloc: Global, at: Rest<'a>) -> Result<(Vec<String>, Rest<'a>),
     let now = expect(at, Symbol::As)?;
     let now = expect(now, Symbol::Less)?;
     let (names, now) = path(alloc, now)?;
-    pair(names, expect(now, Symbol::Greater))
+    let now = expect(now, Symbol::Greater)?;
+    Ok((names, now))
 }
 
 /// `as<a::b>` after this object and a dot.
@@ -99,7 +100,7 @@ fn cast<'a>(alloc: Global, object: Expr, at: Rest<'a>) -> Read<'a>
     ensures is { Gives (cast_at (view object) (lexemes at.entry.tokens.now) at.entry.parts) result }
     ensures shorter { IsWithin (length at.entry.tokens.now) result }
 {
-    let (object, (names, now)) = pair(object, cast_type(alloc, at))?;
+    let (names, now) = cast_type(alloc, at)?;
     outcome::beside(make::cast_expr(alloc, object, names), now)
 }
 
@@ -112,7 +113,7 @@ fn member<'a>(alloc: Global, object: Expr, at: Rest<'a>, rest: &'a [Placed]) -> 
     let Some((text, tokens)) = name(start.tokens) else {
         return cast(alloc, object, start);
     };
-    let (object, text) = pair(object, String::from_str(alloc, text))?;
+    let text = String::from_str(alloc, text)?;
     outcome::beside(
         make::select_expr(alloc, object, text),
         Rest { tokens, ..start },
