@@ -6,7 +6,7 @@ ghost use Rattle.ksv_memo_rules.specs.Meaning.{on};
 ghost use Rattle.ksv_memo_rules.specs.Right.{IsRight, counted};
 ghost use Rattle.ksv_memo.specs.Folding.{ClosesAs, FailsToLend, Founds, IsCovered, IsCut, IsFolding, IsFree, IsLastFree, IsNext, IsWithin, LendsTo, LosesFirst, SameButWild, SameRun, viewed};
 ghost use Rattle.ksv_memo.specs.Growing.{AsksGrown, Grows};
-ghost use Rattle.ksv_memo.specs.Nodes.{Asks, IsHeard, IsPut, KeepsNode, MayPut, Starts, Steps, TakesFirst, is_there, nodes};
+ghost use Rattle.ksv_memo.specs.Nodes.{Asks, Closes, IsHeard, IsPut, KeepsNode, MayKeep, MayLose, MayPut, Starts, Steps, TakesFirst, is_there, nodes};
 ghost use Rattle.ksv_memo.specs.Running.{ClosesRight, HasReached, MayKeepRight};
 ghost use Rattle.ksv_memo.specs.Sweep.{Sweeps};
 
@@ -117,6 +117,8 @@ fn lend<R: Rules>(
 
 /// Keeps the last open node, which is the next after those that are kept by numbers alone, by its number, and in its slot too. The one below
 /// gets its answer, if there is one.
+#[cold]
+#[inline(never)]
 fn absorb<R: Rules>(
     table: &mut Table<R>,
     run: &mut Run<R::Fold>,
@@ -266,6 +268,7 @@ fn ask_grown<R: Rules>(
 
 /// The number of the last open node, which has its answer, if it is the next after those that are kept by numbers alone, and can be kept so.
 /// Else it may have a slot as any other from now on.
+#[inline(never)]
 fn next_open<R: Rules>(
     table: &mut Table<R>,
     run: &mut Run<R::Fold>,
@@ -297,8 +300,25 @@ fn next_open<R: Rules>(
     None
 }
 
-/// Keeps the last open node with its answer, where some are kept by numbers alone: by its number too, if it is the next of these.
+/// Keeps the last open node with its answer, as where none is kept by its number.
 #[inline(never)]
+fn close_slotted<R: Rules>(
+    table: &mut Table<R>,
+    alloc: Global,
+    answer: Reply<R>,
+) -> Result<(), AllocError>
+    requires { is_there table.old.opened ≡ true }
+    ensures ok { OnOk result (Closes answer table.old.opened (nodes table.old) (nodes table.new)) }
+    ensures err { OnErr result (MayKeep answer table.old.opened table.old.kept table.new.kept) }
+    ensures waiting { OnErr result (MayLose table.old.opened table.new.opened) }
+    ensures grows { table.old.looks ≤ table.new.looks }
+{
+    table.close(alloc, answer)
+}
+
+/// Keeps the last open node with its answer, where some are kept by numbers alone: by its number too, if it is the next of these. It is inlined,
+/// and what it calls isn't, as in `ask_grown`.
+#[inline(always)]
 fn close_beside<R: Rules>(
     table: &mut Table<R>,
     run: &mut Run<R::Fold>,
@@ -319,7 +339,7 @@ fn close_beside<R: Rules>(
             Ok(value) => absorb(table, run, place, value),
             Err(_fault) => unreachable!(),
         },
-        None => table.close(alloc, answer),
+        None => close_slotted(table, alloc, answer),
     }
 }
 

@@ -32,17 +32,17 @@ returns-in-Ok-clause-err g c =
 pub returns-in-None-clause-run : goal.returns-in-None-clause-run
 returns-in-None-clause-run g c =
     (closes-beside (asks g c.args.rules.now c.args.bytes.now) g.R.Fold.Folds.fold c.args.run.now c.next_open.new.run c.args.table.now c.next_open.new.table
-    c.next_open.ensures.seen c.next_open.ensures.nodes c.args.answer c.requires.reached c.close.new.self c.next_open.ensures.run c.in-None.ensures.none
-    c.close.result c.close.ensures.ok c.close.ensures.err c.close.ensures.waiting).0
+    c.next_open.ensures.seen c.next_open.ensures.nodes c.args.answer c.requires.reached c.close_slotted.new.table c.next_open.ensures.run c.in-None.ensures.none
+    c.close_slotted.result c.close_slotted.ensures.ok c.close_slotted.ensures.err c.close_slotted.ensures.waiting).0
 
 pub returns-in-None-clause-ok : goal.returns-in-None-clause-ok
 returns-in-None-clause-ok g c =
     (closes-beside (asks g c.args.rules.now c.args.bytes.now) g.R.Fold.Folds.fold c.args.run.now c.next_open.new.run c.args.table.now c.next_open.new.table
-    c.next_open.ensures.seen c.next_open.ensures.nodes c.args.answer c.requires.reached c.close.new.self c.next_open.ensures.run c.in-None.ensures.none
-    c.close.result c.close.ensures.ok c.close.ensures.err c.close.ensures.waiting).1
+    c.next_open.ensures.seen c.next_open.ensures.nodes c.args.answer c.requires.reached c.close_slotted.new.table c.next_open.ensures.run c.in-None.ensures.none
+    c.close_slotted.result c.close_slotted.ensures.ok c.close_slotted.ensures.err c.close_slotted.ensures.waiting).1
 
 pub returns-in-None-clause-err : goal.returns-in-None-clause-err
 returns-in-None-clause-err g c =
     (closes-beside (asks g c.args.rules.now c.args.bytes.now) g.R.Fold.Folds.fold c.args.run.now c.next_open.new.run c.args.table.now c.next_open.new.table
-    c.next_open.ensures.seen c.next_open.ensures.nodes c.args.answer c.requires.reached c.close.new.self c.next_open.ensures.run c.in-None.ensures.none
-    c.close.result c.close.ensures.ok c.close.ensures.err c.close.ensures.waiting).2
+    c.next_open.ensures.seen c.next_open.ensures.nodes c.args.answer c.requires.reached c.close_slotted.new.table c.next_open.ensures.run c.in-None.ensures.none
+    c.close_slotted.result c.close_slotted.ensures.ok c.close_slotted.ensures.err c.close_slotted.ensures.waiting).2
