@@ -369,26 +369,29 @@ module _ {N A S : Type 0} (q : Asking N A) (fold : S → Fold N A) (was run : Ru
       on_err_weaker r (may-next old.opened next) (subst (λ es. OnErr r (MayPut e es now.kept)) kept-mid may),
     )
 
--- ---- a table without a run, or one that begins
-module _ {N A S : Type 0} (q : Asking N A) (fold : S → Fold N A) (was run : Option (Run S)) (a : A) (old new now : Tabled N A)
+-- ---- a table without a run, before one may begin
+module _ {N A S : Type 0} (q : Asking N A) (fold : S → Fold N A) (was run : Option (Run S)) (none : was ≡ None) (a : A) (old new now : Tabled N A)
     (view : viewed q.eq fold was old ≡ now) (reached : HasReached q.world now.kept now.opened (Done a)) where
-  pub closed-right : Closes a (viewed q.eq fold was old).opened (nodes (viewed q.eq fold was old)) (nodes (viewed q.eq fold run new))
+  plain : old ≡ now
+  plain = ap (λ r. viewed q.eq fold r old) (sym none) ∙ view
+
+  pub reached-plain : HasReached q.world old.kept old.opened (Done a)
+  reached-plain = subst (λ t. HasReached q.world t.kept t.opened (Done a)) (sym plain) reached
+
+  pub plain-right : Closes a old.opened (nodes old) (nodes (viewed q.eq fold run new))
       → ClosesRight q.world a now.opened (nodes now) (nodes (viewed q.eq fold run new))
-  closed-right c = closes-right q now.kept now.opened a (nodes (viewed q.eq fold run new)) reached
-      (subst (λ v. Closes a v.opened (nodes v) (nodes (viewed q.eq fold run new))) view c)
+  plain-right c = closes-right q now.kept now.opened a (nodes (viewed q.eq fold run new)) reached
+      (subst (λ t. Closes a t.opened (nodes t) (nodes (viewed q.eq fold run new))) plain c)
 
-  pub may-closed : MayKeep a (viewed q.eq fold was old).opened (viewed q.eq fold was old).kept (viewed q.eq fold run new).kept
-      → MayKeepRight q.world a now.opened now.kept (viewed q.eq fold run new).kept
-  may-closed may = may-right q now.kept now.opened a (viewed q.eq fold run new).kept reached
-      (subst (λ v. MayKeep a v.opened v.kept (viewed q.eq fold run new).kept) view may)
+  pub plain-may : MayKeep a old.opened old.kept (viewed q.eq fold run new).kept → MayKeepRight q.world a now.opened now.kept (viewed q.eq fold run new).kept
+  plain-may may = may-right q now.kept now.opened a (viewed q.eq fold run new).kept reached
+      (subst (λ t. MayKeep a t.opened t.kept (viewed q.eq fold run new).kept) plain may)
 
--- no run is there, and none begins
-module _ {N A S : Type 0} (q : Asking N A) (fold : S → Fold N A) (run : Option (Run S)) (none : run ≡ None) (a : A) (old new now : Tabled N A)
-    (view : viewed q.eq fold run old ≡ now) (reached : HasReached q.world now.kept now.opened (Done a)) where
-  pub plain-right : Closes a old.opened (nodes old) (nodes new) → ClosesRight q.world a now.opened (nodes now) (nodes (viewed q.eq fold run new))
-  plain-right c = closed-right q fold run run a old new now view reached
-      (subst (λ r. Closes a (viewed q.eq fold r old).opened (nodes (viewed q.eq fold r old)) (nodes (viewed q.eq fold r new))) (sym none) c)
+-- and none begins
+pub closes-plain : {N A S : Type 0} (eq : N → N → Bool) (fold : S → Fold N A) (run : Option (Run S)) (a : A) (old new : Tabled N A) → run ≡ None
+    → Closes a old.opened (nodes old) (nodes new) → Closes a old.opened (nodes old) (nodes (viewed eq fold run new))
+closes-plain eq fold run a old new none c = subst (λ r. Closes a old.opened (nodes old) (nodes (viewed eq fold r new))) (sym none) c
 
-  pub plain-may : MayKeep a old.opened old.kept new.kept → MayKeepRight q.world a now.opened now.kept (viewed q.eq fold run new).kept
-  plain-may may = may-closed q fold run run a old new now view reached
-      (subst (λ r. MayKeep a (viewed q.eq fold r old).opened (viewed q.eq fold r old).kept (viewed q.eq fold r new).kept) (sym none) may)
+pub may-plain : {N A S : Type 0} (eq : N → N → Bool) (fold : S → Fold N A) (run : Option (Run S)) (a : A) (old new : Tabled N A) → run ≡ None
+    → MayKeep a old.opened old.kept new.kept → MayKeep a old.opened old.kept (viewed eq fold run new).kept
+may-plain eq fold run a old new none may = subst (λ r. MayKeep a old.opened old.kept (viewed eq fold r new).kept) (sym none) may

@@ -1,8 +1,8 @@
 -- A run, or none, through the table's moves.
 use Rattle.ksv_memo.proofs.Common.{◌≡◌, ℕ, ◌+◌, ◌<◌, ◌≤◌, arith, nat_lt, cond, Bool, true, false, List, [], ◌∷◌, ◌++◌, filter, count_by}
 use Rattle.ksv_memo.proofs.Common.{Option, Some, None, Result, refl, sym, ◌∙◌, ap, subst, inl, inr, AllByRecursion, IsEquivalence, Entry, Open, Closes, MayKeep}
-use Rattle.ksv_memo.proofs.Common.{append-nil, Outcome, Answered, IsOneOf, nodes_in, is_some, All-map, sum_by-cons, IfOk, OnOk, nodes}
-use Rattle.std.proofs.Common.{Ok, Err, OnErr, true≢false}
+use Rattle.ksv_memo.proofs.Common.{append-nil, Outcome, Answered, IsOneOf, nodes_in, All-map, sum_by-cons, IfOk, OnOk, nodes}
+use Rattle.std.proofs.Common.{Ok, Err, OnErr}
 use Rattle.ksv_memo_rules.specs.Folds.{Fold, first_of}
 use Rattle.ksv_memo.specs.declared.folded.Run.{Run}
 use Rattle.ksv_memo.specs.Nodes.{Nodes, Tabled, Asks, HasEntry, Starts, IsPut, MayLose, TakesFirst, kept_of}
@@ -248,7 +248,7 @@ module _ {N A S : Type 0} (eq : N → N → Bool) (laws : IsEquivalence eq) (exa
       let c = keeps-folding run a old.opened new.opened old.kept new.kept h free may lost in (c.0, tt, c.1)
 
   -- a run begins as its root is kept
-  begins-folding : (run : Option (Run S)) (a : A) (st : List (Open N A)) (old new : Tabled N A) → Founds eq fold run old.kept st
+  pub begins-folding : (run : Option (Run S)) (a : A) (st : List (Open N A)) (old new : Tabled N A) → Founds eq fold run old.kept st
       → Closes a st (nodes old) (nodes new) → IsFolding eq fold run (nodes new) × Closes a st (nodes old) (nodes (viewed eq fold run new))
   begins-folding None a st old new founds c = (tt, c)
   begins-folding (Some run) a [] old new founds c = absurd founds
@@ -264,9 +264,3 @@ module _ {N A S : Type 0} (eq : N → N → Bool) (laws : IsEquivalence eq) (exa
         begins-run eq laws exact f run.kept run.wild run.far run.lent.items old.kept new.kept o st new.opened e refl founds put apart,
         (record { once = k.once; each = k.each; front = k.front; back = k.back; was = k.was; kept = seen ∙ k.kept }, c.1),
       )
-
-  pub begins-all : (was run : Option (Run S)) (a : A) (old new : Tabled N A) → is_some was ≡ false → Founds eq fold run old.kept old.opened
-      → Closes a old.opened (nodes old) (nodes new)
-      → IsFolding eq fold run (nodes new) × Closes a (viewed eq fold was old).opened (nodes (viewed eq fold was old)) (nodes (viewed eq fold run new))
-  begins-all None run a old new none founds c = begins-folding run a old.opened old new founds c
-  begins-all (Some was) run a old new none founds c = absurd (true≢false none)

@@ -1,6 +1,6 @@
 //! The table of kept and open nodes, with nodes that are kept by numbers alone.
 ghost use Rattle.std.specs.List.{AllByRecursion};
-ghost use Rattle.std.specs.Prelude.{◌≡◌, ◌<◌, ◌≤◌, ◌+◌, ◌++◌, ◌∷◌, [], Some, Ok, length, true, is_ok, nat_lt, IfOk, IfSome, IfNone, OnOk, OnErr};
+ghost use Rattle.std.specs.Prelude.{◌≡◌, ◌<◌, ◌≤◌, ◌+◌, ◌++◌, ◌∷◌, [], Some, None, Ok, length, true, is_ok, nat_lt, IfOk, IfSome, IfNone, OnOk, OnErr};
 ghost use Rattle.ksv_memo_links.specs.Touching.{AreWithin};
 ghost use Rattle.ksv_memo_rules.specs.Meaning.{on};
 ghost use Rattle.ksv_memo_rules.specs.Right.{IsRight, counted};
@@ -376,6 +376,29 @@ fn founded<R: Rules>(
     }))
 }
 
+/// Keeps the last open node with its answer, where no node is kept by its number, and others may be once it has it. It is inlined, as `ask_grown` is.
+#[inline(always)]
+fn close_founding<R: Rules>(
+    table: &mut Table<R>,
+    run: &mut Option<Run<R::Fold>>,
+    alloc: Global,
+    rules: &R,
+    bytes: &Buffer,
+    answer: Reply<R>,
+) -> Result<(), AllocError>
+    requires none { run.old ≡ None }
+    requires reached { HasReached (on (R.meaning rules.now) bytes.now) table.old.kept table.old.opened (Next.Done answer) }
+    ensures run { IsFolding R.Node.eq R.Fold.fold run.new (nodes table.new) }
+    ensures ok { OnOk result (Closes answer table.old.opened (nodes table.old) (nodes (viewed R.Node.eq R.Fold.fold run.new table.new))) }
+    ensures err { OnErr result (MayKeep answer table.old.opened table.old.kept (viewed R.Node.eq R.Fold.fold run.new table.new).kept) }
+    ensures grows { table.old.looks ≤ table.new.looks }
+{
+    let found = founded(table, alloc, rules, bytes, &answer)?;
+    table.close(alloc, answer)?;
+    *run = found;
+    Ok(())
+}
+
 /// Whether other nodes may be kept by numbers alone once a node has this answer.
 #[inline(always)]
 fn may_found<R: Rules>(rules: &R, answer: &Reply<R>) -> bool {
@@ -528,10 +551,7 @@ impl<R: Rules> Folded<R> {
         if !may_found(rules, &answer) {
             return self.table.close(alloc, answer);
         }
-        let run = founded(&self.table, alloc, rules, bytes, &answer)?;
-        self.table.close(alloc, answer)?;
-        self.run = run;
-        Ok(())
+        close_founding(&mut self.table, &mut self.run, alloc, rules, bytes, answer)
     }
 
     /// Takes the last open node out, if there is one.
