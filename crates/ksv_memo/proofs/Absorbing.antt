@@ -1,8 +1,7 @@
 -- The next node after those that are kept by numbers alone is kept so too, as it gets its answer.
 use Rattle.ksv_memo.proofs.Common.{◌≡◌, ℕ, suc, ◌+◌, ◌<◌, ◌≤◌, nat_lt, nat_eq, arith, Bool, true, false, List, [], ◌∷◌, ◌++◌, Result, refl, sym, ◌∙◌}
 use Rattle.ksv_memo.proofs.Common.{ap, subst, inl, inr, append-nil, map, AllByRecursion, All-map, IsEquivalence, IsDistinct-head, Decides-ltb, Entry, Open}
-use Rattle.ksv_memo.proofs.Common.{is_some, IsStack, Closes, MayKeep, OnOk, nodes, Done, nodes_in, IsRight, Answered, Outcome, tells, eq-eqb}
-use Rattle.ksv_memo.proofs.Common.{Option, Some, None}
+use Rattle.ksv_memo.proofs.Common.{IsStack, Closes, MayKeep, OnOk, nodes, Done, nodes_in, IsRight, Answered, Outcome, tells, eq-eqb, Option, Some, None}
 use Rattle.std.specs.Prelude.{max, min, ◌≢◌}
 use Rattle.std.proofs.Common.{true≢false, Ok, Err, OnErr}
 use Rattle.std.proofs.lemmas.Result.{on_err_weaker, on_ok_weaker}
@@ -387,11 +386,6 @@ module _ {N A S : Type 0} (q : Asking N A) (fold : S → Fold N A) (was run : Op
   pub plain-may : MayKeep a old.opened old.kept (viewed q.eq fold run new).kept → MayKeepRight q.world a now.opened now.kept (viewed q.eq fold run new).kept
   plain-may may = may-right q now.kept now.opened a (viewed q.eq fold run new).kept reached
       (subst (λ t. MayKeep a t.opened t.kept (viewed q.eq fold run new).kept) plain may)
-
--- no run is there
-pub no-run : {X : Type 0} (o : Option X) → is_some o ≡ false → o ≡ None
-no-run None e = refl
-no-run (Some x) e = absurd (true≢false e)
 
 -- and none begins
 pub closes-plain : {N A S : Type 0} (eq : N → N → Bool) (fold : S → Fold N A) (run : Option (Run S)) (a : A) (old new : Tabled N A) → run ≡ None

@@ -544,29 +544,12 @@ impl<R: Rules> Folded<R> {
         ensures err { OnErr result (MayKeepRight (on (R.meaning rules.now) bytes.now) answer self.old.opened self.old.kept self.new.kept) }
         ensures grows { self.old.looks ≤ self.new.looks }
     {
-        if !may_found(rules, &answer) && self.run.is_none() {
-            return self.table.close(alloc, answer);
-        }
-        self.close_seldom(alloc, rules, bytes, answer)
-    }
-
-    /// The same, where others are kept by their numbers, or may be once it has its answer. It is inlined, as `ask_grown` is.
-    #[inline(always)]
-    fn close_seldom(
-        &mut self,
-        alloc: Global,
-        rules: &R,
-        bytes: &Buffer,
-        answer: Reply<R>,
-    ) -> Result<(), AllocError>
-        requires { HasReached (on (R.meaning rules.now) bytes.now) self.old.kept self.old.opened (Next.Done answer) }
-        ensures ok { OnOk result (ClosesRight (on (R.meaning rules.now) bytes.now) answer self.old.opened (nodes self.old) (nodes self.new)) }
-        ensures err { OnErr result (MayKeepRight (on (R.meaning rules.now) bytes.now) answer self.old.opened self.old.kept self.new.kept) }
-        ensures grows { self.old.looks ≤ self.new.looks }
-    {
         match &mut self.run {
             Some(run) => return close_beside(&mut self.table, run, alloc, rules, bytes, answer),
             None => {}
+        }
+        if !may_found(rules, &answer) {
+            return self.table.close(alloc, answer);
         }
         close_founding(&mut self.table, &mut self.run, alloc, rules, bytes, answer)
     }
