@@ -37,6 +37,7 @@ EARLY = (
     Part("inventory", ("{top}/.ci/inventory",)),
     Part("dry", ("{top}/edits/run", "--dry")),
     Part("named", ("{top}/.ci/named",)),
+    Part("layout", ("{top}/.ci/layout",)),
     Part("rows", ("{top}/tools/rows/run", "--check")),
     Part("patches", ("{top}/docs/changes/run", "--files")),
     Part("kit", ("{top}/edits/run", "--self")),

@@ -7,14 +7,15 @@ ghost use Rattle.ksv_expr_value.specs.Elements.{element_of};
 ghost use Rattle.ksv_expr_value.specs.Places.{byte_of};
 ghost use Rattle.ksv_expr_value.specs.Trail.{holder};
 ghost use Rattle.ksv_expr_eval.specs.Runs.{Runs};
-ghost use Rattle.ksv_expr_meaning.specs.Asked.{bytes_for};
+ghost use Rattle.ksv_expr_meaning.specs.Asked.{bytes_for, opened_for};
+ghost use Rattle.ksv_expr_meaning.specs.declared.want.Want.TheVariants.{Head};
 ghost use Rattle.ksv_expr_meaning.specs.Meaning.{in_path, member_path, member_value, element_path, element_value, element_count, holder_of, stream_of, index_value, element_read, special_value, ranged_member, enum_member, distance, size_to, stream_size, at_end, list_size, last_element, object_of_type, object_as, text_in, decoded_by, decoded_text, byte_from, byte_at, first_byte};
 
 use crate::answers::Answers;
 use crate::arithmetic;
 use crate::halt::Halt;
 use crate::wants::{bytes_for, number_for, opened_for, raise, truth_for, value_for};
-use ksv_expr_meaning::Want;
+use ksv_expr_meaning::{Opened, Want};
 use ksv_expr_tree::{EnumMember, SpecialName};
 use ksv_expr_value::{
     Ctx, Element, Encoding, FaultKind, Integer, Parts, Path, Place, Stream, Text, Value,
@@ -149,6 +150,18 @@ pub(crate) fn holder_of<By, A: Answers<By>>(
     }
 }
 
+/// An object's type and stream.
+fn head_of<By, A: Answers<By>>(
+    answers: &mut A,
+    ctx: &Ctx,
+    object: &Path,
+) -> Result<Opened, Halt<A::Need>>
+    ensures { Runs (A.handler ctx.now) (opened_for (Head object.now)) (λ o. o) answers.old answers.new result }
+{
+    let path = object.copy(answers.alloc())?;
+    opened_for(answers, ctx, Want::Head(path))
+}
+
 /// The stream of an object.
 #[tactic(auto, using(ksv_basics::proofs::Running::run_bind), unfolding(ksv_expr_meaning::specs::Meaning::stream_of))]
 pub(crate) fn stream_of<By, A: Answers<By>>(
@@ -158,8 +171,7 @@ pub(crate) fn stream_of<By, A: Answers<By>>(
 ) -> Result<Value, Halt<A::Need>>
     ensures { Runs (A.handler ctx.now) (stream_of object.now) (λ v. v) answers.old answers.new result }
 {
-    let path = object.copy(answers.alloc())?;
-    let opened = opened_for(answers, ctx, Want::Head(path))?;
+    let opened = head_of(answers, ctx, object)?;
     Ok(Value::Stream(opened.stream))
 }
 
@@ -293,8 +305,7 @@ fn object_of_type<By, A: Answers<By>>(
 ) -> Result<Value, Halt<A::Need>>
     ensures { Runs (A.handler ctx.now) (object_of_type object.now type_number) (λ v. v) answers.old answers.new result }
 {
-    let path = object.copy(answers.alloc())?;
-    let opened = opened_for(answers, ctx, Want::Head(path))?;
+    let opened = head_of(answers, ctx, object)?;
     if opened.type_number == type_number {
         Ok(Value::Object(object.copy(answers.alloc())?))
     } else {

@@ -67,7 +67,9 @@ fn unary_expr<By, A: Answers<By>>(
     ensures { Runs (A.handler ctx.now) (bind (meaning ctx.now operand.now) (λ v. given (unary_of operator v))) (λ v. v) answers.old answers.new result }
 {
     let operand = value(answers, ctx, operand)?;
-    given(answers, ctx, operators::unary(operator, &operand))
+    let result = operators::unary(operator, &operand);
+    drop(operand);
+    given(answers, ctx, result)
 }
 
 /// The left operand, the right operand, and then the operator.
@@ -84,7 +86,10 @@ fn binary_expr<By, A: Answers<By>>(
 {
     let left = value(answers, ctx, left)?;
     let right = value(answers, ctx, right)?;
-    forms::binary(answers, ctx, operator, &left, &right)
+    let result = forms::binary(answers, ctx, operator, &left, &right);
+    drop(left);
+    drop(right);
+    result
 }
 
 /// The truth value that an expression gives.
@@ -98,7 +103,9 @@ fn truth_of<By, A: Answers<By>>(
     ensures { Runs (A.handler ctx.now) (bind (meaning ctx.now expr.now) in_truth_value) (λ b. b) answers.old answers.new result }
 {
     let value = value(answers, ctx, expr)?;
-    forms::in_truth_value(answers, ctx, &value)
+    let truth = forms::in_truth_value(answers, ctx, &value);
+    drop(value);
+    truth
 }
 
 /// The result that the left operand decides, or the right operand's.
@@ -118,7 +125,9 @@ fn logical_expr<By, A: Answers<By>>(
         return Ok(Value::Bool(left));
     }
     let right = value(answers, ctx, right)?;
-    forms::truth_value(answers, ctx, &right)
+    let result = forms::truth_value(answers, ctx, &right);
+    drop(right);
+    result
 }
 
 /// The result of one of two expressions, as a truth value says.
@@ -152,7 +161,9 @@ fn field_expr<By, A: Answers<By>>(
 {
     let own = is_own_stream(object);
     let object = value(answers, ctx, object)?;
-    forms::field(answers, ctx, own, &object, name)
+    let result = forms::field(answers, ctx, own, &object, name);
+    drop(object);
+    result
 }
 
 #[cycle(value)]
@@ -166,7 +177,9 @@ fn special_field_expr<By, A: Answers<By>>(
     ensures { Runs (A.handler ctx.now) (bind (meaning ctx.now object.now) (λ v. special_of v name)) (λ v. v) answers.old answers.new result }
 {
     let object = value(answers, ctx, object)?;
-    forms::special_field(answers, ctx, &object, name)
+    let result = forms::special_field(answers, ctx, &object, name);
+    drop(object);
+    result
 }
 
 /// The value before a method, its one argument, and then the method.
@@ -183,7 +196,10 @@ fn call_with_one<By, A: Answers<By>>(
 {
     let object = value(answers, ctx, object)?;
     let argument = value(answers, ctx, argument)?;
-    forms::call_one(answers, ctx, &object, method_of_name(method), &argument)
+    let result = forms::call_one(answers, ctx, &object, method_of_name(method), &argument);
+    drop(object);
+    drop(argument);
+    result
 }
 
 /// Two arguments, and then the method.
@@ -201,14 +217,11 @@ fn call_behind<By, A: Answers<By>>(
 {
     let first = value(answers, ctx, first)?;
     let second = value(answers, ctx, second)?;
-    forms::call_two(
-        answers,
-        ctx,
-        object,
-        method_of_name(method),
-        &first,
-        &second,
-    )
+    let method = method_of_name(method);
+    let result = forms::call_two(answers, ctx, object, method, &first, &second);
+    drop(first);
+    drop(second);
+    result
 }
 
 /// The value before a method, its two arguments, and then the method.
@@ -225,7 +238,9 @@ fn call_with_two<By, A: Answers<By>>(
     ensures { Runs (A.handler ctx.now) (bind (meaning ctx.now object.now) (λ v. bind (meaning ctx.now first.now) (λ w. bind (meaning ctx.now second.now) (λ u. call_two v (method_named method.now) w u)))) (λ v. v) answers.old answers.new result }
 {
     let object = value(answers, ctx, object)?;
-    call_behind(answers, ctx, &object, method, first, second)
+    let result = call_behind(answers, ctx, &object, method, first, second);
+    drop(object);
+    result
 }
 
 /// The list, the index, and then the item there.
@@ -241,7 +256,10 @@ fn index_expr<By, A: Answers<By>>(
 {
     let list = value(answers, ctx, list)?;
     let place = value(answers, ctx, place)?;
-    forms::item_at(answers, ctx, &list, &place)
+    let result = forms::item_at(answers, ctx, &list, &place);
+    drop(list);
+    drop(place);
+    result
 }
 
 #[cycle(value)]
@@ -255,7 +273,9 @@ fn cast_expr<By, A: Answers<By>>(
     ensures { Runs (A.handler ctx.now) (bind (meaning ctx.now object.now) (λ v. cast_to v type_name.now.number)) (λ v. v) answers.old answers.new result }
 {
     let object = value(answers, ctx, object)?;
-    forms::cast_to(answers, ctx, &object, type_name.number)
+    let result = forms::cast_to(answers, ctx, &object, type_name.number);
+    drop(object);
+    result
 }
 
 #[cycle(value)]

@@ -1,9 +1,14 @@
 -- The calls of the nodes of a sequence, added up.
-use Rattle.std.proofs.Common.{◌≡◌, ◌∙◌, ℕ, zero, suc, ◌+◌, ◌-◌, ◌*◌, ◌^◌, ◌<◌, ◌≤◌, List, [], ◌∷◌, length, refl, sym, ap, subst, arith}
+use Rattle.std.proofs.Common.{◌≡◌, ◌≢◌, ◌∙◌, ℕ, zero, suc, ◌+◌, ◌-◌, ◌*◌, ◌^◌, ◌<◌, ◌≤◌, ◌==◌, nat_lt, Bool, true, false, if◌then◌else◌, List, [], ◌∷◌}
+use Rattle.std.proofs.Common.{length, inl, inr, refl, sym, ap, arith}
+use Rattle.std.proofs.lemmas.Bool.{cases_lt}
+use Rattle.std.proofs.lemmas.Bool.Decides.{nat_tests}
 use Rattle.std.proofs.Math.Nat.{mul-suc, mul-zero, mul_assoc, mul-le-mul_left, mul-le-mul_right}
-use Rattle.ksv_folds.specs.Lemmas.Spots.{prior, spot, spot_in_is, prior_is, index_is}
+use Rattle.ksv_folds.specs.Lemmas.Numbers.{behind, element_at, rest_at}
+use Rattle.ksv_folds.specs.Lemmas.Spots.{prior, spot, prior_is, spot_is, index_is}
 use Rattle.ksv_memo_rules.specs.Folds.{calls_from}
-use Rattle.ksv_folds.specs.Sequence.{index, IsIn, asked_before, last_asked, asks_of, calls_before, size_of, spot_at, fold_of}
+use Rattle.ksv_folds.specs.Sequence.{index, asked_before, last_asked, asks_of, rest_asks, asks_in, calls_before, rest_calls, calls_to, elements_size, size_of}
+use Rattle.ksv_folds.specs.Sequence.{spot_at, fold_of}
 use Rattle.ksv_folds.specs.declared.part.Part.{Part}
 use Rattle.ksv_folds.specs.declared.plain_list.PlainList.{PlainList}
 use Rattle.ksv_folds.specs.declared.spot.Spot.{Spot}
@@ -56,37 +61,107 @@ module _ (p : PlainList) where
   add_prior (FieldHead i (suc f)) some = omega arith
   add_prior (FieldEnd i f) some = add_field k i f
 
-  next_calls : (j : ℕ) → suc j ≤ size_of p → calls_before k (spot_at p (suc j)) ≡ calls_before k (spot_at p j) + (fold_of p).calls j
-  next_calls j low =
+  -- ---- by numbers
+
+  spot_calls : (j : ℕ) → suc j ≤ elements_size p → calls_before k (spot_at p (suc j)) ≡ calls_before k (spot_at p j) + (asks_of p (spot_at p j) + 1)
+  spot_calls j low =
       let more = mul-suc p.per p.most in
       let wide = p.width in
       let z = prior_is k p.per p.width (suc p.most) j (omega (arith, low, more, wide)) in
       let number = index_is k p.per p.width (suc j) in
       add_prior (spot p.per (suc j)) (omega (arith, number)) ∙ ap (λ s. calls_before k s + (asks_of p s + 1)) (sym z.1)
 
-  pub calls_up : (n from : ℕ) → from + n ≤ size_of p
-      → calls_before k (spot_at p (from + n)) ≡ calls_before k (spot_at p from) + calls_from (fold_of p).calls from n
+  -- of elements, and behind them
+  calls_at : (j : ℕ) → j < elements_size p → calls_to p j ≡ calls_before k (spot_at p j)
+  calls_at j low =
+      let e : nat_lt j (elements_size p) ≡ true = grind (arith, nat_tests) in
+      ap (λ b. if b then calls_before k (spot_at p j) else calls_before k (ElementHead p.most) + rest_calls p.most (j - elements_size p)) e
+
+  calls_behind : (j : ℕ) → elements_size p ≤ j → calls_to p j ≡ calls_before k (ElementHead p.most) + rest_calls p.most (j - elements_size p)
+  calls_behind j up =
+      let e : nat_lt j (elements_size p) ≡ false = grind (arith, nat_tests) in
+      ap (λ b. if b then calls_before k (spot_at p j) else calls_before k (ElementHead p.most) + rest_calls p.most (j - elements_size p)) e
+
+  -- behind all elements there is the head of one more
+  last_spot : spot_at p (elements_size p) ≡ ElementHead p.most
+  last_spot = spot_is k p.per p.width (suc p.most) (ElementHead p.most) (omega arith)
+
+  end_calls : (j : ℕ) → suc j ≡ elements_size p → calls_to p (suc j) ≡ calls_before k (spot_at p (suc j))
+  end_calls j e =
+      let none : suc j - elements_size p ≡ 0 = omega (arith, e) in
+      let start : calls_before k (ElementHead p.most) + 0 ≡ calls_before k (ElementHead p.most) = omega arith in
+      calls_behind (suc j) (omega (arith, e)) ∙ ap (λ r. calls_before k (ElementHead p.most) + rest_calls p.most r) none ∙ start
+      ∙ ap (calls_before k) (sym last_spot) ∙ ap (λ n. calls_before k (spot_at p n)) (sym e)
+
+  -- of so many elements, the rest behind so many others
+  next_rest : (n r : ℕ) → r < n → rest_calls n (suc r) ≡ rest_calls n r + (rest_asks n (n - 1 - r) + 1)
+  next_rest n r low = by (suc r == n) refl (n - 1 - r == 0) refl
+    where
+      before : (q : ℕ) → q < n → rest_calls n q + (if n - 1 - q + 1 == n then 0 else 1) ≡ 3 * q
+      before zero few =
+          let so : (n - 1 - 0 + 1 == n) ≡ true = grind (arith, nat_tests) in ap (λ c. 0 + (if c then 0 else 1)) so
+      before (suc q) few =
+          let so : (n - 1 - suc q + 1 == n) ≡ false = grind (arith, nat_tests) in
+          let no : (suc q == n) ≡ false = grind (arith, nat_tests) in
+          ap (λ c. 3 * q + (if c then 3 else 2) + (if n - 1 - suc q + 1 == n then 0 else 1)) no ∙ ap (λ c. 3 * q + 2 + (if c then 0 else 1)) so ∙ (omega arith)
+
+      by : (a : Bool) → (suc r == n) ≡ a → (b : Bool) → (n - 1 - r == 0) ≡ b
+          → 3 * r + (if a then 3 else 2) ≡ rest_calls n r + (1 + (if n - 1 - r + 1 == n then 0 else 1) + (if b then 1 else 0) + 1)
+      by true e false f =
+          absurd (let same : suc r ≡ n = grind (arith, nat_tests) in let other : n - 1 - r ≢ 0 = grind (arith, nat_tests) in omega (arith, same, other))
+      by false e true f =
+          absurd (let none : n - 1 - r ≡ 0 = grind (arith, nat_tests) in let other : suc r ≢ n = grind (arith, nat_tests) in omega (arith, none, other, low))
+      by true e true f = let z = before r low in omega (arith, z)
+      by false e false f = let z = before r low in omega (arith, z)
+
+  rest_next : (j : ℕ) → elements_size p ≤ j → j < elements_size p + p.most → calls_to p (suc j) ≡ calls_to p j + (fold_of p).calls j
+  rest_next j up low =
+      let r = j - elements_size p in
+      let one : suc j - elements_size p ≡ suc r = omega (arith, up) in
+      let index : elements_size p + (p.most - 1) - j ≡ p.most - 1 - r = omega (arith, up) in
+      let sum = next_rest p.most r (omega (arith, up, low)) in
+      let asks = ap (asks_in p) (rest_at p j up) ∙ ap (rest_asks p.most) index in
+      let now = calls_behind j up in
+      let next = calls_behind (suc j) (omega (arith, up)) ∙ ap (λ n. calls_before k (ElementHead p.most) + rest_calls p.most n) one in
+      omega (arith, sum, asks, now, next)
+
+  up_to : (j : ℕ) → j < elements_size p → calls_to p (suc j) ≡ calls_before k (spot_at p (suc j))
+  up_to j low = elim (cases_lt (suc j) (elements_size p)) [
+    | inl more ↦ calls_at (suc j) more
+    | inr end ↦ end_calls j (omega (arith, low, end))
+  ]
+
+  next_calls : (j : ℕ) → suc j ≤ size_of p → calls_to p (suc j) ≡ calls_to p j + (fold_of p).calls j
+  next_calls j low = elim (cases_lt j (elements_size p)) [
+    | inr up ↦ rest_next j up (behind p j up (omega (arith, low))).1
+    | inl less ↦ (
+        let next = spot_calls j (omega (arith, less)) in
+        let now = calls_at j less in
+        let asks = ap (asks_in p) (element_at p j less) in
+        let to = up_to j less in omega (arith, next, now, asks, to))
+  ]
+
+  pub calls_up : (n from : ℕ) → from + n ≤ size_of p → calls_to p (from + n) ≡ calls_to p from + calls_from (fold_of p).calls from n
   calls_up zero from low = let same : from + 0 ≡ from = omega arith in
-      let none : calls_before k (spot_at p from) ≡ calls_before k (spot_at p from) + 0 = omega arith in
-      ap (λ j. calls_before k (spot_at p j)) same ∙ none
+      let none : calls_to p from ≡ calls_to p from + 0 = omega arith in
+      ap (calls_to p) same ∙ none
   calls_up (suc n) from low =
       let same : from + suc n ≡ suc (from + n) = omega arith in
       let next = next_calls (from + n) (omega (arith, low)) in
       let up = calls_up n from (omega (arith, low)) in
-      ap (λ j. calls_before k (spot_at p j)) same ∙ (omega (arith, next, up))
+      ap (calls_to p) same ∙ (omega (arith, next, up))
 
 -- the nodes from one number to another take what is before the one and not before the other
 pub calls_between : (p : PlainList) (from to : ℕ) → from ≤ to → to ≤ size_of p
-    → calls_before (length p.parts.items) (spot_at p to) ≡ calls_before (length p.parts.items) (spot_at p from) + calls_from (fold_of p).calls from (to - from)
+    → calls_to p to ≡ calls_to p from + calls_from (fold_of p).calls from (to - from)
 calls_between p from to le low =
     let same : from + (to - from) ≡ to = omega (arith, le) in
-    ap (λ j. calls_before (length p.parts.items) (spot_at p j)) (sym same) ∙ calls_up p (to - from) from (omega (arith, le, low))
+    ap (calls_to p) (sym same) ∙ calls_up p (to - from) from (omega (arith, le, low))
 
--- the node behind the last number is the head of an element
-pub one_more : (p : PlainList) (j : ℕ) → j ≤ size_of p → IsIn (length p.parts.items) (p.most + 1) (spot_at p j)
-one_more p j low =
-    let more = mul-suc p.per p.most in
-    let wide = p.width in
-    let same : suc p.most ≡ p.most + 1 = omega arith in
-    subst (λ n. IsIn (length p.parts.items) n (spot_at p j)) same
-    (spot_in_is (length p.parts.items) p.per p.width (suc p.most) j (omega (arith, low, more, wide)))
+-- behind the elements there are no more rests than elements
+pub rests_few : (p : PlainList) (j : ℕ) → j ≤ size_of p → j - elements_size p ≤ p.most
+rests_few p j low = by p.closed low
+  where
+    by : (c : Bool) → j ≤ elements_size p + (if c then p.most else 0) → j - elements_size p ≤ p.most
+    by true h = omega (arith, h)
+    by false h = omega (arith, h)

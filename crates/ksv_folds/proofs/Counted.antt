@@ -11,15 +11,15 @@ use Rattle.ksv_rule_meaning.proofs.Direct.{answers_are_direct}
 use Rattle.ksv_rule_meaning.specs.Direct.{flattened}
 use Rattle.ksv_rule_meaning.specs.FromNothing.{from_nothing}
 use Rattle.ksv_rule_meaning.specs.Heads.{is_past}
-use Rattle.ksv_list_laws.proofs.Common.{◌≡◌, ◌∙◌, ℕ, suc, ◌-◌, ◌<◌, ◌≤◌, false, List, [], Option, Some, None, Ok, refl, sym, ap, subst}
-use Rattle.ksv_list_laws.proofs.Common.{arith, nat_tests, Description, on, described, head_node, Listing, IsPlain}
-use Rattle.ksv_list_laws.specs.Nodes.{IsWhole}
+use Rattle.ksv_list_laws.proofs.Common.{◌≡◌, ◌∙◌, ℕ, suc, ◌-◌, ◌<◌, ◌≤◌, true, false, List, [], Option, Some, None, Ok, refl, sym, ap, subst}
+use Rattle.ksv_list_laws.proofs.Common.{arith, nat_tests, Description, on, described, head_node, Listing, IsPlain, start}
+use Rattle.ksv_list_laws.specs.Nodes.{IsWhole, is_last_at}
 use Rattle.ksv_folds.proofs.Laid.{unnamed, start_is}
-use Rattle.ksv_folds.proofs.Right.{sequences_are_right}
+use Rattle.ksv_folds.proofs.Right.{sequences_are_right, whole_sequences_are_right}
 use Rattle.ksv_memo_rules.specs.Folds.{IsFold}
 use Rattle.ksv_folds.specs.Laws.{Describes}
 use Rattle.ksv_folds.specs.Layouts.{HasLayout, IsOf, AreWhole}
-use Rattle.ksv_folds.specs.Sequence.{fold_of}
+use Rattle.ksv_folds.specs.Sequence.{fold_of, start_of, size_of}
 use Rattle.ksv_folds.specs.declared.plain_list.PlainList.{PlainList}
 
 module _ (p : PlainList) (d : Description) (bytes : List ℕ) (g : lists.List) (n : ℕ) (of : IsOf p g) (has : HasLayout p d g) (all : AreWhole p g bytes n)
@@ -69,9 +69,16 @@ module _ (p : PlainList) (d : Description) (bytes : List ℕ) (g : lists.List) (
     pub count_is : ◌≡◌ (tells (on (described d) bytes) [] p.root).outcome (Answered (Ok (givens.Head (heads.List g))))
         → IsFold (on (described d) bytes) (fold_of p) (p.per * (n - 1))
     unfolding x
-    count_is h =
-        let few = all.few in
-        let most = mul-le-mul_left p.per few in
-        let less : n - 1 ≤ n = omega arith in
-        let low = mul-le-mul_left p.per less in
-        sequences_are_right p d bytes x (plain h) describes (p.per * (n - 1)) (omega (arith, most, low)) (omega arith)
+    count_is h = sequences_are_right p d bytes x (plain h) describes all.few (p.per * (n - 1)) (omega arith)
+
+    pub whole_is : p.closed ≡ true → n ≡ p.most → is_last_at g.count bytes g.stream.to (n - 1) (start_of p n) ≡ true
+        → ◌≡◌ (tells (on (described d) bytes) [] p.root).outcome (Answered (Ok (givens.Head (heads.List g))))
+        → IsFold (on (described d) bytes) (fold_of p) (size_of p)
+    unfolding x
+    whole_is closed every last h =
+        let same : suc (n - 1) ≡ n = omega (arith, some) in
+        whole_sequences_are_right p d bytes x (plain h) describes (record {
+          closed = closed;
+          all = every;
+          last = ap (is_last_at g.count bytes g.stream.to (n - 1)) (ap (start x) same ∙ start_is p x describes n) ∙ last;
+        })

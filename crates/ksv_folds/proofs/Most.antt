@@ -1,6 +1,7 @@
 -- How many elements may have numbers.
 use Rattle.std.proofs.Common.{ℕ, ◌*◌, ◌/◌, ◌<◌, ◌≤◌, arith}
 use Rattle.std.proofs.Math.Nat.{mul-le-mul_left, mul-div-le}
+use Rattle.ksv_folds.specs.Lemmas.Numbers.{elements_some}
 use Rattle.ksv_folds.specs.Sequence.{size_of}
 use Rattle.ksv_folds.specs.declared.plain_list.PlainList.{PlainList}
 
@@ -10,7 +11,4 @@ most_few size all n low = let up = mul-le-mul_left size low in let le = mul-div-
 
 -- there is a node
 pub size_some : (p : PlainList) → 0 < size_of p
-size_some p =
-    let wide = p.width in
-    let any = p.any in
-    let up = mul-le-mul_left {m = 1} {n = p.most} p.per (omega (arith, any)) in omega (arith, wide, up)
+size_some p = let some = elements_some p in omega (arith, some)

@@ -6,7 +6,7 @@ use Rattle.ksv_folds.specs.Lemmas.Parts.{edge_less}
 use Rattle.ksv_folds.proofs.Rooms.{edge_in}
 use Rattle.ksv_folds.specs.Lemmas.Spots.{prior, spot, prior_is, spot_in_is}
 use Rattle.ksv_folds.specs.Parts.{edge}
-use Rattle.ksv_folds.specs.Sequence.{IsIn, start_of, is_open, end_reach, head_reach, reach_of, size_of, spot_at}
+use Rattle.ksv_folds.specs.Sequence.{IsIn, start_of, is_open, end_reach, head_reach, reach_of, elements_size, spot_at}
 use Rattle.ksv_folds.specs.declared.part.Part.{Part}
 use Rattle.ksv_folds.specs.declared.plain_list.PlainList.{PlainList}
 use Rattle.ksv_folds.specs.declared.spot.Spot.{Spot}
@@ -58,13 +58,13 @@ module _ (p : PlainList) where
   abbrev reach_at : ℕ → ℕ
   reach_at j = reach_of p (spot_at p j)
 
-  next_up : (j : ℕ) → suc j < size_of p → reach_at j ≤ reach_at (suc j)
+  next_up : (j : ℕ) → suc j < elements_size p → reach_at j ≤ reach_at (suc j)
   next_up j low =
       let z = prior_is (length ps) p.per p.width p.most j low in
       let up = prior_up (spot p.per (suc j)) (spot_in_is (length ps) p.per p.width p.most (suc j) low) in
       let same = ap (reach_of p) z.1 in omega (arith, up, same)
 
-  more_up : (n i : ℕ) → i + n < size_of p → reach_at i ≤ reach_at (i + n)
+  more_up : (n i : ℕ) → i + n < elements_size p → reach_at i ≤ reach_at (i + n)
   more_up zero i low = let same : i + 0 ≡ i = omega arith in rw same (omega arith)
   more_up (suc n) i low =
       let up = more_up n i (omega (arith, low)) in
@@ -72,7 +72,7 @@ module _ (p : PlainList) where
       let same : i + suc n ≡ suc (i + n) = omega arith in rw same (omega (arith, up, next))
 
   -- later nodes read as far
-  pub reach_up : (i j : ℕ) → i ≤ j → j < size_of p → reach_of p (spot_at p i) ≤ reach_of p (spot_at p j)
+  pub reach_up : (i j : ℕ) → i ≤ j → j < elements_size p → reach_of p (spot_at p i) ≤ reach_of p (spot_at p j)
   reach_up i j le low =
       let same : i + (j - i) ≡ j = omega (arith, le) in
       subst (λ k. reach_at i ≤ reach_at k) same (more_up (j - i) i (omega (arith, le, low)))

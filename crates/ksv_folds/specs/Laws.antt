@@ -1,16 +1,16 @@
 -- The law of sequences: they are as they say.
-use Rattle.std.specs.Prelude.{◌≡◌, ℕ, suc, ◌+◌, ◌-◌, ◌*◌, ◌≤◌, List, length, Option, Some, None}
+use Rattle.std.specs.Prelude.{◌≡◌, ℕ, suc, ◌+◌, ◌-◌, ◌*◌, ◌≤◌, true, List, length, Option, Some, None}
 use Rattle.ksv_desc.specs.Description.{Description}
 use Rattle.ksv_memo_rules.specs.Meaning.{on}
 use Rattle.ksv_nodes.specs.Rule.{head_node}
 use Rattle.ksv_rule_meaning.specs.Described.{described}
 use Rattle.ksv_list_laws.specs.Lists.{Layout, size_at}
-use Rattle.ksv_list_laws.specs.Nodes.{Listing, IsPlain}
+use Rattle.ksv_list_laws.specs.Nodes.{Listing, IsPlain, is_last}
 use Rattle.ksv_folds.specs.declared.part.Part.{Part}
 use Rattle.ksv_folds.specs.declared.plain_list.PlainList.{PlainList}
 use Rattle.ksv_memo_rules.specs.Folds.{IsFold}
 use Rattle.ksv_folds.specs.Parts.{part, edge}
-use Rattle.ksv_folds.specs.Sequence.{fold_of}
+use Rattle.ksv_folds.specs.Sequence.{fold_of, size_of}
 
 -- a field of a layout is this one
 pub record IsField (y : Layout) (ps : List Part) (f : ℕ) : Type 0 where
@@ -34,7 +34,18 @@ pub record Describes (p : PlainList) (x : Listing) : Type 0 where
   pub kind : x.layout.type_number ≡ p.type_number
   pub element : IsElement x.layout p.type_number p.size p.parts.items
 
+-- The list ends with the last element that has a number.
+pub record EndsWith (p : PlainList) (bytes : List ℕ) (x : Listing) : Type 0 where
+  pub closed : p.closed ≡ true
+  pub all : x.count ≡ p.most
+  pub last : is_last bytes x (x.count - 1) ≡ true
+
 -- The nodes of the elements before the last whole one are as the sequence says.
 abbrev pub SequencesAreRight : Type 0
-SequencesAreRight = (p : PlainList) (d : Description) (bytes : List ℕ) (x : Listing) → IsPlain d bytes x → Describes p x → (count : ℕ) → count ≤ p.per * p.most
+SequencesAreRight = (p : PlainList) (d : Description) (bytes : List ℕ) (x : Listing) → IsPlain d bytes x → Describes p x → x.count ≤ p.most → (count : ℕ)
     → count ≤ p.per * (x.count - 1) → IsFold (on (described d) bytes) (fold_of p) count
+
+-- And so are all of them, rests too, where the list ends so.
+abbrev pub WholeSequencesAreRight : Type 0
+WholeSequencesAreRight = (p : PlainList) (d : Description) (bytes : List ℕ) (x : Listing) → IsPlain d bytes x → Describes p x → EndsWith p bytes x
+    → IsFold (on (described d) bytes) (fold_of p) (size_of p)

@@ -1,5 +1,6 @@
 -- Lemmas that a type of the code cites; a reader may skip them.
 pub mod Parts
 pub mod Spots
+pub mod Numbers
 pub mod Found
 pub mod Once

@@ -1,10 +1,14 @@
 -- The sequence of a plain list whose elements are of one size. Each element has its head, the head and the end of each of its fields, and its end, in this
--- order. What is kept of a node follows from the numbers of the list.
-use Rattle.std.specs.Prelude.{◌≡◌, ℕ, zero, suc, ◌+◌, ◌-◌, ◌*◌, ◌/◌, ◌%◌, ◌==◌, ◌<◌, Bool, false, ◌&&◌, not, if◌then◌else◌, length, List, [], ◌∷◌, Option}
+-- order. Behind them are the rests from the last element to the first, where the list is known to end with the last. What is kept of a node follows from the
+-- numbers of the list.
+use Rattle.std.specs.Prelude.{◌≡◌, ℕ, zero, suc, ◌+◌, ◌-◌, ◌*◌, ◌/◌, ◌%◌, ◌==◌, ◌<◌, nat_lt, Bool, true, false, ◌&&◌, not, if◌then◌else◌, length, List, [], ◌∷◌, Option}
 use Rattle.std.specs.Prelude.{Some, None, Result, Ok, is_some, unwrap_or}
+use Rattle.std.specs.List.{list_any}
 use Rattle.std.specs.Option.{option_map, option_and_then}
+use Rattle.ksv_bytes.specs.Uses.{is_use_touched}
+use Rattle.ksv_bytes.specs.declared.uses.Change.TheVariants.{Insert}
 use Rattle.ksv_bytes.specs.declared.uses.Use.{Use}
-use Rattle.ksv_bytes.specs.declared.uses.Use.TheVariants.{Reach}
+use Rattle.ksv_bytes.specs.declared.uses.Use.TheVariants.{Reach, Size}
 use Rattle.ksv_expr_value.specs.Places.{at_byte}
 use Rattle.ksv_expr_value.specs.Trail.{Trail, child}
 use Rattle.ksv_expr_value.specs.declared.fault.Fault.{Fault}
@@ -20,6 +24,8 @@ use Rattle.ksv_nodes.specs.declared.node.Node.{Node}
 use Rattle.ksv_nodes.specs.declared.node.NodeKind.{NodeKind}
 use Rattle.ksv_nodes.specs.declared.node.NodeKind.TheVariants.{Head, End, Value, Rest}
 use Rattle.ksv_folds.specs.declared.plain_list.PlainList.{PlainList}
+use Rattle.ksv_folds.specs.declared.spot.Numbered.{Numbered}
+use Rattle.ksv_folds.specs.declared.spot.Numbered.TheVariants as numbered
 use Rattle.ksv_folds.specs.declared.spot.Spot.{Spot}
 use Rattle.ksv_folds.specs.declared.spot.Spot.TheVariants.{ElementHead, ElementEnd, FieldHead, FieldEnd}
 use Rattle.ksv_memo_rules.specs.Folds.{Fold}
@@ -40,12 +46,29 @@ spot_in per i r = if r == 0 then ElementHead i else if r + 1 == per then Element
 abbrev pub spot_at : PlainList → ℕ → Spot
 spot_at p j = spot_in p.per (j / p.per) (j % p.per)
 
+-- how many nodes all elements have, and so many rests are behind them; and the node of a number
+abbrev pub elements_size : PlainList → ℕ
+elements_size p = p.per * p.most
+
+abbrev pub rests_size : PlainList → ℕ
+rests_size p = if p.closed then p.most else 0
+
+abbrev pub size_of : PlainList → ℕ
+size_of p = elements_size p + rests_size p
+
+abbrev pub numbered_at : PlainList → ℕ → Numbered
+numbered_at p j = if nat_lt j (elements_size p) then numbered.Of (spot_at p j) else numbered.Rest (elements_size p + (p.most - 1) - j)
+
 -- it is of one of the first elements, and of one of its fields
 abbrev pub IsIn : ℕ → ℕ → Spot → Type 0
 IsIn k n (ElementHead i) = i < n
 IsIn k n (ElementEnd i) = i < n
 IsIn k n (FieldHead i f) = (i < n) × (f < k)
 IsIn k n (FieldEnd i f) = (i < n) × (f < k)
+
+abbrev pub IsThere : PlainList → Numbered → Type 0
+IsThere p (numbered.Of s) = IsIn (length p.parts.items) p.most s
+IsThere p (numbered.Rest i) = (p.closed ≡ true) × (i < p.most)
 
 -- ---- the nodes
 
@@ -68,6 +91,13 @@ kind_of (FieldEnd i f) = End
 abbrev pub node_of : PlainList → Spot → Node
 node_of p s = unwrap_or (option_map (λ q. record { kind = kind_of s; path = q }) (path_of p s)) p.root
 
+abbrev pub rest_node : PlainList → ℕ → Node
+rest_node p i = unwrap_or (option_map (λ q. record { kind = Rest; path = q }) (child p.root.path (Index i))) p.root
+
+abbrev pub node_in : PlainList → Numbered → Node
+node_in p (numbered.Of s) = node_of p s
+node_in p (numbered.Rest i) = rest_node p i
+
 -- the steps of its path, from the last to the first
 abbrev pub steps_of : PlainList → Spot → List Step
 steps_of p (ElementHead i) = Index i ∷ p.root.path.upward
@@ -80,6 +110,15 @@ pub record IsAt (p : PlainList) (n : Node) (s : Spot) : Type 0 where
   pub there : IsIn (length p.parts.items) p.most s
   pub kind : n.kind ≡ kind_of s
   pub steps : n.path.upward ≡ steps_of p s
+
+pub record IsRest (p : PlainList) (n : Node) (i : ℕ) : Type 0 where
+  pub there : IsThere p (numbered.Rest i)
+  pub kind : n.kind ≡ Rest
+  pub steps : n.path.upward ≡ Index i ∷ p.root.path.upward
+
+abbrev pub IsNumbered : PlainList → Node → Numbered → Type 0
+IsNumbered p n (numbered.Of s) = IsAt p n s
+IsNumbered p n (numbered.Rest i) = IsRest p n i
 
 -- heads and ends have numbers
 abbrev pub element_spot : NodeKind → ℕ → Option Spot
@@ -100,6 +139,10 @@ index per (ElementHead i) = per * i
 index per (ElementEnd i) = per * i + (per - 1)
 index per (FieldHead i f) = per * i + (2 * f + 1)
 index per (FieldEnd i f) = per * i + (2 * f + 2)
+
+abbrev pub number_of : PlainList → Numbered → ℕ
+number_of p (numbered.Of s) = index p.per s
+number_of p (numbered.Rest i) = elements_size p + (p.most - 1 - i)
 
 -- ---- what they answer
 
@@ -126,11 +169,19 @@ field_origin p f = record {
   home = p.list.stream;
 }
 
+-- the list is known to end with this element
+abbrev pub is_closing : PlainList → ℕ → Bool
+is_closing p i = p.closed && i + 1 == p.most
+
 abbrev pub answer_of : PlainList → Spot → Given
 answer_of p (ElementHead i) = element_answer p p.type_number i
-answer_of p (ElementEnd i) = givens.End (at_byte (start_of p (suc i))) false
+answer_of p (ElementEnd i) = givens.End (at_byte (start_of p (suc i))) (is_closing p i)
 answer_of p (FieldHead i f) = leaf (field_origin p f) (edge_of p i f) (edge_of p i (suc f))
 answer_of p (FieldEnd i f) = givens.End (at_byte (edge_of p i (suc f))) false
+
+abbrev pub answer_in : PlainList → Numbered → Given
+answer_in p (numbered.Of s) = answer_of p s
+answer_in p (numbered.Rest i) = givens.Rest p.most (at_byte (start_of p p.most))
 
 -- ---- what they use
 
@@ -161,6 +212,20 @@ reach_of p (FieldEnd i f) = edge_of p i (suc f)
 abbrev pub uses_of : ℕ → List Use
 uses_of z = if z == 0 then [] else Reach z ∷ []
 
+-- where a list that goes on to the file's end ends is known by the file's size
+abbrev pub spot_uses : PlainList → Spot → List Use
+spot_uses p (ElementEnd i) = if is_open p && is_closing p i then Size ∷ [] else uses_of (end_reach p (start_of p (suc i)))
+spot_uses p s = uses_of (reach_of p s)
+
+-- rests use what the last end does
+abbrev pub uses_in : PlainList → Numbered → List Use
+uses_in p (numbered.Of s) = spot_uses p s
+uses_in p (numbered.Rest i) = spot_uses p (ElementEnd (p.most - 1))
+
+-- an insert or a delete at a place touches one of these uses
+abbrev pub is_read_past : ℕ → List Use → Bool
+is_read_past at us = list_any (is_use_touched (Insert at 0)) us
+
 -- ---- what they take
 
 -- the nodes that are asked: the list and the end of the element before; of a field's head the element and the end of the field before; of a field's end
@@ -179,6 +244,14 @@ asks_of p (ElementEnd i) = 1 + last_asked p.parts.items
 asks_of p (FieldHead i f) = 1 + asked_before f
 asks_of p (FieldEnd i f) = 1
 
+-- of a rest the end of its element, the rest from the next one on, and of the first one the list
+abbrev pub rest_asks : ℕ → ℕ → ℕ
+rest_asks most i = 1 + (if i + 1 == most then 0 else 1) + (if i == 0 then 1 else 0)
+
+abbrev pub asks_in : PlainList → Numbered → ℕ
+asks_in p (numbered.Of s) = asks_of p s
+asks_in p (numbered.Rest i) = rest_asks p.most i
+
 -- the calls of all nodes before one, where each element has so many fields
 abbrev pub calls_before : ℕ → Spot → ℕ
 calls_before k (ElementHead i) = (5 * k + 6) * i - asked_before i
@@ -186,18 +259,25 @@ calls_before k (ElementEnd i) = (5 * k + 6) * i + (2 + (5 * k - asked_before k))
 calls_before k (FieldHead i f) = (5 * k + 6) * i + (2 + (5 * f - asked_before f))
 calls_before k (FieldEnd i f) = (5 * k + 6) * i + (4 + 5 * f)
 
+-- the calls of the last rests, of so many in all
+abbrev pub rest_calls : ℕ → ℕ → ℕ
+rest_calls most zero = 0
+rest_calls most (suc n) = 3 * n + (if suc n == most then 3 else 2)
+
+abbrev pub calls_to : PlainList → ℕ → ℕ
+calls_to p j =
+    if nat_lt j (elements_size p) then calls_before (length p.parts.items) (spot_at p j)
+    else calls_before (length p.parts.items) (ElementHead p.most) + rest_calls p.most (j - elements_size p)
+
 -- ---- the sequence
 
-abbrev pub entry_of : PlainList → Spot → Entry Node (Result Given Fault)
-entry_of p s = record { node = node_of p s; answer = Ok (answer_of p s); asked = p.root ∷ []; uses = uses_of (reach_of p s) }
-
-abbrev pub size_of : PlainList → ℕ
-size_of p = p.per * p.most
+abbrev pub entry_of : PlainList → Numbered → Entry Node (Result Given Fault)
+entry_of p s = record { node = node_in p s; answer = Ok (answer_in p s); asked = p.root ∷ []; uses = uses_in p s }
 
 abbrev pub fold_of : PlainList → Fold Node (Result Given Fault)
 fold_of p = record {
   root = p.root;
   size = size_of p;
-  entry = λ j. entry_of p (spot_at p j);
-  calls = λ j. asks_of p (spot_at p j) + 1;
+  entry = λ j. entry_of p (numbered_at p j);
+  calls = λ j. asks_in p (numbered_at p j) + 1;
 }

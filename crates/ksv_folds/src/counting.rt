@@ -1,7 +1,7 @@
 //! How many nodes the sequence has over some bytes.
 #![tactic(auto)]
 
-ghost use Rattle.std.specs.Prelude.{◌≡◌, ◌+◌, ◌*◌, ◌<◌, ◌≤◌, true, [], Ok, IfSome};
+ghost use Rattle.std.specs.Prelude.{◌≡◌, ◌-◌, ◌<◌, ◌≤◌, true, [], Ok, IfSome};
 ghost use Rattle.ksv_desc.specs.Whole.{plain_pieces};
 ghost use Rattle.ksv_memo_rules.specs.Evaluation.{tells};
 ghost use Rattle.ksv_memo_rules.specs.Meaning.{on};
@@ -11,8 +11,9 @@ ghost use Rattle.ksv_nodes.specs.declared.given.Given.TheVariants as givens;
 ghost use Rattle.ksv_nodes.specs.declared.given.Head.TheVariants as heads;
 ghost use Rattle.ksv_rule_meaning.specs.Described.{described};
 ghost use Rattle.ksv_memo_rules.specs.Folds.{IsFold};
+ghost use Rattle.ksv_list_laws.specs.Nodes.{is_last_at};
 ghost use Rattle.ksv_folds.specs.Layouts.{IsOf, AreWhole};
-ghost use Rattle.ksv_folds.specs.Sequence.{fold_of};
+ghost use Rattle.ksv_folds.specs.Sequence.{fold_of, start_of, size_of};
 
 use crate::plain_list::PlainList;
 use crate::same::{is_head, same_list, same_object};
@@ -55,7 +56,7 @@ impl PlainList {
     }
 
     /// How many elements are whole.
-    fn whole_elements(&self, list: &List, bytes: &Buffer) -> u32
+    pub(crate) fn whole_elements(&self, list: &List, bytes: &Buffer) -> u32
         ensures { AreWhole self.now list.now bytes.now result }
     {
         let length = bytes.len();
@@ -73,6 +74,26 @@ impl PlainList {
         }
     }
 
+    /// Whether a list of so many elements ends with the last of them, where these are whole.
+    pub(crate) fn ends_with(&self, list: &List, bytes: &Buffer, elements: u32) -> bool
+        requires some { 0 < elements }
+        requires few { elements ≤ self.now.most }
+        ensures { result ≡ is_last_at list.now.count bytes.now list.now.stream.to (elements - 1) (start_of self.now elements) }
+    {
+        match list.count.get() {
+            Some(count) => count == elements,
+            None => end_of(list.stream.to, bytes) <= self.start(elements) as usize,
+        }
+    }
+
+    /// How many nodes there are of elements and of rests.
+    fn size(&self) -> u32
+        requires { self.now.closed ≡ true }
+        ensures { result ≡ size_of self.now }
+    {
+        self.elements_size() + self.most
+    }
+
     /// How many nodes the sequence has over these bytes, where the list's head still gives this list.
     fn count_in(&self, desc: &Desc, list: &List, bytes: &Buffer) -> u32
         ensures { (tells (on (described (plain_pieces desc.now)) bytes.now) [] (fold_of self.now).root).outcome ≡ Answered (Ok (givens.Head (heads.List list.now))) → IsFold (on (described (plain_pieces desc.now)) bytes.now) (fold_of self.now) result }
@@ -83,6 +104,9 @@ impl PlainList {
         let whole = self.whole_elements(list, bytes);
         if whole == 0 {
             return 0;
+        }
+        if self.closed && whole == self.most && self.ends_with(list, bytes, whole) {
+            return self.size();
         }
         self.per * (whole - 1)
     }

@@ -3,10 +3,12 @@
 
 ghost use Rattle.std.specs.Prelude.{◌≡◌, ◌+◌, ◌<◌, ◌≤◌, suc, length};
 ghost use Rattle.ksv_expr_value.specs.Places.{end_limit};
-ghost use Rattle.ksv_folds.specs.Sequence.{IsIn, leaf, element_answer, field_origin, answer_of, is_open, start_of, end_reach, prior_reach, head_reach, reach_of};
+ghost use Rattle.ksv_memo_rules.specs.Folds.{used_of};
+ghost use Rattle.ksv_folds.specs.Sequence.{IsIn, IsThere, leaf, element_answer, field_origin, answer_of, answer_in, is_closing, is_open, start_of, end_reach, prior_reach, head_reach, reach_of, spot_uses, uses_in};
 
 use crate::plain_list::PlainList;
-use crate::spot::Spot;
+use crate::spot::{Numbered, Spot};
+use ksv_bytes::Use;
 use ksv_expr_value::Place;
 use ksv_nodes::{CaseNumber, Given, Head, Leaf, MemberRef, Object, ObjectEnd, Origin};
 
@@ -76,27 +78,49 @@ impl PlainList {
         leaf(self.field_origin(field), from, to)
     }
 
-    /// What a node answers.
-    pub(crate) fn answer_of(&self, spot: Spot) -> Given
+    /// Whether the list is known to end with an element.
+    fn is_closing(&self, element: u32) -> bool
+        requires { element < self.now.most }
+        ensures { result ≡ is_closing self.now element }
+    {
+        self.closed && element + 1 == self.most
+    }
+
+    /// What a node of an element answers.
+    fn answer_of(&self, spot: Spot) -> Given
         requires { IsIn (length self.now.parts.items) self.now.most spot }
         ensures { result ≡ answer_of self.now spot }
     {
-        let to = match spot {
+        let (to, last) = match spot {
             Spot::ElementHead(element) => return self.element_answer(element),
             Spot::FieldHead(element, field) => return self.field_answer(element, field),
-            Spot::ElementEnd(element) => self.start(element + 1),
-            Spot::FieldEnd(element, field) => self.edge_at(element, field + 1),
+            Spot::ElementEnd(element) => (self.start(element + 1), self.is_closing(element)),
+            Spot::FieldEnd(element, field) => (self.edge_at(element, field + 1), false),
         };
         Given::End {
             place: Place::at_byte(to),
-            last: false,
+            last,
+        }
+    }
+
+    /// What a node answers.
+    pub(crate) fn answer_in(&self, numbered: Numbered) -> Given
+        requires { IsThere self.now numbered }
+        ensures { result ≡ answer_in self.now numbered }
+    {
+        match numbered {
+            Numbered::Of(spot) => self.answer_of(spot),
+            Numbered::Rest(_) => Given::Rest {
+                count: self.most,
+                place: Place::at_byte(self.start(self.most)),
+            },
         }
     }
 
     // ---- uses
 
     /// Whether an element is the last one depends on the byte behind it.
-    fn is_open(&self) -> bool
+    pub(crate) fn is_open(&self) -> bool
         ensures { result ≡ is_open self.now }
     {
         self.list.count.get().is_none() && self.list.stream.to.get().is_none()
@@ -145,6 +169,37 @@ impl PlainList {
             Spot::FieldHead(element, field) | Spot::FieldEnd(element, field) => {
                 self.edge_at(element, field + 1)
             }
+        }
+    }
+
+    /// What a node of an element uses.
+    fn spot_used(&self, spot: Spot) -> Option<Use>
+        requires { IsIn (length self.now.parts.items) self.now.most spot }
+        ensures { spot_uses self.now spot ≡ used_of result }
+    {
+        let is_sized = match spot {
+            Spot::ElementEnd(element) => self.is_open() && self.is_closing(element),
+            Spot::ElementHead(_) | Spot::FieldHead(_, _) | Spot::FieldEnd(_, _) => false,
+        };
+        if is_sized {
+            return Some(Use::Size);
+        }
+        let reach = self.reach_of(spot);
+        if reach == 0 {
+            None
+        } else {
+            Some(Use::Reach(reach))
+        }
+    }
+
+    /// What a node uses: a rest what the last end does.
+    pub(crate) fn used_in(&self, numbered: Numbered) -> Option<Use>
+        requires { IsThere self.now numbered }
+        ensures { uses_in self.now numbered ≡ used_of result }
+    {
+        match numbered {
+            Numbered::Of(spot) => self.spot_used(spot),
+            Numbered::Rest(_) => self.spot_used(Spot::ElementEnd(self.most - 1)),
         }
     }
 }

@@ -3,11 +3,12 @@
 
 ghost use Rattle.std.specs.Prelude.{◌≡◌, ◌<◌, ℕ, length, IfSome, IfNone};
 ghost use Rattle.ksv_folds.specs.Parts.{part};
-ghost use Rattle.ksv_folds.specs.Sequence.{IsIn, IsAt, element_spot, member_spot, index, size_of};
+ghost use Rattle.ksv_folds.specs.Sequence.{IsIn, IsAt, IsRest, IsThere, IsNumbered, element_spot, member_spot, index, number_of, elements_size, size_of};
+ghost use Rattle.ksv_folds.specs.declared.spot.Numbered.{Numbered};
 ghost use Rattle.ksv_folds.specs.declared.spot.Spot.{Spot};
 
 use crate::plain_list::PlainList;
-use crate::spot::Spot;
+use crate::spot::{Numbered, Spot};
 use crate::tail::{Tail, tail_of};
 use ksv_nodes::{Node, NodeKind};
 
@@ -49,8 +50,8 @@ impl PlainList {
         None
     }
 
-    /// Which node this is.
-    pub(crate) fn spot_for(&self, node: &Node) -> Option<Spot>
+    /// Which node of an element this is.
+    fn spot_for(&self, node: &Node) -> Option<Spot>
         ensures some { IfSome result (IsAt self.now node.now) }
         ensures none { IfNone result ((s : Spot) → IsAt self.now node.now s → ⊥) }
     {
@@ -72,17 +73,64 @@ impl PlainList {
         }
     }
 
+    /// From which element on it is a rest.
+    fn rest_for(&self, node: &Node) -> Option<u32>
+        ensures some { IfSome result (IsRest self.now node.now) }
+        ensures none { IfNone result ((i : ℕ) → IsRest self.now node.now i → ⊥) }
+    {
+        match node.kind {
+            NodeKind::Rest => {}
+            NodeKind::Head | NodeKind::End | NodeKind::Value => return None,
+        }
+        match tail_of(&node.path, &self.root.path) {
+            Tail::Element(element) => {
+                if !self.closed || element >= self.most {
+                    return None;
+                }
+                Some(element)
+            }
+            Tail::Other | Tail::Member(_, _) => None,
+        }
+    }
+
+    /// Which node this is.
+    pub(crate) fn numbered_for(&self, node: &Node) -> Option<Numbered>
+        ensures some { IfSome result (IsNumbered self.now node.now) }
+        ensures none { IfNone result ((s : Numbered) → IsNumbered self.now node.now s → ⊥) }
+    {
+        match self.spot_for(node) {
+            Some(spot) => Some(Numbered::Of(spot)),
+            None => match self.rest_for(node) {
+                Some(element) => Some(Numbered::Rest(element)),
+                None => None,
+            },
+        }
+    }
+
     /// The number of a node of an element.
-    pub(crate) fn index(&self, spot: Spot) -> u32
+    fn index(&self, spot: Spot) -> u32
         requires { IsIn (length self.now.parts.items) self.now.most spot }
         ensures value { result ≡ index self.now.per spot }
-        ensures small { result < size_of self.now }
+        ensures small { result < elements_size self.now }
     {
         match spot {
             Spot::ElementHead(element) => self.per * element,
             Spot::ElementEnd(element) => self.per * element + (self.per - 1),
             Spot::FieldHead(element, field) => self.per * element + (2 * field + 1),
             Spot::FieldEnd(element, field) => self.per * element + (2 * field + 2),
+        }
+    }
+
+    /// The number of a node.
+    #[tactic(auto, using(crate::specs::Lemmas::Numbers::number_low))]
+    pub(crate) fn number(&self, numbered: Numbered) -> u32
+        requires { IsThere self.now numbered }
+        ensures value { result ≡ number_of self.now numbered }
+        ensures small { result < size_of self.now }
+    {
+        match numbered {
+            Numbered::Of(spot) => self.index(spot),
+            Numbered::Rest(element) => self.elements_size() + (self.most - 1 - element),
         }
     }
 }

@@ -21,36 +21,32 @@ impl Folds<Node, Given, Fault> for PlainList {
     }
 
     fn place(&self, node: &Node) -> Option<u32> {
-        match self.spot_for(node) {
-            Some(spot) => Some(self.index(spot)),
+        match self.numbered_for(node) {
+            Some(numbered) => Some(self.number(numbered)),
             None => None,
         }
     }
 
     #[tactic(auto, using(crate::proofs::Most::size_some))]
     fn answer(&self, _alloc: Global, place: u32) -> Result<Given, AllocError> {
-        Ok(self.answer_of(self.spot(place)))
+        Ok(self.answer_in(self.numbered(place)))
     }
 
     #[tactic(auto, using(crate::proofs::Most::size_some))]
     fn used(&self, place: u32) -> Option<Use> {
-        let reach = self.reach_of(self.spot(place));
-        if reach == 0 {
-            None
-        } else {
-            Some(Use::Reach(reach))
-        }
+        self.used_in(self.numbered(place))
     }
 
     fn left(&self, kept: u32, change: Change) -> u32 {
         match change {
-            Change::Insert { at, .. } | Change::Delete { at, .. } => self.border(kept, at),
-            Change::Overwrite { .. } | Change::Append => kept,
+            Change::Insert { at, .. } | Change::Delete { at, .. } => self.left_at(kept, at),
+            Change::Append => self.left_behind(kept),
+            Change::Overwrite { .. } => kept,
         }
     }
 
-    #[tactic(auto, using(crate::proofs::Adding::calls_between, crate::proofs::Adding::one_more))]
+    #[tactic(auto, using(crate::proofs::Adding::calls_between))]
     fn calls(&self, from: u32, to: u32) -> u64 {
-        self.calls_before(self.spot(to)) - self.calls_before(self.spot(from))
+        self.calls_to(to) - self.calls_to(from)
     }
 }

@@ -1,24 +1,27 @@
-//! Which nodes of a sequence read no farther than to a place.
+//! Which nodes of a sequence an edit leaves.
 #![tactic(auto)]
 
-ghost use Rattle.std.specs.Prelude.{◌≡◌, ◌<◌, ◌≤◌, ℕ, nat_lt};
-ghost use Rattle.ksv_folds.specs.Sequence.{spot_at, reach_of, size_of};
+ghost use Rattle.std.specs.Prelude.{◌≡◌, ◌<◌, ◌≤◌, ◌&&◌, ℕ, nat_lt, true, false};
+ghost use Rattle.ksv_bytes.specs.declared.uses.Change.TheVariants.{Append};
+ghost use Rattle.ksv_memo_rules.specs.Folds.{Leaves};
+ghost use Rattle.ksv_folds.specs.Sequence.{spot_at, numbered_at, reach_of, uses_in, is_open, is_read_past, elements_size, size_of, fold_of};
 
 use crate::plain_list::PlainList;
 
 impl PlainList {
-    /// Whether the node of a number reads farther than to a place.
+    /// Whether the node of a number, which is of an element, reads farther than to a place.
     fn reads_past(&self, place: u32, at: usize) -> bool
-        requires { place < size_of self.now }
+        requires { place < elements_size self.now }
         ensures { result ≡ nat_lt at (reach_of self.now (spot_at self.now place)) }
     {
         at < self.reach_of(self.spot(place)) as usize
     }
 
-    /// How many of the first nodes read no farther than to a place. Later nodes read as far as earlier ones, so the number is halved.
+    /// How many of the first nodes, which are of elements, read no farther than to a place. Later nodes read as far as earlier ones, so the
+    /// number is halved.
     #[tactic(auto, using(crate::proofs::Reaches::reach_up))]
-    pub(crate) fn border(&self, kept: u32, at: usize) -> u32
-        requires { kept ≤ size_of self.now }
+    fn border(&self, kept: u32, at: usize) -> u32
+        requires { kept ≤ elements_size self.now }
         ensures within { result ≤ kept }
         ensures stays { (j : ℕ) → j < result → reach_of self.now (spot_at self.now j) ≤ at }
         ensures goes { (j : ℕ) → result ≤ j → j < kept → at < reach_of self.now (spot_at self.now j) }
@@ -34,5 +37,39 @@ impl PlainList {
             }
         }
         low
+    }
+
+    /// Whether the file's size tells where the list ends. The last end uses it, and all rests.
+    fn ends_with_file(&self) -> bool
+        ensures { result ≡ (is_open self.now && self.now.closed) }
+    {
+        self.is_open() && self.closed
+    }
+
+    /// How many of the first nodes an insert or a delete at a place leaves.
+    pub(crate) fn left_at(&self, kept: u32, at: usize) -> u32
+        requires { kept ≤ size_of self.now }
+        ensures within { result ≤ kept }
+        ensures stays { (j : ℕ) → j < result → is_read_past at (uses_in self.now (numbered_at self.now j)) ≡ false }
+        ensures goes { (j : ℕ) → result ≤ j → j < kept → is_read_past at (uses_in self.now (numbered_at self.now j)) ≡ true }
+    {
+        let elements = self.elements_size();
+        if self.ends_with_file() {
+            return self.border(kept.min(elements - 1), at);
+        }
+        let near = self.border(kept.min(elements), at);
+        if near < elements { near } else { kept }
+    }
+
+    /// How many of the first nodes an append leaves.
+    pub(crate) fn left_behind(&self, kept: u32) -> u32
+        requires { kept ≤ size_of self.now }
+        ensures { Leaves (fold_of self.now) Append kept result }
+    {
+        if self.ends_with_file() {
+            kept.min(self.elements_size() - 1)
+        } else {
+            kept
+        }
     }
 }

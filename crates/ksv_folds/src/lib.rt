@@ -18,7 +18,8 @@
 //! ```
 //!
 //! an element has six nodes: its head, the head and the end of `x`, those of `y`, and its end. In the file `01 02 03 04 05 06` the
-//! end of the second point has the number 11, and the sequence has the nodes up to that one: of the last point no node is in it.
+//! end of the last point has the number 17, and the sequence goes on with the rests: 18 is that from the last point on, and 20 that
+//! of the whole list. Behind an append the list ends elsewhere: then the sequence has the nodes up to the end of the second point.
 //!
 //! To prove the crate:
 //!
@@ -35,7 +36,7 @@
 //! - `folds`: the nodes, for an engine that keeps them by numbers alone
 //! - `laws`: the law, as a contract
 //! - `layout`: whether the description says what a list's numbers say
-//! - `leaving`: which nodes read no farther than to a place
+//! - `leaving`: which nodes an edit leaves
 //! - `making`: finds the numbers of a list
 //! - `numbers`: which node a number is of, and where elements and fields are
 //! - `part`: the fields of an element
@@ -48,7 +49,7 @@
 //!
 //! - `Laws`: the law's statement
 //! - `Layouts`: what the code finds of the layout of a list's elements
-//! - `Lemmas`: lemmas that a reader may skip: each node comes once; parts, spots, and what is found
+//! - `Lemmas`: lemmas that a reader may skip: each node comes once; parts, spots, numbers, and what is found
 //! - `Parts`: the fields of an element, by numbers
 //! - `Sequence`: the sequence of a plain list
 //! - `Tails`: what a path is to a list
@@ -57,8 +58,10 @@
 //!
 //! - `Adding`: the calls of the nodes of a sequence, added up
 //! - `Asked`: what nodes ask, by their numbers
-//! - `Counted`: the nodes before the last whole element are those that are counted
+//! - `Counted`: the nodes that are counted are as the sequence says
+//! - `Covered`: of which elements the nodes are told
 //! - `Laid`: where elements and fields are, by the numbers of the list
+//! - `Edits`: which nodes an insert, a delete or an append takes
 //! - `Most`: how many elements may have numbers
 //! - `Plain`: what the code found is a plain list's layout
 //! - `Reaches`: nodes read farther and farther

@@ -12,6 +12,7 @@ ghost use Rattle.ksv_folds.specs.Sequence.{fold_of};
 use crate::layout::{choice_size, content_size};
 use crate::part::Part;
 use crate::plain_list::PlainList;
+use ksv_bytes::Buffer;
 use ksv_desc::{Choice, Content, Desc, Field, MemberKind};
 use ksv_nodes::{CaseNumber, ELEMENT_LIMIT, Given, Head, List, Node, ObjectOrigin, Origin};
 use ksv_rule_meaning::members_of;
@@ -135,14 +136,14 @@ fn have_own_names(parts: &[Part]) -> bool
 #[tactic(auto, using(crate::proofs::Most::most_few))]
 fn most_of(first: u32, size: u32, per: u32) -> u32
     requires some { 0 < size }
-    requires nodes { 0 < per }
+    requires nodes { per < 2 ^ 30 }
     requires first { first ≤ end_limit }
     ensures few { result ≤ element_limit }
     ensures room { first + size * result ≤ end_limit }
-    ensures numbered { per * result < 2 ^ 32 }
+    ensures numbered { (per + 1) * result < 2 ^ 32 }
 {
     let room = (LAST_BYTE - first) / size;
-    let numbers = 0xffff_ffff / per;
+    let numbers = 0xffff_ffff / (per + 1);
     let fewer = if room < numbers { room } else { numbers };
     if fewer < ELEMENT_LIMIT {
         fewer
@@ -193,6 +194,7 @@ fn numbered(
         parts,
         per,
         most,
+        closed: false,
     }))
 }
 
@@ -202,6 +204,7 @@ fn of_list(
     desc: &Desc,
     root: &Node,
     list: &List,
+    bytes: &Buffer,
 ) -> Result<Option<PlainList>, AllocError>
     ensures root { IfOk result (λ found. IfSome found (λ p. p.root ≡ root.now)) }
     ensures found { IfOk result (λ found. IfSome found (λ p. IsOf p list.now × HasLayout p (plain_pieces desc.now) list.now)) }
@@ -213,9 +216,10 @@ fn of_list(
     let Some(element) = element_of(alloc, desc, field)? else {
         return Ok(None);
     };
-    let Some(found) = numbered(alloc, root, list, element)? else {
+    let Some(mut found) = numbered(alloc, root, list, element)? else {
         return Ok(None);
     };
+    found.close(list, bytes);
     if !found.is_of(list) || !found.has_layout(desc, list) {
         return Ok(None);
     }
@@ -223,18 +227,31 @@ fn of_list(
 }
 
 impl PlainList {
-    /// The numbers of the list whose head gave this, if it is plain and its elements are of one size.
+    /// All elements that are whole have numbers, and no others, if the list ends with the last of them.
+    fn close(&mut self, list: &List, bytes: &Buffer)
+        ensures { self.new.root ≡ self.old.root }
+    {
+        let whole = self.whole_elements(list, bytes);
+        if whole == 0 || !self.ends_with(list, bytes, whole) {
+            return;
+        }
+        self.most = whole;
+        self.closed = true;
+    }
+
+    /// The numbers of the list whose head gave this over these bytes, if it is plain and its elements are of one size.
     pub fn of(
         alloc: Global,
         desc: &Desc,
         root: &Node,
         given: &Given,
+        bytes: &Buffer,
     ) -> Result<Option<PlainList>, AllocError>
         ensures root { IfOk result (λ found. IfSome found (λ p. (fold_of p).root ≡ root.now)) }
         ensures found { IfOk result (λ found. IfSome found (λ p. IsFound p (plain_pieces desc.now) given.now)) }
     {
         match given {
-            Given::Head(Head::List(list)) => of_list(alloc, desc, root, list),
+            Given::Head(Head::List(list)) => of_list(alloc, desc, root, list, bytes),
             _ => Ok(None),
         }
     }

@@ -4,11 +4,11 @@
 ghost use Rattle.std.specs.Prelude.{◌≡◌, ◌<◌, ◌≤◌, length};
 ghost use Rattle.ksv_expr_value.specs.Places.{end_limit};
 ghost use Rattle.ksv_folds.specs.Parts.{part, edge};
-ghost use Rattle.ksv_folds.specs.Sequence.{field_spot, spot_at, IsIn, start_of, edge_of, size_of};
+ghost use Rattle.ksv_folds.specs.Sequence.{field_spot, spot_at, numbered_at, IsIn, IsThere, start_of, edge_of, elements_size, size_of};
 
 use crate::part::Part;
 use crate::plain_list::PlainList;
-use crate::spot::Spot;
+use crate::spot::{Numbered, Spot};
 
 /// A field's head or its end.
 fn field_spot(element: u32, field: u32, half: u32) -> Spot
@@ -22,10 +22,17 @@ fn field_spot(element: u32, field: u32, half: u32) -> Spot
 }
 
 impl PlainList {
-    /// Which node has this number.
+    /// How many nodes all elements have.
+    pub(crate) fn elements_size(&self) -> u32
+        ensures { result ≡ elements_size self.now }
+    {
+        self.per * self.most
+    }
+
+    /// Which node has this number, where it is of an element.
     pub(crate) fn spot(&self, place: u32) -> Spot
         ensures value { result ≡ spot_at self.now place }
-        ensures is_in { place < size_of self.now → IsIn (length self.now.parts.items) self.now.most result }
+        ensures is_in { place < elements_size self.now → IsIn (length self.now.parts.items) self.now.most result }
     {
         let element = place / self.per;
         let rest = place % self.per;
@@ -35,6 +42,21 @@ impl PlainList {
             Spot::ElementEnd(element)
         } else {
             field_spot(element, (rest - 1) / 2, (rest - 1) % 2)
+        }
+    }
+
+    /// Which node has this number.
+    #[tactic(auto, using(crate::specs::Lemmas::Numbers::numbered_there))]
+    pub(crate) fn numbered(&self, place: u32) -> Numbered
+        requires { place < size_of self.now }
+        ensures value { result ≡ numbered_at self.now place }
+        ensures there { IsThere self.now result }
+    {
+        let elements = self.elements_size();
+        if place < elements {
+            Numbered::Of(self.spot(place))
+        } else {
+            Numbered::Rest(elements + (self.most - 1) - place)
         }
     }
 

@@ -29,6 +29,8 @@ pub struct PlainList {
     pub(crate) per: u32,
     /// How many elements have numbers.
     pub(crate) most: u32,
+    /// Whether these were all elements of the list as this was made: then rests have numbers too.
+    pub(crate) closed: bool,
     ghost short: { length root.path.upward < 63 },
     ghost some: { 0 < size },
     ghost width: { per ≡ 2 + 2 * length parts.items },
@@ -37,5 +39,5 @@ pub struct PlainList {
     ghost any: { 0 < most },
     ghost few: { most ≤ element_limit },
     ghost room: { first + size * most ≤ end_limit },
-    ghost numbered: { per * most < 2 ^ 32 },
+    ghost numbered: { (per + 1) * most < 2 ^ 32 },
 }

@@ -12,3 +12,12 @@ pub(crate) enum Spot {
     /// Its end.
     FieldEnd(u32, u32),
 }
+
+/// A node that has a number.
+#[derive(Clone, Copy)]
+pub(crate) enum Numbered {
+    /// A node of an element.
+    Of(Spot),
+    /// The rest of the list from the element of this index on.
+    Rest(u32),
+}

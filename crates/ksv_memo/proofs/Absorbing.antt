@@ -223,9 +223,11 @@ module _ {N V F S : Type 0} (eq : N → N → Bool) (laws : IsEquivalence eq) (e
         by (o ∷ st) is one true c = all o st is one c.0 (λ P is_all. subst (AllByRecursion (λ w. P w.node)) (sym c.1) (apart-heard P o.node (Ok v) st is_all))
         by (o ∷ st) is one false c = all o st is one c.0 (λ P is_all. subst (AllByRecursion (λ w. P w.node)) (sym c.1) is_all)
 
-    pub absorbs-heard : (st : List (Open N (Result V F))) → ClosesAs (fold run.nodes) place v true st old new → IsHeard (Ok v) st new.opened
-    absorbs-heard [] c = c
-    absorbs-heard (o ∷ st) c = c.1
+-- the answer of its number is what it has
+pub next-answer : {N A S : Type 0} (fold : S → Fold N A) (run : Run S) (place : ℕ) (a : A) (st : List (Open N A)) → IsNext fold run place a st
+    → ((fold run.nodes).entry place).answer ≡ a
+next-answer fold run place a [] next = absurd next
+next-answer fold run place a (o ∷ st) next = next.answer
 
 -- ---- with the answer that the last open node has
 module _ {N A S : Type 0} (q : Asking N A) (fold : S → Fold N A) (run : Run S) (old : Nodes N A) (h : IsFolding q.eq fold (Some run) old) (a : A)
@@ -334,7 +336,11 @@ module _ {N A S : Type 0} (q : Asking N A) (fold : S → Fold N A) (was run : Ru
             (subst (λ st. MayKeep a st view.kept now.kept) opened-mid (subst (λ es. MayKeep a mid.opened es now.kept) kept-mid may_be))) c.2,
       )
 
-  -- or as the next one
+  -- or as the next one, with the answer of its number
+  pub next-mid : (place : ℕ) → IsNext fold run place a old.opened → IsNext fold run place ((fold run.nodes).entry place).answer mid.opened
+  next-mid place next = subst (IsNext fold run place ((fold run.nodes).entry place).answer) (sym opened-mid)
+      (subst (λ b. IsNext fold run place b old.opened) (sym (next-answer fold run place a old.opened next)) next)
+
   module _ (place : ℕ) (next : IsNext fold run place a old.opened)
       (right : IsRight q.world ((viewed q.eq fold (Some was) old).kept ++ (fold run.nodes).entry place ∷ [])) (last : Run S) (new : Tabled N A) where
     abbrev whole : Tabled N A
@@ -362,10 +368,12 @@ module _ {N A S : Type 0} (q : Asking N A) (fold : S → Fold N A) (was run : Ru
     both (Err refused) put heard = tt
 
     pub nexts-beside : {E : Type 0} (r : Result (Unit {0}) E) → OnOk r (IsPut e (viewed q.eq fold (Some run) mid).kept now.kept)
-        → OnOk r (IsHeard a mid.opened new.opened) → OnErr r (MayPut e (viewed q.eq fold (Some run) mid).kept now.kept)
+        → OnOk r (IsHeard e.answer mid.opened new.opened) → OnErr r (MayPut e (viewed q.eq fold (Some run) mid).kept now.kept)
         → OnOk r (ClosesRight q.world a old.opened (nodes whole) (nodes now)) × OnErr r (MayKeepRight q.world a old.opened whole.kept now.kept)
     nexts-beside r put heard may = (
-      both r (subst (λ es. OnOk r (IsPut e es now.kept)) kept-mid put) (subst (λ st. OnOk r (IsHeard a st new.opened)) opened-mid heard),
+      both r (subst (λ es. OnOk r (IsPut e es now.kept)) kept-mid put)
+          (subst (λ b. OnOk r (IsHeard b old.opened new.opened)) (next-answer fold run place a old.opened next)
+          (subst (λ st. OnOk r (IsHeard e.answer st new.opened)) opened-mid heard)),
       on_err_weaker r (may-next old.opened next) (subst (λ es. OnErr r (MayPut e es now.kept)) kept-mid may),
     )
 

@@ -115,24 +115,25 @@ fn lend<R: Rules>(
     }
 }
 
-/// Keeps the last open node, which is the next after those that are kept by numbers alone, by its number, and in its slot too. The one below
-/// gets its answer, if there is one.
+/// Keeps the last open node, which is the next after those that are kept by numbers alone, by its number, and in its slot too, with the answer
+/// of that number. The one below gets it, if there is one.
 #[cold]
 #[inline(never)]
 fn absorb<R: Rules>(
     table: &mut Table<R>,
     run: &mut Run<R::Fold>,
+    alloc: Global,
     place: u32,
-    value: R::Value,
 ) -> Result<(), AllocError>
     requires run { IsFolding R.Node.eq R.Fold.fold (Some run.old) (nodes table.old) }
-    requires next { IsNext R.Fold.fold run.old place (Ok value) table.old.opened }
+    requires next { IsNext R.Fold.fold run.old place ((R.Fold.fold run.old.nodes).entry place).answer table.old.opened }
     ensures run { IsFolding R.Node.eq R.Fold.fold (Some run.new) (nodes table.new) }
     ensures ok { OnOk result (IsPut ((R.Fold.fold run.old.nodes).entry place) (viewed R.Node.eq R.Fold.fold (Some run.old) table.old).kept (viewed R.Node.eq R.Fold.fold (Some run.new) table.new).kept) }
-    ensures heard { OnOk result (IsHeard (Ok value) table.old.opened table.new.opened) }
+    ensures heard { OnOk result (IsHeard ((R.Fold.fold run.old.nodes).entry place).answer table.old.opened table.new.opened) }
     ensures err { OnErr result (MayPut ((R.Fold.fold run.old.nodes).entry place) (viewed R.Node.eq R.Fold.fold (Some run.old) table.old).kept (viewed R.Node.eq R.Fold.fold (Some run.new) table.new).kept) }
     ensures grows { table.old.looks ≤ table.new.looks }
 {
+    let value = run.nodes.answer(alloc, place)?;
     let is_heard = keep_beside(table, run, place, value)?;
     run.kept = place + 1;
     run.wild = table.least_open(&run.nodes, run.far).max(run.kept);
@@ -300,7 +301,8 @@ fn next_open<R: Rules>(
     None
 }
 
-/// Keeps the last open node with its answer, as where none is kept by its number.
+/// Keeps the last open node with its answer, where some are kept by numbers alone, or may be from now on. It is a call, so that `Folded::close` stays
+/// small enough to be inlined where none is.
 #[inline(never)]
 fn close_slotted<R: Rules>(
     table: &mut Table<R>,
@@ -335,10 +337,7 @@ fn close_beside<R: Rules>(
     ensures grows { table.old.looks ≤ table.new.looks }
 {
     match next_open(table, run, rules, bytes, &answer) {
-        Some(place) => match answer {
-            Ok(value) => absorb(table, run, place, value),
-            Err(_fault) => unreachable!(),
-        },
+        Some(place) => absorb(table, run, alloc, place),
         None => close_slotted(table, alloc, answer),
     }
 }
@@ -359,7 +358,7 @@ fn founded<R: Rules>(
     let Ok(value) = answer else {
         return Ok(None);
     };
-    let Some(nodes) = table.fold(alloc, rules, value)? else {
+    let Some(nodes) = table.fold(alloc, rules, value, bytes)? else {
         return Ok(None);
     };
     let count = rules.foldable(&nodes, value, bytes);
@@ -394,7 +393,7 @@ fn close_founding<R: Rules>(
     ensures grows { table.old.looks ≤ table.new.looks }
 {
     let found = founded(table, alloc, rules, bytes, &answer)?;
-    table.close(alloc, answer)?;
+    close_slotted(table, alloc, answer)?;
     *run = found;
     Ok(())
 }

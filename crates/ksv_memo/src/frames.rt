@@ -7,7 +7,7 @@ ghost use Rattle.ksv_memo.specs.Moves.{with_slot, Heard, SameFrames, IsPart, IsN
 
 use crate::machine::turns::Turns;
 use crate::slots::Slots;
-use ksv_bytes::Use;
+use ksv_bytes::{Buffer, Use};
 use ksv_memo_rules::{Folds, Held, Lent, Places, Rules, Slot};
 use std::alloc::{AllocError, Global};
 
@@ -41,16 +41,17 @@ impl<N> Frame<N> {
         self.node.place_in(nodes)
     }
 
-    /// The nodes that can be kept by numbers alone once its node has this value.
+    /// The nodes that can be kept by numbers alone once its node has this value over these bytes.
     pub(crate) fn fold<R: Rules<Node = N>>(
         &self,
         rules: &R,
         alloc: Global,
         value: &R::Value,
+        bytes: &Buffer,
     ) -> Result<Option<R::Fold>, AllocError>
         ensures { IfOk result (λ found. IfSome found (λ nodes. (R.Fold.fold nodes).root ≡ self.now.node)) }
     {
-        self.node.fold(rules, alloc, value)
+        self.node.fold(rules, alloc, value, bytes)
     }
 }
 

@@ -376,17 +376,18 @@ impl<R: Rules> Table<R> {
         }
     }
 
-    /// The nodes that can be kept by numbers alone once the last open node has this value.
+    /// The nodes that can be kept by numbers alone once the last open node has this value over these bytes.
     pub(crate) fn fold(
         &self,
         alloc: Global,
         rules: &R,
         value: &R::Value,
+        bytes: &Buffer,
     ) -> Result<Option<R::Fold>, AllocError>
         ensures { IfOk result (λ found. IfSome found (λ nodes. IsFirst (R.Fold.fold nodes).root self.now.opened)) }
     {
         match last_frame(self.frames.frames.as_slice()) {
-            Some(frame) => frame.fold(rules, alloc, value),
+            Some(frame) => frame.fold(rules, alloc, value, bytes),
             None => Ok(None),
         }
     }

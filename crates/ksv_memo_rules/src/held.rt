@@ -3,6 +3,7 @@ ghost use Rattle.std.specs.Prelude.{◌≡◌, ℕ, ◌<◌, IfOk, IfSome, IfNon
 
 use crate::folds::Folds;
 use crate::rules::Rules;
+use ksv_bytes::Buffer;
 use std::alloc::{AllocError, Global};
 use std::marker::Model;
 
@@ -44,16 +45,17 @@ impl<N> Held<N> {
         nodes.place(&self.node)
     }
 
-    /// The nodes that can be kept by numbers alone once the node has this value.
+    /// The nodes that can be kept by numbers alone once the node has this value over these bytes.
     pub fn fold<R: Rules<Node = N>>(
         &self,
         rules: &R,
         alloc: Global,
         value: &R::Value,
+        bytes: &Buffer,
     ) -> Result<Option<R::Fold>, AllocError>
         ensures { IfOk result (λ found. IfSome found (λ nodes. (R.Fold.fold nodes).root ≡ self.now)) }
     {
-        rules.fold(alloc, &self.node, value)
+        rules.fold(alloc, &self.node, value, bytes)
     }
 }
 

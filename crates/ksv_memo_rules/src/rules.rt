@@ -86,12 +86,13 @@ pub trait Rules {
     /// changes no answer.
     fn may_fold(&self, value: &Self::Value) -> bool;
 
-    /// The nodes that can be kept by numbers alone once this one has this value, if there are such.
+    /// The nodes that can be kept by numbers alone once this one has this value over these bytes, if there are such.
     fn fold(
         &self,
         alloc: Global,
         root: &Self::Node,
         value: &Self::Value,
+        bytes: &Buffer,
     ) -> Result<Option<Self::Fold>, AllocError>
         ensures { IfOk result (λ found. IfSome found (λ nodes. (Self.Fold.fold nodes).root ≡ root.now)) };
 

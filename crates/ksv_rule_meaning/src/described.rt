@@ -32,12 +32,13 @@ pub trait NodeRules {
     fn rule(turn: &mut Turn, desc: &Desc, node: &Node) -> Result<Given, Halt>
         ensures { Runs (rule_of (plain_pieces desc.now) node.now) (λ given. given) turn.old turn.new result };
 
-    /// The nodes that can be kept by numbers alone once this one has this answer, if there are such.
+    /// The nodes that can be kept by numbers alone once this one has this answer over these bytes, if there are such.
     fn fold(
         alloc: Global,
         desc: &Desc,
         root: &Node,
         given: &Given,
+        bytes: &Buffer,
     ) -> Result<Option<Self::Fold>, AllocError>
         ensures { IfOk result (λ found. IfSome found (λ nodes. (Self.Fold.fold nodes).root ≡ root.now)) };
 
@@ -150,8 +151,9 @@ impl<N: NodeRules> Rules for Described<N> {
         alloc: Global,
         root: &Node,
         value: &Given,
+        bytes: &Buffer,
     ) -> Result<Option<N::Fold>, AllocError> {
-        N::fold(alloc, &self.desc, root, value)
+        N::fold(alloc, &self.desc, root, value, bytes)
     }
 
     fn foldable(&self, nodes: &N::Fold, value: &Given, bytes: &Buffer) -> u32 {

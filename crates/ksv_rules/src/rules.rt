@@ -64,8 +64,9 @@ impl NodeRules for DescriptionRules {
         desc: &Desc,
         root: &Node,
         given: &Given,
+        bytes: &Buffer,
     ) -> Result<Option<PlainList>, AllocError> {
-        PlainList::of(alloc, desc, root, given)
+        PlainList::of(alloc, desc, root, given, bytes)
     }
 
     fn foldable(nodes: &PlainList, desc: &Desc, given: &Given, bytes: &Buffer) -> u32 {

@@ -1,13 +1,13 @@
 -- The table of the places of rows.
-use Rattle.ksv_schema_names.proofs.Common.{◌≡◌, ℕ, ◌<◌, Bool, ◌&&◌, List, map, length, drop, Option, Some, None, sym, ap, ◌∙◌, arith, position_from}
-use Rattle.ksv_schema_names.proofs.Common.{bytes_eq, Row, row_in, row_of}
+use Rattle.ksv_schema_names.proofs.Common.{◌≡◌, ℕ, suc, ◌<◌, Bool, ◌&&◌, List, map, length, get_or, drop, Option, Some, None, sym, ap, ◌∙◌, arith}
+use Rattle.ksv_schema_names.proofs.Common.{position_from, bytes_eq, Row, row_in, row_of}
 use Rattle.std.specs.Prelude.{IfSome}
 use Rattle.std.proofs.lemmas.List.{length-map}
 use Rattle.ksv_desc.proofs.Firsts as firsts
 use Rattle.ksv_schema_names.proofs.Found.{row_within}
 use Rattle.ksv_schema_names.specs.declared.row.Row.{Row as RowOfCode}
 use Rattle.ksv_schema_names.specs.Rows.{is_within}
-use Rattle.ksv_schema_names.specs.Placed.{Places, place_at, ArePlaced}
+use Rattle.ksv_schema_names.specs.Placed.{Places, place_at, Puts, ArePlaced}
 
 -- whether a row is in a type and has a name
 abbrev is_named : ℕ × List ℕ → Row → Bool
@@ -20,6 +20,13 @@ module _ {S : Type 0} (rows : List RowOfCode) where
   -- a table has the places of the rows from k on
   abbrev pub ArePlacedFrom : ℕ → Places S → Type 0
   ArePlacedFrom k places = firsts.AreFirstFrom seen_named rows k (λ key. place_at places key.0 key.1)
+
+  -- of one row more, in front of those
+  pub one_placed : (k j : ℕ) (row : RowOfCode) (old new : Places S) → k ≡ suc j → j < length rows → row ≡ get_or rows j row → Puts old new j (row_of row)
+      → ArePlacedFrom k old → ArePlacedFrom j new
+  one_placed k j row old new next within is put from =
+      firsts.one_before seen_named rows k j row (λ key. place_at old key.0 key.1) (λ key. place_at new key.0 key.1) next within is
+      (λ key. put.found key.0 key.1) from
 
   -- of all rows
   pub all_placed : (k : ℕ) (places : Places S) → k ≡ 0 → ArePlacedFrom k places → ArePlaced rows places

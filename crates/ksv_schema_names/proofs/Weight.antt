@@ -1,12 +1,13 @@
 -- The types in a type are smaller than it.
 use Rattle.std.proofs.Common.{inl, inr}
 use Rattle.std.proofs.lemmas.Bool.{cases_Bool}
-use Rattle.ksv_schema_names.proofs.Common.{◌≡◌, ℕ, ◌+◌, ◌≤◌, List, refl, ap, arith, bytes_eq, Row}
+use Rattle.ksv_schema_names.proofs.Common.{◌≡◌, ℕ, suc, ◌+◌, ◌<◌, ◌≤◌, List, [], ◌∷◌, ◌++◌, map, length, get_or, drop, refl, sym, ap, ◌∙◌, arith, bytes_eq, Row}
+use Rattle.std.proofs.Common.{add-one, drop-cons}
 use Rattle.std.specs.Prelude.{codes}
 use Rattle.ksv_yaml_tree.specs.Tree.{Tree, Text, Seq, Map, Entries, no_entries, entry, Pair, pairs}
 use Rattle.ksv_yaml_tree.specs.View.{entries_of}
 use Rattle.ksv_yaml_tree.specs.Keys.{entries_in, entries_at}
-use Rattle.ksv_schema_names.specs.Rows.{with_types, with_key, with_named, with_each}
+use Rattle.ksv_schema_names.specs.Rows.{named_row, with_types, with_key, with_named, with_each}
 
 abbrev mutual
   pub weight : Tree → ℕ
@@ -51,6 +52,27 @@ pub all_named : (n : ℕ) (t : Tree) (rows : List Row) (ps : List Pair) → ps �
     → with_each n (entries_of ps) rows ≡ with_types n t rows
 all_named n (Map _ es) rows ps e = rw e (in_keys n es rows)
 all_named n _ rows ps e = rw e
+
+-- the loop, one type further
+module _ {X : Type 0} (see : X → Pair) (xs : List X) (i : ℕ) (x : X) (lt : i < length xs) (is : x ≡ get_or xs i x) where
+  further : {A : Type 0} (f : Entries → A) → f (entries_of (map see (drop i xs))) ≡ f (entries_of (see x ∷ map see (drop (i + 1) xs)))
+  further f = ap (λ (ys : List X). f (entries_of (map see ys))) (drop-cons xs i x lt)
+      ∙ ap (λ (y : X). f (entries_of (see y ∷ map see (drop (suc i) xs)))) (sym is)
+      ∙ ap (λ (j : ℕ). f (entries_of (see x ∷ map see (drop j xs)))) (sym (add-one i))
+
+  pub more_named : (n number : ℕ) (value : Tree) (rows before more whole : List Row) → number ≡ length rows → value ≡ (see x).value
+      → before ≡ rows ++ named_row n (see x) ∷ [] → more ≡ with_types number value before
+      → with_each n (entries_of (map see (drop i xs))) rows ≡ whole → with_each n (entries_of (map see (drop (i + 1) xs))) more ≡ whole
+  more_named n number value rows before more whole many same put new now =
+      let one : more ≡ with_types (length rows) (see x).value (rows ++ named_row n (see x) ∷ []) = cc in
+      ap (with_each n (entries_of (map see (drop (i + 1) xs)))) one ∙ sym (further (λ (es : Entries). with_each n es rows)) ∙ now
+
+  -- this type and those after it are smaller than what they are in
+  pub lighter : (most : ℕ) → weights (entries_of (map see (drop i xs))) ≤ most → weights (entries_of (map see (drop (i + 1) xs))) ≤ most
+  lighter most h = omega (arith, further weights)
+
+  pub one_lighter : (value : Tree) (most : ℕ) → value ≡ (see x).value → weights (entries_of (map see (drop i xs))) ≤ most → weight value < most
+  one_lighter value most same h = rw same (omega (arith, further weights))
 
 pub smaller_named : (t : Tree) (ps : List Pair) → ps ≡ entries_at (codes "types") (entries_in t) → weights (entries_of ps) ≤ weight t
 smaller_named (Map _ es) ps e = rw e (omega (arith, keys_weight es))

@@ -47,6 +47,7 @@
 //! - `Forms`: the faults of an expression, form by form
 //! - `Found`: what is found is there: types, names, members of enums
 //! - `Lookup`: lookup of names
+//! - `Made`: lists to which a loop adds what it makes of each element
 //! - `Noted`: the least fault, part after part
 //! - `Numbers`: the numbers of an expression are those of its parts
 //! - `Placed`: the table of the places of rows

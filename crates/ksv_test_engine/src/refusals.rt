@@ -94,6 +94,7 @@ impl Rules for Refusing {
         _alloc: Global,
         _root: &RowNumber,
         _value: &u32,
+        _bytes: &Buffer,
     ) -> Result<Option<NoFold<RowNumber, u32>>, AllocError> {
         Ok(None)
     }

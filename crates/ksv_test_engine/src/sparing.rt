@@ -132,6 +132,7 @@ impl Rules for Leaves {
         _alloc: Global,
         _root: &Link,
         _value: &u32,
+        _bytes: &Buffer,
     ) -> Result<Option<NoFold<Link, u32>>, AllocError> {
         Ok(None)
     }

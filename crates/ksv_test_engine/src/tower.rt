@@ -89,6 +89,7 @@ impl Rules for Tower {
         _alloc: Global,
         _root: &Link,
         _value: &u32,
+        _bytes: &Buffer,
     ) -> Result<Option<NoFold<Link, u32>>, AllocError> {
         Ok(None)
     }

@@ -36,6 +36,7 @@ impl NodeRules for Slotted {
         _desc: &Desc,
         _root: &Node,
         _given: &Given,
+        _bytes: &Buffer,
     ) -> Result<Option<NoFold<Node, Given>>, AllocError> {
         Ok(None)
     }

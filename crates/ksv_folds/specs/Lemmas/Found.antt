@@ -5,11 +5,14 @@ use Rattle.ksv_expr_value.specs.Trail.{Trail, child, same_trail, trail_of-steps}
 use Rattle.ksv_expr_value.specs.declared.step.Step.TheVariants.{Name, Index}
 use Rattle.ksv_list_laws.proofs.Paths.{element_is, field_is}
 use Rattle.ksv_nodes.specs.declared.node.Node.{Node}
+use Rattle.ksv_nodes.specs.declared.node.NodeKind.TheVariants as kinds
 use Rattle.ksv_folds.specs.Lemmas.Parts.{name_small}
-use Rattle.ksv_folds.specs.Lemmas.Spots.{spot_in_is, spot_is}
+use Rattle.ksv_folds.specs.Lemmas.Numbers.{numbered_is, numbered_there}
 use Rattle.ksv_folds.specs.Parts.{part}
-use Rattle.ksv_folds.specs.Sequence.{IsIn, IsAt, path_of, kind_of, node_of, steps_of, index, size_of, spot_at}
+use Rattle.ksv_folds.specs.Sequence.{IsIn, IsAt, IsThere, IsRest, IsNumbered, path_of, kind_of, node_of, rest_node, node_in, steps_of, number_of, size_of, numbered_at}
 use Rattle.ksv_folds.specs.declared.plain_list.PlainList.{PlainList}
+use Rattle.ksv_folds.specs.declared.spot.Numbered.{Numbered}
+use Rattle.ksv_folds.specs.declared.spot.Numbered.TheVariants.{Of, Rest}
 use Rattle.ksv_folds.specs.declared.spot.Spot.{Spot}
 use Rattle.ksv_folds.specs.declared.spot.Spot.TheVariants.{ElementHead, ElementEnd, FieldHead, FieldEnd}
 
@@ -61,10 +64,40 @@ module _ (p : PlainList) where
       let same = e ∙ node_is s q.0 q.1 in
       record { there = low; kind = ap (λ (m : Node). m.kind) same; steps = ap (λ (m : Node). m.path.upward) same ∙ q.2 }
 
+  -- ---- rests
+
+  rest_is : (i : ℕ) (q : Trail) → child p.root.path (Index i) ≡ Some q → rest_node p i ≡ record { kind = kinds.Rest; path = q }
+  rest_is i q e = ap (λ o. unwrap_or (option_map (λ t. record { kind = kinds.Rest; path = t }) o) p.root) e
+
+  at_rest : (n : Node) (i : ℕ) → IsRest p n i → n ≡ rest_node p i
+  at_rest n i h =
+      let q = element_leads i (h.there).1 in
+      let path : n.path ≡ q.0 = same_trail n.path q.0 (h.steps ∙ sym q.2) in
+      let same : n ≡ record { kind = kinds.Rest; path = q.0 } = λ i. record { kind = h.kind i; path = path i } in
+      same ∙ sym (rest_is i q.0 q.1)
+
+  rest_at : (n : Node) (i : ℕ) → IsThere p (Rest i) → n ≡ rest_node p i → IsRest p n i
+  rest_at n i there e =
+      let q = element_leads i there.1 in
+      let same = e ∙ rest_is i q.0 q.1 in
+      record { there = there; kind = ap (λ (m : Node). m.kind) same; steps = ap (λ (m : Node). m.path.upward) same ∙ q.2 }
+
   -- ---- by numbers
 
-  pub node_index : (n : Node) (s : Spot) → IsAt p n s → n ≡ node_of p (spot_at p (index p.per s))
-  node_index n s h = at_node n s h ∙ ap (node_of p) (sym (spot_is (length p.parts.items) p.per p.width p.most s h.there))
+  at_numbered : (n : Node) (s : Numbered) → IsNumbered p n s → n ≡ node_in p s
+  at_numbered n (Of s) h = at_node n s h
+  at_numbered n (Rest i) h = at_rest n i h
 
-  pub numbered : (n : Node) (j : ℕ) → j < size_of p → n ≡ node_of p (spot_at p j) → IsAt p n (spot_at p j)
-  numbered n j low e = node_at n (spot_at p j) (spot_in_is (length p.parts.items) p.per p.width p.most j low) e
+  numbered_there_by : (n : Node) (s : Numbered) → IsNumbered p n s → IsThere p s
+  numbered_there_by n (Of s) h = h.there
+  numbered_there_by n (Rest i) h = h.there
+
+  pub numbered_by : (n : Node) (s : Numbered) → IsThere p s → n ≡ node_in p s → IsNumbered p n s
+  numbered_by n (Of s) there e = node_at n s there e
+  numbered_by n (Rest i) there e = rest_at n i there e
+
+  pub numbered_node : (n : Node) (s : Numbered) → IsNumbered p n s → n ≡ node_in p (numbered_at p (number_of p s))
+  numbered_node n s h = at_numbered n s h ∙ ap (node_in p) (sym (numbered_is p s (numbered_there_by n s h)))
+
+  pub numbered : (n : Node) (j : ℕ) → j < size_of p → n ≡ node_in p (numbered_at p j) → IsNumbered p n (numbered_at p j)
+  numbered n j low e = numbered_by n (numbered_at p j) (numbered_there p j low) e

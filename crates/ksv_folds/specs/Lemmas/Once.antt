@@ -4,12 +4,16 @@ use Rattle.std.proofs.lemmas.Bool.{cases_lt}
 use Rattle.ksv_expr_value.specs.declared.step.Step.{Step}
 use Rattle.ksv_expr_value.specs.declared.step.Step.TheVariants.{Name, Index}
 use Rattle.ksv_memo_rules.specs.Folds.{IsLaid}
-use Rattle.ksv_folds.specs.Lemmas.Found.{node_at}
+use Rattle.ksv_nodes.specs.declared.node.Node.{Node}
+use Rattle.ksv_nodes.specs.declared.node.NodeKind.TheVariants as kinds
+use Rattle.ksv_folds.specs.Lemmas.Found.{numbered_by}
+use Rattle.ksv_folds.specs.Lemmas.Numbers.{numbered_there, number_is}
 use Rattle.ksv_folds.specs.Lemmas.Parts.{own_name}
-use Rattle.ksv_folds.specs.Lemmas.Spots.{spot_in_is, index_is}
 use Rattle.ksv_folds.specs.Parts.{part}
-use Rattle.ksv_folds.specs.Sequence.{IsIn, IsAt, kind_of, steps_of, node_of, index, size_of, spot_at, fold_of}
+use Rattle.ksv_folds.specs.Sequence.{IsIn, IsNumbered, kind_of, steps_of, node_in, number_of, size_of, numbered_at, fold_of}
 use Rattle.ksv_folds.specs.declared.plain_list.PlainList.{PlainList}
+use Rattle.ksv_folds.specs.declared.spot.Numbered.{Numbered}
+use Rattle.ksv_folds.specs.declared.spot.Numbered.TheVariants.{Of, Rest}
 use Rattle.ksv_folds.specs.declared.spot.Spot.{Spot}
 use Rattle.ksv_folds.specs.declared.spot.Spot.TheVariants.{ElementHead, ElementEnd, FieldHead, FieldEnd}
 
@@ -77,23 +81,32 @@ module _ (p : PlainList) where
   off_root (FieldHead i f) e = longer_by_two (Name (name f)) (Index i) up e
   off_root (FieldEnd i f) e = longer_by_two (Name (name f)) (Index i) up e
 
-  spot_there : (j : ℕ) → j < size_of p → Is (spot_at p j)
-  spot_there j low = spot_in_is (length p.parts.items) p.per p.width p.most j low
+  -- a rest is no head and no end
+  other_kind : (s : Spot) → kind_of s ≡ kinds.Rest → ⊥
+  other_kind (ElementHead i) e = cc
+  other_kind (ElementEnd i) e = cc
+  other_kind (FieldHead i f) e = cc
+  other_kind (FieldEnd i f) e = cc
 
-  number_is : (j : ℕ) → index p.per (spot_at p j) ≡ j
-  number_is j = index_is (length p.parts.items) p.per p.width j
+  same_numbered : (n : Node) (s t : Numbered) → IsNumbered p n s → IsNumbered p n t → s ≡ t
+  same_numbered n (Of s) (Of t) a b = ap Of (same_spot s t a.there b.there (sym a.kind ∙ b.kind) (sym a.steps ∙ b.steps))
+  same_numbered n (Of s) (Rest j) a b = absurd (other_kind s (sym a.kind ∙ b.kind))
+  same_numbered n (Rest i) (Of t) a b = absurd (other_kind t (sym b.kind ∙ a.kind))
+  same_numbered n (Rest i) (Rest j) a b = ap Rest (same_index i j up (sym a.steps ∙ b.steps))
 
-  once : (i j : ℕ) → i < size_of p → j < size_of p → node_of p (spot_at p i) ≡ node_of p (spot_at p j) → i ≡ j
+  off_root_by : (s : Numbered) → IsNumbered p p.root s → ⊥
+  off_root_by (Of s) h = off_root s h.steps
+  off_root_by (Rest i) h = longer (Index i) up h.steps
+
+  once : (i j : ℕ) → i < size_of p → j < size_of p → node_in p (numbered_at p i) ≡ node_in p (numbered_at p j) → i ≡ j
   once i j low less e =
-      let a = spot_there i low in
-      let b = spot_there j less in
-      let m = node_at p (node_of p (spot_at p i)) (spot_at p i) a refl in
-      let n = node_at p (node_of p (spot_at p i)) (spot_at p j) b e in
-      let same = same_spot (spot_at p i) (spot_at p j) a b (sym (IsAt.kind m) ∙ IsAt.kind n) (sym (IsAt.steps m) ∙ IsAt.steps n) in
-      sym (number_is i) ∙ ap (index p.per) same ∙ number_is j
+      let n = node_in p (numbered_at p i) in
+      let a = numbered_by p n (numbered_at p i) (numbered_there p i low) refl in
+      let b = numbered_by p n (numbered_at p j) (numbered_there p j less) e in
+      sym (number_is p i low) ∙ ap (number_of p) (same_numbered n (numbered_at p i) (numbered_at p j) a b) ∙ number_is p j less
 
-  apart : (j : ℕ) → j < size_of p → node_of p (spot_at p j) ≡ p.root → ⊥
-  apart j low e = let n = node_at p p.root (spot_at p j) (spot_there j low) (sym e) in off_root (spot_at p j) (IsAt.steps n)
+  apart : (j : ℕ) → j < size_of p → node_in p (numbered_at p j) ≡ p.root → ⊥
+  apart j low e = off_root_by (numbered_at p j) (numbered_by p p.root (numbered_at p j) (numbered_there p j low) (sym e))
 
 -- the sequence of a list is laid out so
 pub sequence_laid : (p : PlainList) → IsLaid (fold_of p)

@@ -64,10 +64,11 @@ fn rising_lines(alloc: Global, enums: &[Row]) -> Result<Vec<usize>, AllocError>
     Ok(lines)
 }
 
-fn past_limit(lines: &[usize]) -> Option<usize>
-    ensures { result ≡ slice_get lines.now most_entries }
+/// The line of this number.
+fn line_of(lines: &[usize], number: usize) -> Option<usize>
+    ensures { result ≡ slice_get lines.now number }
 {
-    lines.get(65536).copied()
+    lines.get(number).copied()
 }
 
 /// The lowest line up to which there are more entries of enums than the limit.
@@ -75,7 +76,7 @@ pub(crate) fn line_past(alloc: Global, enums: &[Row]) -> Result<Option<usize>, A
     ensures { IfOk result (λ o. o ≡ line_past most_entries (map (λ p. p.line) (flat_map keys_of (map row_of enums.now)))) }
 {
     let lines = rising_lines(alloc, enums)?;
-    Ok(past_limit(lines.as_slice()))
+    Ok(line_of(lines.as_slice(), 65536))
 }
 
 /// Notes what is past a limit.

@@ -21,7 +21,7 @@ use crate::members::enumeration::{enumerations, owned_text};
 use crate::members::member::member;
 use crate::members::number::{Context, number_kind};
 use crate::values::fault::DescFault;
-use crate::values::reader::{Read, Reader, both, paired, pushed, whole};
+use crate::values::reader::{Read, Reader, add, both, paired, pushed, whole};
 use ksv_desc::{EnumDesc, MemberDesc, MemberKind, Pieces, TypeDesc, as_text};
 use ksv_schema_names::{Member, Names, Row, Scopes};
 use std::alloc::{AllocError, Global};
@@ -130,10 +130,9 @@ fn add_kinds(
         let Some(kind) = kinds.next() else {
             return Ok(false);
         };
-        let Some(desc) = member_of(context, member, kind) else {
+        if !add(made, member_of(context, member, kind))? {
             return Ok(false);
-        };
-        made.push(desc)?;
+        }
     }
     Ok(true)
 }
@@ -194,10 +193,10 @@ fn add_types<'a>(
             names,
             within,
         };
-        let Some(desc) = type_of(alloc, &context, row, &members[within], own)? else {
+        let desc = type_of(alloc, &context, row, &members[within], own)?;
+        if !add(made, desc)? {
             return Ok(false);
-        };
-        made.push(desc)?;
+        }
     }
     Ok(true)
 }

@@ -50,15 +50,8 @@ fn number_trees(context: &Context, exprs: &mut [Expr])
 fn number_content(context: &Context, content: &mut Content)
     ensures { plain_content content.new ≡ in_content (context_of context.now) (plain_content content.old) }
 {
-    match content {
-        Content::Bytes => {}
-        Content::Fixed(_) => {}
-        Content::Number { .. } => {}
-        Content::Bits { .. } => {}
-        Content::Characters(_) => {}
-        Content::Object { arguments, .. } => {
-            number_arguments(context.scopes, context.names, context.within, arguments);
-        }
+    if let Content::Object { arguments, .. } = content {
+        number_arguments(context.scopes, context.names, context.within, arguments);
     }
 }
 

@@ -1,10 +1,10 @@
 //! Where a mapping is, what is read so far, and how parts are put together.
 
-ghost use Rattle.std.specs.Prelude.{◌≡◌, map, IfOk};
+ghost use Rattle.std.specs.Prelude.{◌≡◌, map, Some, IfOk};
 ghost use Rattle.ksv_yaml_tree.specs.View.{pair};
 ghost use Rattle.ksv_schema_names.specs.Table.{declared};
 ghost use Rattle.ksv_schema.specs.Values.{home_of, once, position_at};
-ghost use Rattle.ksv_schema.specs.Code.{seen_home, present, paired, both_of, after, kept_if, whole_if, items_of, Pushes};
+ghost use Rattle.ksv_schema.specs.Code.{seen_home, present, paired, both_of, after, kept_if, kept_where, whole_if, items_of, pushed, Pushes};
 
 use crate::values::fault::Least;
 use ksv_schema_names::{Names, Position, Role, Scopes, Site};
@@ -166,6 +166,19 @@ pub(crate) fn whole<A: Drop>(made: A, all: Result<bool, AllocError>) -> Read<A>
         Ok(true) => Ok(Some(made)),
         Ok(false) => Ok(None),
         Err(refused) => Err(refused),
+    }
+}
+
+/// Adds an item, if it is there, and returns whether it is.
+pub(crate) fn add<T: Drop>(made: &mut Vec<T>, next: Option<T>) -> Result<bool, AllocError>
+    ensures { IfOk result (λ all. kept_where all made.new.items ≡ pushed (Some made.old.items) next) }
+{
+    match next {
+        Some(item) => {
+            made.push(item)?;
+            Ok(true)
+        }
+        None => Ok(false),
     }
 }
 

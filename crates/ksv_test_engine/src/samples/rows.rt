@@ -189,6 +189,7 @@ impl Rules for Rows {
         _alloc: Global,
         _root: &RowNumber,
         _value: &u32,
+        _bytes: &Buffer,
     ) -> Result<Option<NoFold<RowNumber, u32>>, AllocError> {
         Ok(None)
     }

@@ -1,7 +1,7 @@
 use Rattle.ksv_memo.proofs.Common.{◌+◌, refl, arith, subst, inr, nodes, AllByRecursion, Some}
 use Rattle.ksv_memo_rules.specs.Folds.{first_of}
 use Rattle.ksv_memo.specs.Nodes.{IsPut}
-use Rattle.ksv_memo.specs.Folding.{IsFolding, IsNoneBelow, with_folded}
+use Rattle.ksv_memo.specs.Folding.{IsFolding, IsNext, IsNoneBelow, with_folded}
 use Rattle.ksv_memo.specs.declared.folded.Run.{Run}
 use Rattle.ksv_memo.proofs.Absorbing.{absorbs, loses-run}
 use Rattle.ksv_memo.proofs.folded.absorb.Given
@@ -11,8 +11,10 @@ use Rattle.ksv_memo.proofs.folded.absorb.Goals as goal
 -- it isn't kept
 pub returns-in_err-is_heard-clause-run : goal.returns-in_err-is_heard-clause-run
 returns-in_err-is_heard-clause-run g c =
-    (loses-run g.R.Node.PartialEq.eq g.met.R.Node.Eq.laws g.met.R.Rules.exact g.R.Fold.Folds.fold c.args.run.now c.args.place c.args.value
-    (nodes c.args.table.now) (nodes c.keep_beside.new.table) c.requires.run c.requires.next c.keep_beside.new.run c.in_err-is_heard.ensures.same
+    (loses-run g.R.Node.PartialEq.eq g.met.R.Node.Eq.laws g.met.R.Rules.exact g.R.Fold.Folds.fold c.args.run.now c.args.place c.in_ok-value.value
+    (nodes c.args.table.now) (nodes c.keep_beside.new.table) c.requires.run
+    (subst (λ a. IsNext g.R.Fold.Folds.fold c.args.run.now c.args.place a c.args.table.now.opened) c.in_ok-value.ensures c.requires.next)
+    c.keep_beside.new.run c.in_err-is_heard.ensures.same
     c.in_err-is_heard.ensures.err).0
 
 -- it is
@@ -34,8 +36,10 @@ absorbed g c =
     let f = g.R.Fold.Folds.fold in
     let far = same.far in
     let within = c.least_open.ensures.within in
-    absorbs g.R.Node.PartialEq.eq g.met.R.Node.Eq.laws g.met.R.Rules.exact f c.args.run.now c.args.place c.args.value
-    (nodes c.args.table.now) (nodes c.keep_beside.new.table) c.requires.run c.requires.next (last g c) c.least_open.result c.in_ok-is_heard.is_heard same.nodes
+    absorbs g.R.Node.PartialEq.eq g.met.R.Node.Eq.laws g.met.R.Rules.exact f c.args.run.now c.args.place c.in_ok-value.value
+    (nodes c.args.table.now) (nodes c.keep_beside.new.table) c.requires.run
+    (subst (λ a. IsNext g.R.Fold.Folds.fold c.args.run.now c.args.place a c.args.table.now.opened) c.in_ok-value.ensures c.requires.next)
+    (last g c) c.least_open.result c.in_ok-is_heard.is_heard same.nodes
     refl c.max-run.ensures far same.lent (omega arith)
     (subst (λ ns. AllByRecursion (λ w. IsNoneBelow (f ns) c.least_open.result w.node) c.keep_beside.new.table.opened) same.nodes c.least_open.ensures.apart)
     c.in_ok-is_heard.ensures.ok

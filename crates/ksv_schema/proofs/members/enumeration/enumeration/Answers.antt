@@ -1,5 +1,4 @@
-use Rattle.ksv_schema.proofs.Common.{◌≡◌, [], subst, sym, Some, map, string_bytes, arith, Enum, plain_entry, plain_enum, row_of, IsRead, enum}
-use Rattle.std.proofs.Common.{rules}
+use Rattle.ksv_schema.proofs.Common.{◌≡◌, subst, sym, Some, map, string_bytes, arith, Enum, plain_entry, plain_enum, row_of, IsRead, enum}
 use Rattle.std.proofs.lemmas.Grind.{common_steps}
 use Rattle.ksv_schema.proofs.Noted.{steps}
 use Rattle.ksv_schema.proofs.members.enumeration.enumeration.Goals as goal
@@ -11,4 +10,4 @@ returns-in_ok-new-in-Some c =
     let same : plain_enum c.in_ok-new-in-Some.field-0 ≡ plain =
     (λ j. record { id = string_bytes (c.in_ok-new-in-Some.ensures.id j); members = map plain_entry (c.in_ok-new-in-Some.ensures.entries j).items }) in
     subst (λ (p : Enum). IsRead (enum (row_of c.args.row.now)) (Some p) c.args.reader.now c.constants.new.reader) (sym same)
-    (first_of (search rules, grind (arith, steps), grind (arith, common_steps, steps)))
+    (grind (arith, common_steps, steps))
