@@ -359,21 +359,21 @@ LIST = text("meta: {id: r}", "seq: [{id: xs, type: u1, repeat: eos}]")
 
 
 def one_byte(program):
-    """A question on a list of n elements of one byte: a first one for its last element, the same after one for element 5, and a first one for the list.
-    Instructions and bytes of peak memory for each node, where `stats` says how many are kept: two for each element (its head and end), one more where the list
-    is asked (what it is from there on), and some at both ends."""
+    """A question on a list of n elements of one byte: a first one for its last element, the same after one for element 5, a first one for the list, and
+    the same once more after an append. Instructions and bytes of peak memory for each node, where `stats` says how many are kept: two for each element (its head
+    and end), one more where the list is asked (what it is from there on), and some at both ends."""
     sizes = (65_536, 131_072, 262_144)
-    none, one = (("stats", "kept 0 turns 0"),), (("get /xs/5", "5"), ("stats", "kept 14 turns 37"))
     rows = (
-        ("a first question on a list of n bytes, for its last element", none, last_byte),
-        ("the same, after a first one for element 5", one, later_byte),
-        ("a first question on a list of n bytes, for the list", none, whole_list),
+        ("a first question on a list of n bytes, for its last element", nothing_asked, last_byte),
+        ("the same, after a first one for element 5", fifth_asked, later_byte),
+        ("a first question on a list of n bytes, for the list", nothing_asked, whole_list),
+        ("the same once more, after an append", list_appended, longer_list),
     )
     for what, before_it, asks in rows:
         count, peaks, pairs = [], [], []
         for size in sizes:
             ask, kept, turns = asks(size)
-            plain = Session(LIST, bytes(it % 251 for it in range(size)), before_it)
+            plain = Session(LIST, bytes(it % 251 for it in range(size)), before_it(size))
             pairs.append((plain, plain.then(ask, ("stats", f"kept {kept} turns {turns}"))))
             count.append(kept)
             with program.talk(plain) as talk:
@@ -382,6 +382,21 @@ def one_byte(program):
                 peaks.append(talk.peak() - before)
         yield Figure(what, sizes, divided(program.more(pairs), count), "instructions a node", None, True)
         yield Figure("the same", sizes, divided(peaks, count), "bytes of peak memory a node", None, True)
+
+
+def nothing_asked(_):
+    """The lines before a first question."""
+    return (("stats", "kept 0 turns 0"),)
+
+
+def fifth_asked(_):
+    """A question for element 5."""
+    return ("get /xs/5", "5"), ("stats", "kept 14 turns 37")
+
+
+def list_appended(count):
+    """A question for the list, and an append."""
+    return ("get /xs", f"[{count}]"), ("app 07", f"ok {count + 1}"), ("stats", f"kept {2 * count + 2} turns {9 * count + 4}")
 
 
 def later_byte(count):
@@ -397,6 +412,11 @@ def last_byte(count):
 def whole_list(count):
     """The question for the list, the nodes that it opens, and their turns."""
     return ("get /xs", f"[{count}]"), 3 * count + 3, 9 * count + 4
+
+
+def longer_list(count):
+    """The question for the list that an append made longer, the nodes that are kept then, and its turns."""
+    return ("get /xs", f"[{count + 1}]"), 3 * count + 6, 3 * count + 12
 
 
 @dataclass(frozen=True)

@@ -12,3 +12,4 @@ pub mod Covered
 pub mod Asked
 pub mod Right
 pub mod Counted
+pub mod Retold

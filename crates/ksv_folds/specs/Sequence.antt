@@ -281,3 +281,16 @@ fold_of p = record {
   entry = λ j. entry_of p (numbered_at p j);
   calls = λ j. asks_in p (numbered_at p j) + 1;
 }
+
+-- ---- told anew
+
+-- another tells of the same list, and differs only in how many elements have numbers, and in whether these are all
+pub record IsAlike (p q : PlainList) : Type 0 where
+  pub root : q.root ≡ p.root
+  pub list : q.list ≡ p.list
+  pub origin : q.origin ≡ p.origin
+  pub type_number : q.type_number ≡ p.type_number
+  pub first : q.first ≡ p.first
+  pub size : q.size ≡ p.size
+  pub parts : q.parts.items ≡ p.parts.items
+  pub per : q.per ≡ p.per

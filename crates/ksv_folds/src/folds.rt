@@ -2,10 +2,10 @@
 #![tactic(auto)]
 
 use crate::plain_list::PlainList;
-use ksv_bytes::{Change, Use};
+use ksv_bytes::{Buffer, Change, Use};
 use ksv_expr_value::Fault;
 use ksv_memo_rules::Folds;
-use ksv_nodes::{Given, Node};
+use ksv_nodes::{Given, Head, Node};
 use std::alloc::{AllocError, Global};
 
 impl Folds<Node, Given, Fault> for PlainList {
@@ -25,6 +25,11 @@ impl Folds<Node, Given, Fault> for PlainList {
             Some(numbered) => Some(self.number(numbered)),
             None => None,
         }
+    }
+
+    #[tactic(auto, using(crate::proofs::Most::size_some))]
+    fn node(&self, alloc: Global, place: u32) -> Result<Node, AllocError> {
+        self.node_in(alloc, self.numbered(place))
     }
 
     #[tactic(auto, using(crate::proofs::Most::size_some))]
@@ -48,5 +53,12 @@ impl Folds<Node, Given, Fault> for PlainList {
     #[tactic(auto, using(crate::proofs::Adding::calls_between))]
     fn calls(&self, from: u32, to: u32) -> u64 {
         self.calls_to(to) - self.calls_to(from)
+    }
+
+    fn retell(&mut self, value: &Given, bytes: &Buffer, kept: u32) {
+        match value {
+            Given::Head(Head::List(list)) => self.retell_list(list, bytes, kept),
+            _ => {}
+        }
     }
 }

@@ -37,7 +37,8 @@
 //! - `laws`: the law, as a contract
 //! - `layout`: whether the description says what a list's numbers say
 //! - `leaving`: which nodes an edit leaves
-//! - `making`: finds the numbers of a list
+//! - `making`: finds the numbers of a list, and tells it anew
+//! - `nodes`: the node of a number
 //! - `numbers`: which node a number is of, and where elements and fields are
 //! - `part`: the fields of an element
 //! - `plain_list`: the numbers of a list
@@ -65,6 +66,7 @@
 //! - `Most`: how many elements may have numbers
 //! - `Plain`: what the code found is a plain list's layout
 //! - `Reaches`: nodes read farther and farther
+//! - `Retold`: the nodes before both last ends stay where a list is told anew
 //! - `Right`: the sequence of a plain list is as it says
 //! - `Rooms`: where elements and fields are in the file
 //! - `Steps`: equal steps are the same, and what the steps behind those of a list say
@@ -80,6 +82,7 @@ mod laws;
 mod layout;
 mod leaving;
 mod making;
+mod nodes;
 mod numbers;
 mod part;
 mod plain_list;

@@ -1,4 +1,4 @@
-//! Finds the numbers of a list.
+//! Finds the numbers of a list, and tells it anew.
 #![tactic(auto)]
 
 ghost use Rattle.std.specs.Prelude.{◌≡◌, ◌+◌, ◌*◌, ◌^◌, ◌<◌, ◌≤◌, IfOk, IfSome};
@@ -7,7 +7,8 @@ ghost use Rattle.ksv_expr_value.specs.Trail.{element_limit};
 ghost use Rattle.ksv_desc.specs.Whole.{plain_pieces};
 ghost use Rattle.ksv_folds.specs.Layouts.{IsOf, HasLayout, IsFound};
 ghost use Rattle.ksv_folds.specs.Parts.{is_rising, has_name, have_own_names};
-ghost use Rattle.ksv_folds.specs.Sequence.{fold_of};
+ghost use Rattle.ksv_folds.specs.Sequence.{IsAlike, size_of, fold_of};
+ghost use Rattle.ksv_memo_rules.specs.Folds.{BeginsAs};
 
 use crate::layout::{choice_size, content_size};
 use crate::part::Part;
@@ -136,7 +137,7 @@ fn have_own_names(parts: &[Part]) -> bool
 #[tactic(auto, using(crate::proofs::Most::most_few))]
 fn most_of(first: u32, size: u32, per: u32) -> u32
     requires some { 0 < size }
-    requires nodes { per < 2 ^ 30 }
+    requires nodes { per + 1 < 2 ^ 32 }
     requires first { first ≤ end_limit }
     ensures few { result ≤ element_limit }
     ensures room { first + size * result ≤ end_limit }
@@ -229,7 +230,7 @@ fn of_list(
 impl PlainList {
     /// All elements that are whole have numbers, and no others, if the list ends with the last of them.
     fn close(&mut self, list: &List, bytes: &Buffer)
-        ensures { self.new.root ≡ self.old.root }
+        ensures { IsAlike self.old self.new }
     {
         let whole = self.whole_elements(list, bytes);
         if whole == 0 || !self.ends_with(list, bytes, whole) {
@@ -237,6 +238,35 @@ impl PlainList {
         }
         self.most = whole;
         self.closed = true;
+    }
+
+    /// Counts the elements that have numbers anew, as `of` does.
+    fn count_anew(&mut self, list: &List, bytes: &Buffer)
+        ensures { IsAlike self.old self.new }
+    {
+        let all = most_of(self.first, self.size, self.per);
+        if all == 0 {
+            return;
+        }
+        self.most = all;
+        self.closed = false;
+        self.close(list, bytes);
+    }
+
+    /// Counts the elements anew, of the list that the head gives over these bytes. So many of the first nodes stay as they are told: unless they are before the
+    /// last end, as it was and as it is, the old count stands.
+    #[tactic(auto, using(crate::proofs::Retold::before))]
+    pub(crate) fn retell_list(&mut self, list: &List, bytes: &Buffer, kept: u32)
+        requires { kept ≤ size_of self.old }
+        ensures { BeginsAs (fold_of self.old) (fold_of self.new) kept }
+    {
+        let (most, closed) = (self.most, self.closed);
+        let elements = self.elements_size();
+        self.count_anew(list, bytes);
+        if kept >= elements.min(self.elements_size()) {
+            self.most = most;
+            self.closed = closed;
+        }
     }
 
     /// The numbers of the list whose head gave this over these bytes, if it is plain and its elements are of one size.

@@ -29,7 +29,7 @@ pub struct PlainList {
     pub(crate) per: u32,
     /// How many elements have numbers.
     pub(crate) most: u32,
-    /// Whether these were all elements of the list as this was made: then rests have numbers too.
+    /// Whether these were all elements of the list as this was made, or told anew: then rests have numbers too.
     pub(crate) closed: bool,
     ghost short: { length root.path.upward < 63 },
     ghost some: { 0 < size },

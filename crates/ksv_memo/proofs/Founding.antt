@@ -19,7 +19,7 @@ module _ {N A : Type 0} (w : Standing N A) (law : IsSettled w) where
       ap (λ (t : Told N A). t.outcome) (tells-free w law [] o.node (AreDistinct-none w) refl
       ∙ ended.came (answering w (o.node ∷ [])) (agrees w law es stack.right (o.node ∷ []) (stack.apart.0, tt)))
 
-  among_all : (P : N → Type 0) (ns : List N) → AllByRecursion P ns → (n : N) → is_among w.number ns n ≡ true → P n
+  pub among_all : (P : N → Type 0) (ns : List N) → AllByRecursion P ns → (n : N) → is_among w.number ns n ≡ true → P n
   among_all P [] h n e = absurd (true≢false (sym e))
   among_all P (m ∷ ns) h n e = by (nat_eq (w.number n) (w.number m)) refl (among_all P ns h.1 n)
     where

@@ -26,6 +26,7 @@ pub mod Unfolded
 pub mod Beside
 pub mod Lending
 pub mod Founding
+pub mod Retelling
 pub mod Counted
 pub mod Runs
 pub mod Leaving

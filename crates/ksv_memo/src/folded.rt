@@ -18,7 +18,9 @@ use std::alloc::{AllocError, Global};
 use std::marker::Model;
 
 /// How many nodes there must be at least, so that they are kept by numbers alone.
-const LEAST: u32 = 1_024;
+const LEAST: usize = 1_024;
+/// And one for so many bytes of the file: as those of one list alone are kept so, a small list isn't that in a large file.
+const BYTES: usize = 1_024;
 
 /// Nodes of which the first are kept by numbers alone.
 #[derive(Drop)]
@@ -33,6 +35,16 @@ pub struct Run<S> {
     pub far: u32,
     /// The numbers of those that have slots too, since they were asked.
     pub lent: Vec<u32>,
+    /// An edit has moved the file's end since the nodes were told.
+    pub moved: bool,
+}
+
+/// Whether a change moves the file's end.
+fn moves_end(change: Change) -> bool {
+    match change {
+        Change::Overwrite { .. } => false,
+        Change::Insert { .. } | Change::Delete { .. } | Change::Append => true,
+    }
 }
 
 impl<S> Run<S> {
@@ -245,6 +257,74 @@ fn grow_run<R: Rules>(
     run.kept = now;
 }
 
+/// The nodes are told anew over these bytes. Those that are kept by numbers alone stay as they are, and no more are kept so until `widen` has looked.
+fn retell<R: Rules>(table: &mut Table<R>, run: &mut Run<R::Fold>, bytes: &Buffer)
+    requires opened { table.old.opened ≡ [] }
+    requires run { IsFolding R.Node.eq R.Fold.fold (Some run.old) (nodes table.old) }
+    ensures run { IsFolding R.Node.eq R.Fold.fold (Some run.new) (nodes table.new) }
+    ensures seen { nodes (viewed R.Node.eq R.Fold.fold (Some run.new) table.new) ≡ nodes (viewed R.Node.eq R.Fold.fold (Some run.old) table.old) }
+    ensures opened { table.new.opened ≡ [] }
+    ensures grows { table.old.looks ≤ table.new.looks }
+{
+    table.retell(&mut run.nodes, bytes, run.kept);
+    run.wild = run.kept;
+    run.far = run.kept;
+}
+
+/// More nodes may be kept by numbers alone: all that there are over these bytes, if the first that isn't kept so has no slot. Evaluation of each that is
+/// behind it completes it, so none of these has one either. If memory is refused, no more may be.
+fn widen<R: Rules>(
+    table: &mut Table<R>,
+    run: &mut Run<R::Fold>,
+    alloc: Global,
+    rules: &R,
+    bytes: &Buffer,
+) -> Result<(), AllocError>
+    requires opened { table.old.opened ≡ [] }
+    requires run { IsFolding R.Node.eq R.Fold.fold (Some run.old) (nodes table.old) }
+    requires right { IsRight (on (R.meaning rules.now) bytes.now) (viewed R.Node.eq R.Fold.fold (Some run.old) table.old).kept }
+    ensures run { IsFolding R.Node.eq R.Fold.fold (Some run.new) (nodes table.new) }
+    ensures seen { nodes (viewed R.Node.eq R.Fold.fold (Some run.new) table.new) ≡ nodes (viewed R.Node.eq R.Fold.fold (Some run.old) table.old) }
+    ensures grows { table.old.looks ≤ table.new.looks }
+{
+    let count = table.foldable(rules, &run.nodes, bytes);
+    if count <= run.far {
+        return Ok(());
+    }
+    let first = run.nodes.node(alloc, run.kept)?;
+    if !table.holds(&first) {
+        run.far = count;
+    }
+    Ok(())
+}
+
+/// More nodes are kept by numbers alone, if evaluation of a node completes them, for which a question is about to start. Their calls are counted. Where an edit
+/// has moved the file's end since the nodes were told, they are told anew first. No node is open.
+#[inline(never)]
+fn grow_anew<R: Rules>(
+    table: &mut Table<R>,
+    run: &mut Run<R::Fold>,
+    alloc: Global,
+    rules: &R,
+    bytes: &Buffer,
+    node: &R::Node,
+    turns: &mut Turns,
+)
+    requires opened { table.old.opened ≡ [] }
+    requires run { IsFolding R.Node.eq R.Fold.fold (Some run.old) (nodes table.old) }
+    requires right { IsRight (on (R.meaning rules.now) bytes.now) (viewed R.Node.eq R.Fold.fold (Some run.old) table.old).kept }
+    ensures run { IsFolding R.Node.eq R.Fold.fold (Some run.new) (nodes table.new) }
+    ensures grown { Grows (on (R.meaning rules.now) bytes.now) node.now (viewed R.Node.eq R.Fold.fold (Some run.old) table.old) (viewed R.Node.eq R.Fold.fold (Some run.new) table.new) turns.old turns.new }
+    ensures grows { table.old.looks ≤ table.new.looks }
+{
+    if run.moved {
+        retell(table, run, bytes);
+        run.moved = widen(table, run, alloc, rules, bytes).is_err();
+    }
+    run.wild = run.far;
+    grow_run(table, run, rules, bytes, node, turns);
+}
+
 /// Asks for a node, where some are kept by numbers alone. More are so before it is looked up. It is inlined, and what it calls isn't:
 /// so what these calls need is made ready here, and not where no node is kept by its number.
 #[inline(always)]
@@ -362,7 +442,7 @@ fn founded<R: Rules>(
         return Ok(None);
     };
     let count = rules.foldable(&nodes, value, bytes);
-    if count < LEAST {
+    if (count as usize) < LEAST.max(bytes.len() / BYTES) {
         return Ok(None);
     }
     let wild = table.least_open(&nodes, count);
@@ -372,6 +452,7 @@ fn founded<R: Rules>(
         wild,
         far: count,
         lent: Vec::new(alloc),
+        moved: false,
     }))
 }
 
@@ -495,7 +576,14 @@ impl<R: Rules> Folded<R> {
     }
 
     /// Grows by nodes that evaluation of a node completes, for which a question is about to start; their calls are counted. No node is open.
-    pub(crate) fn grow(&mut self, rules: &R, bytes: &Buffer, node: &R::Node, turns: &mut Turns)
+    pub(crate) fn grow(
+        &mut self,
+        alloc: Global,
+        rules: &R,
+        bytes: &Buffer,
+        node: &R::Node,
+        turns: &mut Turns,
+    )
         requires opened { self.old.opened ≡ [] }
         requires right { IsRight (on (R.meaning rules.now) bytes.now) self.old.kept }
         ensures grown { Grows (on (R.meaning rules.now) bytes.now) node.now self.old self.new turns.old turns.new }
@@ -503,10 +591,7 @@ impl<R: Rules> Folded<R> {
     {
         match &mut self.run {
             None => {}
-            Some(run) => {
-                run.wild = run.far;
-                grow_run(&mut self.table, run, rules, bytes, node, turns);
-            }
+            Some(run) => grow_anew(&mut self.table, run, alloc, rules, bytes, node, turns),
         }
     }
 
@@ -606,6 +691,7 @@ impl<R: Rules> Folded<R> {
         if self.table.holds(run.nodes.root()) {
             let left = run.nodes.left(run.kept, change);
             run.cut(left);
+            run.moved = run.moved || moves_end(change);
             self.run = Some(run);
         }
         let went = count.saturating_sub(self.len());

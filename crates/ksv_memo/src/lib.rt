@@ -58,6 +58,7 @@
 //! - `Finding`: what the slot at a place says
 //! - `Forgetting`: what forgetting takes is what an edit takes, and the rest is right
 //! - `Founding`: a run begins where its root has its answer
+//! - `Retelling`: a run whose nodes are told anew, and which of them may be kept by numbers alone then
 //! - `Growing`: a question goes on as if the table had grown before the call
 //! - `Growth`: a run grows by nodes that evaluation of an asked one completes
 //! - `Knowing`: which nodes are kept or open, read from the slots

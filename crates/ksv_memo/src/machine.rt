@@ -170,7 +170,8 @@ impl<R: Rules> Machine<R> {
         ensures turns { IfOk result (λ outcome. IsAnswered outcome → self.new.turns ≡ counted (debt (on (R.meaning rules.now) bytes.now) self.old.table.kept (done (on (R.meaning rules.now) bytes.now) [] node)) self.old.turns) }
     {
         self.table.tidy();
-        self.table.grow(rules, bytes, &node, &mut self.turns);
+        self.table
+            .grow(self.alloc, rules, bytes, &node, &mut self.turns);
         let outcome = self.run(rules, bytes, node);
         self.abandon();
         outcome

@@ -6,11 +6,12 @@ ghost use Rattle.ksv_memo_links.specs.Shelved.{ticked, ticked_by};
 ghost use Rattle.ksv_memo.specs.Layout.{slots_of};
 ghost use Rattle.ksv_memo.specs.Folding.{TellsFold};
 ghost use Rattle.ksv_memo.specs.Moves.{with_slot, IsVacant, Knows};
+ghost use Rattle.ksv_memo_rules.specs.Folds.{BeginsAs};
 ghost use Rattle.ksv_memo_rules.specs.Meaning.{IsAddedTo, on};
 ghost use Rattle.ksv_memo_rules.specs.Slots.{HasAnswer, answer_at, answers_at};
 
 use ksv_bytes::{Buffer, Use};
-use ksv_memo_rules::{Lent, Next, Outcome, Places, Replies, Reply, Rules, Slot, answer_at};
+use ksv_memo_rules::{Folds, Lent, Next, Outcome, Places, Replies, Reply, Rules, Slot, answer_at};
 use std::alloc::{AllocError, Global};
 use std::marker::{Model, PhantomData};
 
@@ -280,6 +281,23 @@ pub(crate) fn foldable_at<R: Rules>(
     match answer_at(slots.lend(), place) {
         Some(Ok(value)) => rules.foldable(nodes, value, bytes),
         _ => 0,
+    }
+}
+
+/// Tells nodes anew over these bytes, whose root has its answer in the slot of a number. So many of the first stay as they are.
+pub(crate) fn retell_at<R: Rules>(
+    slots: &Slots<R::Node, R::Places, R::Value, R::Fault>,
+    place: usize,
+    nodes: &mut R::Fold,
+    bytes: &Buffer,
+    kept: u32,
+)
+    requires { kept ≤ (R.Fold.fold nodes.old).size }
+    ensures { BeginsAs (R.Fold.fold nodes.old) (R.Fold.fold nodes.new) kept }
+{
+    match answer_at(slots.lend(), place) {
+        Some(Ok(value)) => nodes.retell(value, bytes, kept),
+        _ => {}
     }
 }
 

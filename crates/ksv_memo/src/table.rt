@@ -3,7 +3,7 @@ ghost use Rattle.std.specs.List.{All, AllByRecursion, AllPairs, IsDistinct};
 ghost use Rattle.std.specs.Prelude.{◌≡◌, ◌≢◌, ◌<◌, ◌≤◌, ◌+◌, ◌^◌, ℕ, [], Some, length, true, false, option_map, nat_lt, IfOk, IfSome, IfNone, OnOk, OnErr};
 ghost use Rattle.ksv_memo_links.specs.Touching.{AreWithin};
 ghost use Rattle.ksv_memo_rules.specs.Meaning.{IsAddedTo, on};
-ghost use Rattle.ksv_memo_rules.specs.Folds.{IsFold};
+ghost use Rattle.ksv_memo_rules.specs.Folds.{BeginsAs, IsFold};
 ghost use Rattle.ksv_memo_rules.specs.Right.{counted, nodes_of};
 ghost use Rattle.ksv_memo.specs.Layout.{AreFrames, IsLaidOut};
 ghost use Rattle.ksv_memo.specs.Nodes.{Asks, Closes, HasNoEntry, KeepsNode, MayKeep, MayLose, Opens, Seeks, Starts, Steps, TakesFirst, is_there, looks_of, nodes, nodes_with};
@@ -18,7 +18,7 @@ ghost use Rattle.ksv_memo.specs.Emptying.{IsEmptied};
 
 use crate::frames::{Frames, last_frame, least_place, number, open_new, reopen};
 use crate::machine::turns::Turns;
-use crate::slots::{Known, Slots, call, foldable_at, outcome_at};
+use crate::slots::{Known, Slots, call, foldable_at, outcome_at, retell_at};
 use crate::uses::{keep_by, keep_once};
 use crate::vacancy::{open_in, vacant};
 use ksv_bytes::{Buffer, Change};
@@ -373,6 +373,19 @@ impl<R: Rules> Table<R> {
         match self.slots.find(folded.root()) {
             Known::Kept(place) => foldable_at(rules, &self.slots, place, folded, bytes),
             _ => 0,
+        }
+    }
+
+    /// Tells nodes that can be kept by numbers alone anew over these bytes, if their root is kept. So many of the first stay as they are.
+    pub(crate) fn retell(&mut self, folded: &mut R::Fold, bytes: &Buffer, kept: u32)
+        requires { kept ≤ (R.Fold.fold folded.old).size }
+        ensures begins { BeginsAs (R.Fold.fold folded.old) (R.Fold.fold folded.new) kept }
+        ensures nodes { nodes self.new ≡ nodes self.old }
+        ensures grows { self.old.looks ≤ self.new.looks }
+    {
+        match self.slots.find(folded.root()) {
+            Known::Kept(place) => retell_at::<R>(&self.slots, place, folded, bytes, kept),
+            _ => {}
         }
     }
 

@@ -38,6 +38,12 @@ pub record Leaves {N A : Type 0} (f : Fold N A) (change : Change) (kept left : �
   pub stays : (j : ℕ) → j < left → list_any (is_use_touched change) (f.entry j).uses ≡ false
   pub goes : (j : ℕ) → left ≤ j → j < kept → list_any (is_use_touched change) (f.entry j).uses ≡ true
 
+-- a sequence begins as another: it has its root, and so many of its first nodes
+pub record BeginsAs {N A : Type 0} (f g : Fold N A) (kept : ℕ) : Type 0 where
+  pub root : g.root ≡ f.root
+  pub in_size : kept ≤ g.size
+  pub same : (j : ℕ) → j < kept → g.entry j ≡ f.entry j
+
 -- each node of a sequence comes once, none is the root, and each entry names the root alone
 pub record IsLaid {N A : Type 0} (f : Fold N A) : Type 0 where
   pub once : (i j : ℕ) → i < f.size → j < f.size → (f.entry i).node ≡ (f.entry j).node → i ≡ j

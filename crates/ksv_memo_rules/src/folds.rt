@@ -1,8 +1,8 @@
 //! Nodes that an engine can keep by numbers alone.
 ghost use Rattle.std.specs.Prelude.{◌≡◌, ℕ, ◌-◌, ◌<◌, ◌≤◌, Ok, IfOk, IfSome, IfNone, Result};
-ghost use Rattle.ksv_memo_rules.specs.Folds.{Fold, IsLaid, Leaves, calls_from, used_of};
+ghost use Rattle.ksv_memo_rules.specs.Folds.{BeginsAs, Fold, IsLaid, Leaves, calls_from, used_of};
 
-use ksv_bytes::{Change, Use};
+use ksv_bytes::{Buffer, Change, Use};
 use std::alloc::{AllocError, Global};
 
 /// Nodes in an order that an engine can keep by numbers alone, from 0 on, once the first of all, their *root*, has its answer: it
@@ -26,6 +26,11 @@ pub trait Folds<N, V, F> {
         ensures some { IfSome result (λ j. ((fold self.now).entry j).node ≡ node.now) }
         ensures none { IfNone result ((j : ℕ) → j < (fold self.now).size → ((fold self.now).entry j).node ≡ node.now → ⊥) };
 
+    /// The node of a number. Where there are no nodes, any number will do.
+    fn node(&self, alloc: Global, place: u32) -> Result<N, AllocError>
+        requires { 0 < (fold self.now).size → place < (fold self.now).size }
+        ensures { IfOk result (λ node. ((fold self.now).entry place).node ≡ node) };
+
     /// The answer of the node of a number. Where there are no nodes, any number will do.
     fn answer(&self, alloc: Global, place: u32) -> Result<V, AllocError>
         requires { 0 < (fold self.now).size → place < (fold self.now).size }
@@ -46,6 +51,11 @@ pub trait Folds<N, V, F> {
         requires order { from ≤ to }
         requires in_size { to ≤ (fold self.now).size }
         ensures { result ≡ calls_from (fold self.now).calls from (to - from) };
+
+    /// Tells the nodes anew over these bytes, where the root has this value: there may be more of them, or fewer. So many of the first stay as they are.
+    fn retell(&mut self, value: &V, bytes: &Buffer, kept: u32)
+        requires { kept ≤ (fold self.old).size }
+        ensures { BeginsAs (fold self.old) (fold self.new) kept };
 }
 
 /// No nodes, for rules of which none can be kept so.
@@ -71,6 +81,10 @@ impl<N, V, F> Folds<N, V, F> for NoFold<N, V> {
         None
     }
 
+    fn node(&self, _alloc: Global, _place: u32) -> Result<N, AllocError> {
+        Err(AllocError)
+    }
+
     fn answer(&self, _alloc: Global, _place: u32) -> Result<V, AllocError> {
         Err(AllocError)
     }
@@ -86,4 +100,6 @@ impl<N, V, F> Folds<N, V, F> for NoFold<N, V> {
     fn calls(&self, _from: u32, _to: u32) -> u64 {
         0
     }
+
+    fn retell(&mut self, _value: &V, _bytes: &Buffer, _kept: u32) {}
 }

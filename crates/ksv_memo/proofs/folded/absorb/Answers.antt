@@ -25,6 +25,7 @@ last g c = record {
   wild = c.max-run.result;
   far = c.keep_beside.new.run.far;
   lent = c.keep_beside.new.run.lent;
+  moved = c.keep_beside.new.run.moved;
 }
 
 absorbed : (g : Given.Over) (c : After-max-run g) → IsFolding g.R.Node.PartialEq.eq g.R.Fold.Folds.fold (Some (last g c)) (nodes c.keep_beside.new.table)
