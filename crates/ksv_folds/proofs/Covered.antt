@@ -1,4 +1,5 @@
--- Of which elements the nodes are told: those before the last whole one, and all where the list ends with the last that has a number.
+-- Of which elements the nodes are told: those before the last whole one, and that one too where the list goes on behind it; and all where the list ends with
+-- the last that has a number.
 use Rattle.std.proofs.Common.{◌*◌, ◌==◌, ◌&&◌}
 use Rattle.std.proofs.Math.Nat.{mul-le-mul_left}
 use Rattle.ksv_rule_meaning.specs.Heads.{is_past}
@@ -65,6 +66,29 @@ module _ (p : PlainList) (d : Description) (bytes : List ℕ) (x : Listing) (pla
         let up = low_all in
         subst (IsKnown p d bytes x plain is (x.count - 1) before) (sym (element_at p j (omega (arith, low, up, less))))
         (spot_in_is (length p.parts.items) p.per p.width (x.count - 1) j (omega (arith, low, less)))
+
+  module _ (few : x.count ≤ p.most) (goes_on : is_last bytes x (x.count - 1) ≡ false) (unended_too : is_closing p (x.count - 1) ≡ false) where
+    unlast : (i : ℕ) → i < x.count → is_last bytes x i ≡ is_closing p i
+    unlast i low = elim (cases_lt (suc i) x.count) [
+      | inl less ↦ unended i (omega (arith, less)) ∙ sym (unclosed i (omega (arith, less, few)))
+      | inr more ↦ (
+          let same : i ≡ x.count - 1 = omega (arith, more, low) in ap (is_last bytes x) same ∙ goes_on ∙ sym (ap (is_closing p) same ∙ unended_too))
+    ]
+
+    pub every : IsTold p bytes x x.count
+    every = record { whole = omega arith; few = few; ends = unlast }
+
+    every_low : p.per * x.count ≤ elements_size p
+    every_low = mul-le-mul_left p.per few
+
+    pub every_room : (count : ℕ) → count ≤ p.per * x.count → count ≤ size_of p
+    every_room count low = let up = every_low in omega (arith, low, up)
+
+    pub every_known : (count : ℕ) → count ≤ p.per * x.count → (j : ℕ) → j < count → IsKnown p d bytes x plain is x.count every (numbered_at p j)
+    every_known count low j less =
+        let up = every_low in
+        subst (IsKnown p d bytes x plain is x.count every) (sym (element_at p j (omega (arith, low, up, less))))
+        (spot_in_is (length p.parts.items) p.per p.width x.count j (omega (arith, low, less)))
 
   module _ (ends : EndsWith p bytes x) where
     last_of : (i : ℕ) → i < p.most → is_last bytes x i ≡ is_closing p i

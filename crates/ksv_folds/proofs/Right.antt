@@ -18,12 +18,12 @@ use Rattle.ksv_list_laws.specs.Laws.{guard_node, is_folded}
 use Rattle.ksv_list_laws.specs.Nodes.{answer_at}
 use Rattle.ksv_list_laws.specs.Nodes as nodes
 use Rattle.ksv_folds.proofs.Asked.{IsEarlier, asked_earlier, asks_are, prior_asked}
-use Rattle.ksv_folds.proofs.Covered.{spot_low, before, before_known, before_room, all, all_known}
+use Rattle.ksv_folds.proofs.Covered.{spot_low, before, before_known, before_room, every, every_known, every_room, all, all_known}
 use Rattle.ksv_folds.proofs.Told.{which, which_of, IsTold, IsKnown, there, found, answer_is, reach_is, guard_is}
 use Rattle.ksv_folds.specs.Lemmas.Numbers.{elements_some, prior_in, prior_of, element_at, number_is, numbered_is}
 use Rattle.ksv_folds.specs.Lemmas.Spots.{first_is}
 use Rattle.ksv_memo_rules.specs.Folds.{Fold, IsFold, first_of}
-use Rattle.ksv_folds.specs.Laws.{Describes, SequencesAreRight, WholeSequencesAreRight}
+use Rattle.ksv_folds.specs.Laws.{Describes, OpenSequencesAreRight, SequencesAreRight, WholeSequencesAreRight}
 use Rattle.ksv_folds.specs.Sequence.{number_of, numbered_at, node_in, answer_in, fold_of, elements_size, size_of}
 use Rattle.ksv_folds.specs.Sequence as sequence
 use Rattle.ksv_folds.specs.declared.plain_list.PlainList.{PlainList}
@@ -213,6 +213,12 @@ pub sequences_are_right : SequencesAreRight
 sequences_are_right p d bytes x plain is few count low =
     are_right p d bytes x plain is (x.count - 1) (before p d bytes x plain is few) count (before_room p d bytes x plain is few count low)
     (before_known p d bytes x plain is few count low)
+
+pub open_sequences_are_right : OpenSequencesAreRight
+open_sequences_are_right p d bytes x plain is few goes_on unended count low =
+    are_right p d bytes x plain is x.count (every p d bytes x plain is few goes_on unended) count
+    (every_room p d bytes x plain is few goes_on unended count low)
+    (every_known p d bytes x plain is few goes_on unended count low)
 
 pub whole_sequences_are_right : WholeSequencesAreRight
 whole_sequences_are_right p d bytes x plain is ends =

@@ -1,5 +1,5 @@
 -- The law of sequences: they are as they say.
-use Rattle.std.specs.Prelude.{◌≡◌, ℕ, suc, ◌+◌, ◌-◌, ◌*◌, ◌≤◌, true, List, length, Option, Some, None}
+use Rattle.std.specs.Prelude.{◌≡◌, ℕ, suc, ◌+◌, ◌-◌, ◌*◌, ◌≤◌, true, false, List, length, Option, Some, None}
 use Rattle.ksv_desc.specs.Description.{Description}
 use Rattle.ksv_memo_rules.specs.Meaning.{on}
 use Rattle.ksv_nodes.specs.Rule.{head_node}
@@ -10,7 +10,7 @@ use Rattle.ksv_folds.specs.declared.part.Part.{Part}
 use Rattle.ksv_folds.specs.declared.plain_list.PlainList.{PlainList}
 use Rattle.ksv_memo_rules.specs.Folds.{IsFold}
 use Rattle.ksv_folds.specs.Parts.{part, edge}
-use Rattle.ksv_folds.specs.Sequence.{fold_of, size_of}
+use Rattle.ksv_folds.specs.Sequence.{fold_of, is_closing, size_of}
 
 -- a field of a layout is this one
 pub record IsField (y : Layout) (ps : List Part) (f : ℕ) : Type 0 where
@@ -44,6 +44,12 @@ pub record EndsWith (p : PlainList) (bytes : List ℕ) (x : Listing) : Type 0 wh
 abbrev pub SequencesAreRight : Type 0
 SequencesAreRight = (p : PlainList) (d : Description) (bytes : List ℕ) (x : Listing) → IsPlain d bytes x → Describes p x → x.count ≤ p.most → (count : ℕ)
     → count ≤ p.per * (x.count - 1) → IsFold (on (described d) bytes) (fold_of p) count
+
+-- So are those of the last whole one, where the list goes on behind it, and isn't known to end with it.
+abbrev pub OpenSequencesAreRight : Type 0
+OpenSequencesAreRight = (p : PlainList) (d : Description) (bytes : List ℕ) (x : Listing) → IsPlain d bytes x → Describes p x → x.count ≤ p.most
+    → is_last bytes x (x.count - 1) ≡ false → is_closing p (x.count - 1) ≡ false → (count : ℕ) → count ≤ p.per * x.count
+    → IsFold (on (described d) bytes) (fold_of p) count
 
 -- And so are all of them, rests too, where the list ends so.
 abbrev pub WholeSequencesAreRight : Type 0

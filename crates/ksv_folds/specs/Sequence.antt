@@ -279,6 +279,8 @@ fold_of p = record {
   root = p.root;
   size = size_of p;
   entry = λ j. entry_of p (numbered_at p j);
+  prior = λ j. None;
+  whole = suc;
   calls = λ j. asks_in p (numbered_at p j) + 1;
 }
 

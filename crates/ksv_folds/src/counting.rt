@@ -105,10 +105,11 @@ impl PlainList {
         if whole == 0 {
             return 0;
         }
-        if self.closed && whole == self.most && self.ends_with(list, bytes, whole) {
-            return self.size();
+        let ends = self.ends_with(list, bytes, whole);
+        if ends != self.is_closing(whole - 1) {
+            return self.per * (whole - 1);
         }
-        self.per * (whole - 1)
+        if ends { self.size() } else { self.per * whole }
     }
 
     /// How many nodes the sequence has over these bytes, where the list's head still gives this.

@@ -79,7 +79,7 @@ impl PlainList {
     }
 
     /// Whether the list is known to end with an element.
-    fn is_closing(&self, element: u32) -> bool
+    pub(crate) fn is_closing(&self, element: u32) -> bool
         requires { element < self.now.most }
         ensures { result ≡ is_closing self.now element }
     {

@@ -50,6 +50,10 @@ impl Folds<Node, Given, Fault> for PlainList {
         }
     }
 
+    fn whole(&self, place: u32) -> u32 {
+        place + 1
+    }
+
     #[tactic(auto, using(crate::proofs::Adding::calls_between))]
     fn calls(&self, from: u32, to: u32) -> u64 {
         self.calls_to(to) - self.calls_to(from)

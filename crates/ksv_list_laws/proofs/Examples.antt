@@ -23,7 +23,7 @@ use Rattle.ksv_list_laws.proofs.Common.{head_of, meaning_of, rule_of}
 use Rattle.ksv_list_laws.proofs.Fields.{member_rule}
 use Rattle.ksv_list_laws.proofs.Says.{as_head, Says, says_answer, says_given, says_by, says_seen, ends_there}
 use Rattle.ksv_list_laws.specs.Examples.{of_list, numbers, three, items, item_layout, of_three, of_two, listing, NumbersArePlain, CountedArePlain}
-use Rattle.ksv_list_laws.specs.Examples.{ItemsArePlain, ItemsAreNamed}
+use Rattle.ksv_list_laws.specs.Examples.{ItemsArePlain, ItemsAreNamed, ItemsAreSizedNext}
 use Rattle.ksv_list_laws.specs.Lists as layouts
 use Rattle.ksv_list_laws.specs.Nodes.{IsWhole}
 
@@ -132,3 +132,7 @@ items_are_plain f l is = record {
 pub items_are_named : ItemsAreNamed
 unfolding members_of sought
 items_are_named f = refl
+
+pub items_are_sized_next : ItemsAreSizedNext
+unfolding members_of sought
+items_are_sized_next f = (omega arith, refl)

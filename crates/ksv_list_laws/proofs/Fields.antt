@@ -1,5 +1,5 @@
 -- What the rules of an element's fields say, and of the value that says the size of some; and how an element is read.
-use Rattle.std.specs.Prelude.{◌==◌, pos, slice_range}
+use Rattle.std.specs.Prelude.{◌==◌, ℤ, pos, slice_range}
 use Rattle.ksv_basics.specs.Plan.{translate}
 use Rattle.ksv_bytes.specs.declared.uses.Use.TheVariants as uses_are
 use Rattle.ksv_desc.specs.Description.{Extent, Sized, ByItself, MemberKind, valid_of, Choice}
@@ -10,32 +10,38 @@ use Rattle.ksv_expr_meaning.specs.Meaning.{member_value, member_path, value_of a
 use Rattle.ksv_expr_meaning.specs.declared.want.Want.TheVariants as wants
 use Rattle.ksv_expr_tree.specs.Tree.{Tree, Word, named}
 use Rattle.ksv_expr_value.specs.Places.{Place, byte_of, aligned}
+use Rattle.ksv_expr_value.specs.Range.{ranged}
 use Rattle.ksv_expr_value.specs.Setting.{Setting}
 use Rattle.ksv_expr_value.specs.Trail.{last}
+use Rattle.ksv_expr_value.specs.declared.fault.FaultKind.TheVariants as kinds
 use Rattle.ksv_expr_value.specs.declared.step.Step.TheVariants as steps
 use Rattle.ksv_expr_value.specs.declared.value.Value.{Value}
 use Rattle.ksv_expr_value.specs.declared.value.Value.TheVariants as values
-use Rattle.ksv_nodes.specs.Reading.{Peek, gives, peek_at}
-use Rattle.ksv_nodes.specs.Rule.{Here, value_node, ask_head, ask_value}
+use Rattle.ksv_nodes.specs.Reading.{Peek, Look, gives, peek_at}
+use Rattle.ksv_nodes.specs.Rule.{Here, raise, in_head, value_node, ask_head, ask_value}
+use Rattle.ksv_nodes.specs.Truth.{answer_of, with_given, with_seen}
 use Rattle.ksv_nodes.specs.declared.given.Given.TheVariants as givens
 use Rattle.ksv_nodes.specs.declared.given.Head.TheVariants as heads
 use Rattle.ksv_nodes.specs.declared.given.Leaf.{Leaf}
 use Rattle.ksv_nodes.specs.declared.given.List as lists
 use Rattle.ksv_nodes.specs.declared.given.Object.{Object}
 use Rattle.ksv_nodes.specs.declared.given.Origin.{Origin}
+use Rattle.ksv_nodes.specs.declared.node.NodeKind.TheVariants as nodes
 use Rattle.ksv_rule_meaning.specs.Checks.{value_checked, member_checked, checked_if}
 use Rattle.ksv_rule_meaning.specs.Choosing.{choose, content_of}
 use Rattle.ksv_rule_meaning.specs.Ends.{place_of, end_at, end_of}
 use Rattle.ksv_rule_meaning.specs.Fields.{in_sought, in_field, member_named}
 use Rattle.ksv_rule_meaning.specs.Heads.{content_at, chosen_at, bytes_at, sized_leaf, is_of_bits, start_after, attribute_start, attribute_setting}
 use Rattle.ksv_rule_meaning.specs.Heads.{member_setting, origin_of, attribute_head, attribute_at, repeated, member_at, member_head, head_at}
-use Rattle.ksv_rule_meaning.specs.Values.{value_of, value_at, leaf_value, content_value, number_value, number_in}
+use Rattle.ksv_rule_meaning.specs.Integers.{integer_value}
+use Rattle.ksv_rule_meaning.specs.Values.{value_of, value_at, leaf_value, content_value, number_value, number_in, in_number}
 use Rattle.ksv_rule_meaning.specs.Wanted.{holds, wanted, expression, integer_of, in_integer, size_of, in_size}
 use Rattle.ksv_list_laws.proofs.Chains.{AsksFirst}
-use Rattle.ksv_list_laws.proofs.Common.{◌≡◌, ◌∙◌, ℕ, suc, ◌+◌, ◌<◌, ◌≤◌, nat_lt, nat_le, true, false, if◌then◌else◌, List, [], ◌∷◌, length, Some, None}
-use Rattle.ksv_list_laws.proofs.Common.{Result, Ok, refl, sym, ap, arith, nat_tests, Answer, Ask, bind, Use, byte_of_byte, at_byte, Trail, child, Stream}
-use Rattle.ksv_list_laws.proofs.Common.{Description, Field, Content, Always, Node, NodeFault, Given, Head, look, end_in, Rule, See, head_node, end_node}
-use Rattle.ksv_list_laws.proofs.Common.{in_path, ask_end, field_of, leaf, shape_at, part_end, head_of, meaning_of, rule_of, Layout, content_size}
+use Rattle.ksv_list_laws.proofs.Common.{◌≡◌, ◌∙◌, ℕ, suc, ◌+◌, ◌<◌, ◌≤◌, nat_lt, nat_le, Bool, true, false, if◌then◌else◌, List, [], ◌∷◌, length}
+use Rattle.ksv_list_laws.proofs.Common.{Option, Some, None, Result, Ok, refl, sym, ap, arith, nat_tests, Answer, Ask, bind, Use, byte_of_byte, at_byte}
+use Rattle.ksv_list_laws.proofs.Common.{Trail, child, Stream, Description, Field, Content, Always, Node, NodeFault, Given, Head, look, end_in, Rule}
+use Rattle.ksv_list_laws.proofs.Common.{See, head_node, end_node, in_path, ask_end, field_of, leaf, shape_at, part_end, head_of, meaning_of, rule_of}
+use Rattle.ksv_list_laws.proofs.Common.{Layout, content_size}
 use Rattle.ksv_list_laws.proofs.Paths.{part_of}
 use Rattle.ksv_list_laws.proofs.Plain.{IsNumber, IsNamed, IsLaidOut}
 use Rattle.ksv_list_laws.proofs.Rules.{leaf_says}
@@ -215,6 +221,15 @@ module _ (met : Node → Result Given NodeFault) (bytes : List ℕ) (d : Descrip
         ap (λ k. bind (in_field k) (λ f. bind (content_of f.choice None) (λ c. content_value leaf_there f c))) (laid.field j low)
         ∙ ap (λ c. bind (content_of c None) (λ k. content_value leaf_there (y.field j) k)) number.always
 
+    -- it is read and then checked
+    value_rule : checked (value_at d x (heads.Leaf leaf_there))
+        ≡ Ask (See (Peek from to)) (λ zs. checked (number_in number.is_signed number.order None zs))
+    unfolding number_value bind
+    value_rule =
+        ap checked read_value
+        ∙ ap (λ k. Ask (See (Peek k (byte_of (at_byte to)))) (λ zs. checked (number_in number.is_signed number.order None zs))) (byte_of_byte from)
+        ∙ ap (λ k. Ask (See (Peek from k)) (λ zs. checked (number_in number.is_signed number.order None zs))) (byte_of_byte to)
+
     peeks : from < to → to ≤ length bytes → look (Peek from to) bytes ≡ gives (slice_range bytes from to) (uses_are.Bytes from to ∷ [])
     unfolding peek_at
     peeks some room =
@@ -232,9 +247,49 @@ module _ (met : Node → Result Given NodeFault) (bytes : List ℕ) (d : Descrip
         sym (ap (λ c. integer_in c (slice_range bytes from to)) number.always) ∙ said in
         says_given met x bytes (head_node x) _ (givens.Head (heads.Leaf leaf_there)) _ [] (uses_are.Bytes from to ∷ []) headed
         (says_by met x bytes (checked (value_at d x (heads.Leaf leaf_there)))
-        (Ask (See (Peek from to)) (λ zs. checked (number_in number.is_signed number.order None zs))) _ [] _
-        (ap checked read_value ∙ ap (λ k. Ask (See (Peek k (byte_of (at_byte to)))) (λ zs. checked (number_in number.is_signed number.order None zs)))
-        (byte_of_byte from)
-        ∙ ap (λ k. Ask (See (Peek from k)) (λ zs. checked (number_in number.is_signed number.order None zs))) (byte_of_byte to))
+        (Ask (See (Peek from to)) (λ zs. checked (number_in number.is_signed number.order None zs))) _ [] _ value_rule
         (says_seen met x bytes (Peek from to) _ (slice_range bytes from to) (uses_are.Bytes from to ∷ []) _ (peeks some room)
         (ap checked number_is ∙ ap (λ z. bind (bind z (λ u. Answer (values.Int (pos n)))) (λ v. Answer (givens.Value v))) (check_is (values.Int (pos n))))))
+
+    -- ---- what it answers is what its bytes write
+
+    abbrev Answers : Rule Given → Type 0
+    Answers rule = answer_of met x bytes rule ≡ Ok (givens.Value (values.Int (pos n)))
+
+    checked_is : (v : Value) → Answers (checked (Answer v)) → v ≡ values.Int (pos n)
+    unfolding bind
+    checked_is v h =
+        let all : ◌≡◌ {A = Result Given NodeFault} (Ok (givens.Value v)) (Ok (givens.Value (values.Int (pos n)))) =
+        sym (ap (λ z. answer_of met x bytes (bind (bind z (λ u. Answer v)) (λ w. Answer (givens.Value w)))) (check_is v)) ∙ h in cc
+
+    number_read : (b : Bool) (o : Option ℤ) → Answers (checked (if b then in_number None o else raise kinds.BadType))
+        → (if b then in_number None o else raise kinds.BadType) ≡ Answer (values.Int (pos n))
+    unfolding bind
+    number_read true (Some v) h = ap (λ z. Answer z) (checked_is (values.Int v) h)
+    number_read true None h = absurd (cc)
+    number_read false o h = absurd (cc)
+
+    -- bytes that aren't all there are no value
+    seen_is : from < to → Answers (Ask (See (Peek from to)) (λ zs. checked (number_in number.is_signed number.order None zs)))
+        → Answers (checked (number_in number.is_signed number.order None (slice_range bytes from to)))
+    unfolding peek_at
+    seen_is some h = by (nat_le to (length bytes)) refl
+      where
+        by : (b : Bool) → nat_le to (length bytes) ≡ b → Answers (checked (number_in number.is_signed number.order None (slice_range bytes from to)))
+        by true e =
+            let see = peeks some (grind (arith, nat_tests)) in
+            let rest : List ℕ → Result Given NodeFault = λ zs. answer_of met x bytes (checked (number_in number.is_signed number.order None zs)) in
+            sym (ap (λ (k : Look (List ℕ)). with_seen x k.seen rest) see) ∙ h
+        by false e = absurd (let apart_so : (from == to) ≡ false = grind (arith, nat_tests) in let none = rw (apart_so, e) at h in cc)
+
+    pub value_is : met (head_node x) ≡ Ok (givens.Head (heads.Leaf leaf_there)) → from < to
+        → answer_of met x bytes (meaning_of d nodes.Value x) ≡ Ok (givens.Value (values.Int (pos n)))
+        → integer_in (y.field j).choice (slice_range bytes from to) ≡ Answer (values.Int (pos n))
+    unfolding meaning_of value_of bind
+    value_is headed some h =
+        let told : Answers (checked (value_at d x (heads.Leaf leaf_there))) =
+        sym (ap (λ r. with_given r (λ g'. answer_of met x bytes (bind (bind (in_head g') (λ k. bind (value_at d x k) (λ v. bind (value_checked d x k v)
+        (λ u. Answer v)))) (λ v. Answer (givens.Value v))))) headed) ∙ h in
+        let zs = slice_range bytes from to in
+        let read = seen_is some (ap (λ r. answer_of met x bytes r) (sym value_rule) ∙ told) in
+        ap (λ c. integer_in c zs) number.always ∙ number_read (nat_le (length zs) 8) (ranged (integer_value number.is_signed number.order zs)) read

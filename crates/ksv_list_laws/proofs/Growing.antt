@@ -11,14 +11,16 @@ use Rattle.ksv_rule_meaning.specs.Completed.{completed}
 use Rattle.ksv_rule_meaning.specs.Lemmas.Lawful.{described_lawful}
 use Rattle.ksv_list_laws.proofs.Common.{◌≡◌, ◌∙◌, ℕ, ◌+◌, Bool, true, false, List, [], ◌∷◌, ◌++◌, length, Option, Some, None, Result, ◌⊎◌, inl, inr}
 use Rattle.ksv_list_laws.proofs.Common.{refl, ap, arith, nat_tests, subst, sym, AllByRecursion, flat_map, Description, Fault, is_among, Standing, on}
-use Rattle.ksv_list_laws.proofs.Common.{AreDistinct-none, with_first, node_number, Given, Node, described, head_node}
-use Rattle.ksv_list_laws.proofs.Common.{Listing, Which, asked_by, node_at, nodes_of, IsPlain}
+use Rattle.ksv_list_laws.proofs.Common.{AreDistinct-none, with_first, node_number, Given, Node, described, head_node, Listing, Which, ElementEnd}
+use Rattle.ksv_list_laws.proofs.Common.{FieldHead, SizeValue, asked_by, node_at, nodes_of, IsPlain, IsThere}
 use Rattle.ksv_list_laws.proofs.Entries.{known}
+use Rattle.ksv_list_laws.proofs.Ordering.{order_rises, value_rises}
 use Rattle.ksv_list_laws.proofs.Rising.{AnyOf, Rises, end_rises}
 use Rattle.ksv_list_laws.proofs.Telling.{tells, node_is}
 use Rattle.ksv_list_laws.proofs.Trees.{trees_are_asked}
 use Rattle.ksv_list_laws.proofs.Truth.{or_true, some_is}
-use Rattle.ksv_list_laws.specs.Laws.{NodesGrow, EarlierAreCompleted}
+use Rattle.ksv_list_laws.specs.Laws.{NodesGrow, EarlierAreCompleted, UpToAreCompleted, ValuesComplete}
+use Rattle.ksv_list_laws.specs.Nodes.{IsUpTo}
 
 -- ---- one by one
 
@@ -101,15 +103,34 @@ module _ (d : Description) (bytes : List ℕ) (x : Listing) (plain : IsPlain d b
             ∙ or_true (among (nodes_of x (asked_by x k))) (is_among node_number (m.0 ∷ []) n) (inl (any_asked (asked_by x k) q)),
       )
 
+  completes_itself : (k : Which) → IsThere bytes x k → node_at x k ≡ Some n → Completes (Some k)
+  completes_itself k there is = (
+    n,
+    is,
+    ap (λ ms. is_among node_number ms n) (trees_are_asked d bytes n _ _ _ (tells d bytes x plain k there n is))
+        ∙ is_among-append node_number (flat_map (completed d bytes []) (nodes_of x (asked_by x k))) (n ∷ []) n
+        ∙ or_true (among (nodes_of x (asked_by x k))) (is_among node_number (n ∷ []) n) (inr (itself n)),
+  )
+
+  completes_is : (m : Which) (o : Node) → node_at x m ≡ Some o → Completes (Some m) → has o ≡ true
+  completes_is m o is q = subst (λ z. has z ≡ true) (some_is q.0 o (sym q.1 ∙ is)) q.2
+
 pub earlier_are_completed : EarlierAreCompleted
 earlier_are_completed d bytes x plain k there own m late low n e is end_is =
-    let t = tells d bytes x plain k there n is in
-    let q : Completes d bytes x plain n (Some k) = (
-      n,
-      is,
-      ap (λ ms. is_among node_number ms n) (trees_are_asked d bytes n _ _ _ t)
-          ∙ is_among-append node_number (flat_map (completed d bytes []) (nodes_of x (asked_by x k))) (n ∷ []) n
-          ∙ or_true (is_among node_number (flat_map (completed d bytes []) (nodes_of x (asked_by x k))) n) (is_among node_number (n ∷ []) n) (inr (itself n)),
-    ) in
-    let found = end_rises d bytes x plain (Completes d bytes x plain n) (rises d bytes x plain n) k there own m late low q in
-    subst (λ o. is_among node_number (completed d bytes [] o) n ≡ true) (some_is found.0 e (sym found.1 ∙ end_is)) found.2
+    completes_is d bytes x plain n (ElementEnd m) e end_is
+    (end_rises d bytes x plain (Completes d bytes x plain n) (rises d bytes x plain n) k there own m late low
+    (completes_itself d bytes x plain n k there is))
+
+pub up_to_are_completed : UpToAreCompleted
+up_to_are_completed d bytes x plain next k m there other own own' folded up n o is was =
+    completes_is d bytes x plain n m o was
+    (order_rises d bytes x plain (Completes d bytes x plain n) (rises d bytes x plain n) next k m there other own own' folded up
+    (completes_itself d bytes x plain n k there is))
+
+pub values_complete : ValuesComplete
+values_complete d bytes x plain k i there other own up n o is was = completes_is d bytes x plain n (SizeValue i) o was (by up)
+  where
+    by : (k ≡ SizeValue i) ⊎ IsUpTo x k (FieldHead i x.layout.sizer) → Completes d bytes x plain n (Some (SizeValue i))
+    by (inl same) = subst (λ z. Completes d bytes x plain n (Some z)) same (completes_itself d bytes x plain n k there is)
+    by (inr before) = value_rises d bytes x plain (Completes d bytes x plain n) (rises d bytes x plain n) k i there other own before
+        (completes_itself d bytes x plain n k there is)

@@ -9,9 +9,10 @@ use Rattle.ksv_list_laws.proofs.Common.{Use, Description, with_first, end_in, he
 use Rattle.ksv_list_laws.proofs.Common.{ElementEnd, Rest, FieldHead, FieldEnd, SizeValue, node_at, nodes_of, end_uses, size_asked, last_asked, later_asked}
 use Rattle.ksv_list_laws.proofs.Common.{asked_by, element_uses, uses_at, prior_guard, guard_of, end_reach, prior_reach, element_reach, reach_of, IsPlain}
 use Rattle.ksv_list_laws.proofs.Common.{IsThere}
+use Rattle.ksv_list_laws.proofs.Laid.{first_size, none_named, named_more, named_here}
 use Rattle.ksv_list_laws.proofs.Places.{first_some}
-use Rattle.ksv_list_laws.proofs.Rising.{AnyOf, Rises, none_named, head_value, head_guard, end_later, guard_rises, reach_rises}
-use Rattle.ksv_list_laws.proofs.Telling.{first_size, start_less, field_room, named_more, named_here, tells, node_is}
+use Rattle.ksv_list_laws.proofs.Rising.{AnyOf, Rises, head_value, head_guard, end_later, guard_rises, reach_rises}
+use Rattle.ksv_list_laws.proofs.Telling.{start_less, field_room, tells, node_is}
 use Rattle.ksv_list_laws.proofs.Trees.{touched_is}
 use Rattle.ksv_list_laws.proofs.Truth.{or_true, true_or, same_truth}
 use Rattle.ksv_list_laws.specs.Laws.{guard_node, GuardsTell}
@@ -172,7 +173,7 @@ module _ (d : Description) (bytes : List ℕ) (x : Listing) (plain : IsPlain d b
       reach_field n j low' few None e h = absurd (cc)
       reach_field zero j low' few (Some t) e h = absurd h
       reach_field (suc n) j low' few (Some t) e (inl h) =
-          let first = first_size d bytes x plain in
+          let first = first_size d x.list x.layout plain.laid in
           far_to n (place x (suc n) (suc j)) (first_some x.layout (x.says (suc n)) (start x (suc n)) first.0 j first.1 first.2)
           (field_room d bytes x plain (suc n) j low' few) h
       reach_field (suc n) j low' few (Some t) e (inr h) = absurd h
@@ -182,7 +183,7 @@ module _ (d : Description) (bytes : List ℕ) (x : Listing) (plain : IsPlain d b
         where
           by : (b : Bool) → is_named_to x.layout j ≡ b → IsGuarded (ElementHead i)
               → IsTouched (if b then Some (SizeValue i) else prior_guard x i) ⊎ AreHit (reach_of bytes x (FieldHead i j))
-          by true e h = inl (head_value d bytes x plain IsTouched rises i low (named_more d bytes x plain j x.layout.last few e) t)
+          by true e h = inl (head_value d bytes x plain IsTouched rises i low (named_more x.layout j x.layout.last few e) t)
           by false e (inl g) = inl g
           by false e (inr u) = inr (inl (reach_field i j low few x.layout.type_number some u))
 
@@ -191,7 +192,7 @@ module _ (d : Description) (bytes : List ℕ) (x : Listing) (plain : IsPlain d b
         where
           by : (o : Option ℕ) → size_at x.layout j ≡ o → AnyOf IsTouched (size_asked i o) → IsTouched (field_guard x i j)
           by (Some n) e h' = absurd h'
-          by None e (inl v) = subst (λ b. IsTouched (if b then Some (SizeValue i) else prior_guard x i)) (sym (named_here d bytes x plain j e)) v
+          by None e (inl v) = subst (λ b. IsTouched (if b then Some (SizeValue i) else prior_guard x i)) (sym (named_here x.layout j e)) v
           by None e (inr v) = absurd v
 
       guard_next : (j : ℕ) → suc j ≤ x.layout.last → IsTouched (field_guard x i j) → IsTouched (field_guard x i (suc j))
@@ -200,13 +201,13 @@ module _ (d : Description) (bytes : List ℕ) (x : Listing) (plain : IsPlain d b
           before : (b : Bool) → IsTouched (if b then Some (SizeValue i) else prior_guard x i) → is_named_to x.layout (suc j) ≡ true
               → IsTouched (Some (SizeValue i))
           before true g e = g
-          before false g e = head_value d bytes x plain IsTouched rises i low (named_more d bytes x plain (suc j) x.layout.last few e)
+          before false g e = head_value d bytes x plain IsTouched rises i low (named_more x.layout (suc j) x.layout.last few e)
               (head_guard d bytes x plain IsTouched rises i low g)
 
           none : (b : Bool) → is_named_to x.layout j ≡ b → is_named_to x.layout (suc j) ≡ false
               → IsTouched (if b then Some (SizeValue i) else prior_guard x i)
               → IsTouched (prior_guard x i)
-          none true e f g = absurd (let never : true ≡ false = sym (named_more d bytes x plain j (suc j) (omega arith) e) ∙ f in cc)
+          none true e f g = absurd (let never : true ≡ false = sym (named_more x.layout j (suc j) (omega arith) e) ∙ f in cc)
           none false e f g = g
 
           by : (b : Bool) → is_named_to x.layout (suc j) ≡ b → IsTouched (if b then Some (SizeValue i) else prior_guard x i)
@@ -274,7 +275,7 @@ module _ (d : Description) (bytes : List ℕ) (x : Listing) (plain : IsPlain d b
         reach (inr u) = absurd u
 
         by : IsGuarded (ElementHead i) → IsGuarded (ElementEnd i)
-        by (inl g) = inl (prior_of (none_named d bytes x plain e) g)
+        by (inl g) = inl (prior_of (none_named d x.list x.layout plain.laid e) g)
         by (inr u) = reach (subst (λ o. AreHit (element_reach bytes x o i)) e u)
 
     end_falls : IsTouched (Some (ElementEnd i)) → IsGuarded (ElementEnd i)

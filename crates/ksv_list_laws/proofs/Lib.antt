@@ -5,6 +5,7 @@ pub mod Says
 pub mod Chains
 pub mod Paths
 pub mod Plain
+pub mod Laid
 pub mod Rules
 pub mod Fields
 pub mod Places
@@ -14,6 +15,8 @@ pub mod Entries
 pub mod Guards
 pub mod Examples
 pub mod Rising
+pub mod Ordering
 pub mod Folding
 pub mod Growing
+pub mod Written
 pub mod Shorter

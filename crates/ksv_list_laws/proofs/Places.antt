@@ -4,9 +4,9 @@ use Rattle.ksv_expr_value.specs.declared.step.Step.{Step}
 use Rattle.ksv_expr_value.specs.declared.step.Step.TheVariants as steps
 use Rattle.ksv_nodes.specs.declared.node.NodeKind.{NodeKind}
 use Rattle.ksv_nodes.specs.declared.node.NodeKind.TheVariants as nodes
-use Rattle.ksv_list_laws.proofs.Common.{◌≡◌, ℕ, zero, suc, ◌+◌, ◌-◌, ◌<◌, ◌≤◌, Bool, true, false, if◌then◌else◌, List, ◌∷◌, Some, inl, inr, refl, ap, arith}
-use Rattle.ksv_list_laws.proofs.Common.{nat_tests, cases_lt, unwrap_or, Node, Layout, size_at, Listing, ElementHead, ElementEnd, Rest, FieldHead, FieldEnd}
-use Rattle.ksv_list_laws.proofs.Common.{SizeValue, Which}
+use Rattle.ksv_list_laws.proofs.Common.{◌≡◌, ℕ, zero, suc, ◌+◌, ◌-◌, ◌<◌, ◌≤◌, Bool, true, false, if◌then◌else◌, List, ◌∷◌, Some, inl, inr, refl, ap}
+use Rattle.ksv_list_laws.proofs.Common.{arith, nat_tests, cases_lt, unwrap_or, Node, Layout, size_at, Listing, start, ElementHead, ElementEnd, Rest}
+use Rattle.ksv_list_laws.proofs.Common.{FieldHead, FieldEnd, SizeValue, Which}
 use Rattle.ksv_list_laws.specs.Lists.{place_of}
 use Rattle.ksv_list_laws.specs.Nodes.{field_start}
 
@@ -26,6 +26,19 @@ pub first_some : (y : Layout) (n a m k : ℕ) → size_at y 0 ≡ Some m → 0 <
 first_some y n a m k size some =
     let first : field_start y n a 1 ≡ a + m = ap (λ o. a + unwrap_or o n) size in
     let low = field_low y n a 1 (suc k) (omega arith) in omega (arith, first, low, some)
+
+-- the elements of a list are where they are, however many of them are looked at
+pub same_start : (x : Listing) (c i : ℕ) → start (record x { count = c }) i ≡ start x i
+same_start x c zero = refl
+same_start x c (suc i) = ap (λ a. field_start x.layout (x.says i) a (suc x.layout.last)) (same_start x c i)
+
+pub start_low : (x : Listing) (i c : ℕ) → i ≤ c → start x i ≤ start x c
+start_low x i zero le = let same : i ≡ 0 = omega (arith, le) in let e : start x i ≡ start x 0 = ap (start x) same in omega (arith, e)
+start_low x i (suc c) le = elim (cases_lt c i) [
+  | inl less ↦ (let same : i ≡ suc c = omega (arith, le, less) in let e : start x i ≡ start x (suc c) = ap (start x) same in omega (arith, e))
+  | inr more ↦ (let low = start_low x i c more in let up = field_low x.layout (x.says c) (start x c) 0 (suc x.layout.last) (omega arith) in
+      omega (arith, low, up))
+]
 
 -- ---- ranks
 

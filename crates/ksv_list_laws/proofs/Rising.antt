@@ -1,13 +1,12 @@
 -- What is so of a node where it is so of one that it asks: then it is so of a node where it is so of its guard, or where a node makes its use.
 use Rattle.std.proofs.Common.{not}
 use Rattle.ksv_bytes.specs.declared.uses.Use.TheVariants as uses_are
-use Rattle.ksv_list_laws.proofs.Common.{◌≡◌, ◌∙◌, ℕ, zero, suc, ◌+◌, ◌-◌, ◌<◌, ◌≤◌, nat_le, Bool, true, false, if◌then◌else◌, ◌||◌, List, [], ◌∷◌, Option, Some}
-use Rattle.ksv_list_laws.proofs.Common.{None, ◌⊎◌, inl, inr, refl, sym, ap, subst, arith, nat_tests, is_some, Use, Description, size_at, is_named_to, Listing}
-use Rattle.ksv_list_laws.proofs.Common.{start, Which, ElementHead, ElementEnd, Rest, FieldHead, FieldEnd, SizeValue, end_uses, size_asked, last_asked}
-use Rattle.ksv_list_laws.proofs.Common.{later_asked, asked_by, element_uses, uses_at, prior_guard, guard_of, end_reach, prior_reach, element_reach, reach_of}
-use Rattle.ksv_list_laws.proofs.Common.{IsPlain, IsThere}
-use Rattle.ksv_list_laws.proofs.Plain.{IsElementOf, IsRead}
-use Rattle.ksv_list_laws.proofs.Telling.{read, first_size, sizer_low}
+use Rattle.ksv_list_laws.proofs.Common.{◌≡◌, ℕ, zero, suc, ◌+◌, ◌-◌, ◌<◌, ◌≤◌, nat_le, Bool, true, false, if◌then◌else◌, ◌||◌, List, [], ◌∷◌, Option}
+use Rattle.ksv_list_laws.proofs.Common.{Some, None, ◌⊎◌, inl, inr, refl, sym, ap, subst, arith, nat_tests, is_some, Use, Description, size_at}
+use Rattle.ksv_list_laws.proofs.Common.{is_named_to, Listing, start, Which, ElementHead, ElementEnd, Rest, FieldHead, FieldEnd, SizeValue, end_uses}
+use Rattle.ksv_list_laws.proofs.Common.{size_asked, last_asked, later_asked, asked_by, element_uses, uses_at, prior_guard, guard_of, end_reach}
+use Rattle.ksv_list_laws.proofs.Common.{prior_reach, element_reach, reach_of, IsPlain, IsThere}
+use Rattle.ksv_list_laws.proofs.Laid.{named_some, sizer_low}
 use Rattle.ksv_list_laws.proofs.Truth.{none_is}
 use Rattle.ksv_list_laws.specs.Nodes.{is_last, element_of, field_guard, is_in_element, IsField}
 
@@ -26,31 +25,14 @@ module _ (d : Description) (bytes : List ℕ) (x : Listing) (plain : IsPlain d b
   abbrev pub IsNamed : Type 0
   IsNamed = is_named_to x.layout x.layout.last ≡ true
 
-  first_fixed : is_named_to x.layout 0 ≡ false
-  first_fixed = ap (λ o. not (is_some o)) (first_size d bytes x plain).1
-
-  -- elements without fields have none
-  pub none_named : x.layout.type_number ≡ None → is_named_to x.layout x.layout.last ≡ false
-  none_named kind = by (subst (IsElementOf d (IsRead.field (read d bytes x plain)) x.layout) kind (IsRead.element (read d bytes x plain)))
-    where
-      by : IsElementOf d (IsRead.field (read d bytes x plain)) x.layout None → is_named_to x.layout x.layout.last ≡ false
-      by e = ap (is_named_to x.layout) e.0 ∙ first_fixed
-
-  pub named_some : IsNamed → is_some x.layout.type_number ≡ true
-  named_some named = by x.layout.type_number refl
-    where
-      by : (o : Option ℕ) → x.layout.type_number ≡ o → is_some o ≡ true
-      by (Some t) e = refl
-      by None e = absurd (let never = sym (none_named e) ∙ named in cc)
-
-  value_there : (i : ℕ) → i < x.count → IsNamed → IsThere bytes x (SizeValue i)
-  value_there i low named = let some = named_some named in ((low, sizer_low d bytes x plain some named, some), named)
+  pub value_there : (i : ℕ) → i < x.count → IsNamed → IsThere bytes x (SizeValue i)
+  value_there i low named = let some = named_some d x.list x.layout plain.laid named in ((low, sizer_low d x.list x.layout plain.laid some named, some), named)
 
   module _ (Q : Option Which → Type 0) (rises : Rises bytes x Q) where
     pub head_value : (i : ℕ) → i < x.count → IsNamed → Q (Some (ElementHead i)) → Q (Some (SizeValue i))
     head_value i low named q = let there = value_there i low named in rises (SizeValue i) there (inl (rises (FieldHead i x.layout.sizer) there.0 (inl q)))
 
-    sized : (i j : ℕ) → IsField x i j → size_at x.layout j ≡ None → Q (Some (SizeValue i)) → Q (Some (FieldHead i j))
+    pub sized : (i j : ℕ) → IsField x i j → size_at x.layout j ≡ None → Q (Some (SizeValue i)) → Q (Some (FieldHead i j))
     sized i zero there e q = rises (FieldHead i 0) there (inr (subst (λ o. AnyOf Q (size_asked i o)) (sym e) (inl q)))
     sized i (suc j) there e q = rises (FieldHead i (suc j)) there (inr (inr (subst (λ o. AnyOf Q (size_asked i o)) (sym e) (inl q))))
 
@@ -83,7 +65,7 @@ module _ (d : Description) (bytes : List ℕ) (x : Listing) (plain : IsPlain d b
     end_guard i low q = by (is_named_to x.layout x.layout.last) refl q
       where
         by : (b : Bool) → is_named_to x.layout x.layout.last ≡ b → Q (if b then Some (SizeValue i) else None) → Q (Some (ElementEnd i))
-        by true e q' = let some = named_some e in last_end i low some (value_field i x.layout.last (low, omega arith, some) e q')
+        by true e q' = let some = named_some d x.list x.layout plain.laid e in last_end i low some (value_field i x.layout.last (low, omega arith, some) e q')
         by false e q' = rises (ElementEnd i) low (inl (rises (ElementHead i) low (inl q')))
 
     pub head_guard : (i : ℕ) → i < x.count → Q (prior_guard x i) → Q (Some (ElementHead i))
@@ -118,14 +100,16 @@ module _ (d : Description) (bytes : List ℕ) (x : Listing) (plain : IsPlain d b
 
     -- ---- to the ends of elements
 
-    fields_later : (k i j : ℕ) → j + k ≡ x.layout.last → IsField x i j → Q (Some (FieldHead i j)) → Q (Some (FieldHead i x.layout.last))
-    fields_later zero i j sum there q = let same : j ≡ x.layout.last = omega (arith, sum) in subst (λ h. Q (Some (FieldHead i h))) same q
-    fields_later (suc k) i j sum there q =
-        let more : IsField x i (suc j) = (there.0, omega (arith, sum), there.2) in
-        fields_later k i (suc j) (omega (arith, sum)) more (next_field i j more q)
+    pub fields_later : (k i j m : ℕ) → j + k ≡ m → IsField x i m → Q (Some (FieldHead i j)) → Q (Some (FieldHead i m))
+    fields_later zero i j m sum there q = let same : j ≡ m = omega (arith, sum) in subst (λ h. Q (Some (FieldHead i h))) same q
+    fields_later (suc k) i j m sum there q =
+        let low = there.1 in
+        fields_later k i (suc j) m (omega (arith, sum)) there (next_field i j (there.0, omega (arith, sum, low), there.2) q)
 
     field_end : (i j : ℕ) → IsField x i j → Q (Some (FieldHead i j)) → Q (Some (ElementEnd i))
-    field_end i j there q = let low = there.1 in last_end i there.0 there.2 (fields_later (x.layout.last - j) i j (omega (arith, low)) there q)
+    field_end i j there q =
+        let low = there.1 in
+        last_end i there.0 there.2 (fields_later (x.layout.last - j) i j x.layout.last (omega (arith, low)) (there.0, omega arith, there.2) q)
 
     -- the end of a field is asked by the next one, and that of the last by the element's
     after_field : (i j : ℕ) → IsField x i j → Q (Some (FieldEnd i j)) → Q (Some (ElementEnd i))

@@ -8,11 +8,12 @@ use Rattle.ksv_nodes.specs.declared.given.Head.TheVariants as heads
 use Rattle.ksv_rule_laws.proofs.Places.{places_are_in_file}
 use Rattle.ksv_rule_laws.specs.Laws.{IsEndIn}
 use Rattle.std.specs.Prelude.{slice_range}
-use Rattle.ksv_list_laws.proofs.Common.{◌≡◌, ◌∙◌, ℕ, zero, suc, ◌+◌, ◌<◌, ◌≤◌, Bool, true, false, ◌||◌, List, [], length, Option, Some, None, refl, sym}
-use Rattle.ksv_list_laws.proofs.Common.{ap, subst, arith, list_any, unwrap_or, is_use_touched, Use, Description, end_in, head_node, is_named_to}
-use Rattle.ksv_list_laws.proofs.Common.{Listing, start, IsPlain}
-use Rattle.ksv_list_laws.proofs.Rising.{named_some}
-use Rattle.ksv_list_laws.proofs.Telling.{field_room, sizer_is, sizer_low}
+use Rattle.ksv_list_laws.proofs.Common.{◌≡◌, ◌∙◌, ℕ, suc, ◌+◌, ◌<◌, ◌≤◌, Bool, true, false, ◌||◌, List, [], length, Option, Some, None, refl, sym, ap}
+use Rattle.ksv_list_laws.proofs.Common.{subst, arith, list_any, unwrap_or, is_use_touched, Use, Description, end_in, head_node, is_named_to, Listing}
+use Rattle.ksv_list_laws.proofs.Common.{start, IsPlain}
+use Rattle.ksv_list_laws.proofs.Laid.{named_some, sizer_is, sizer_low}
+use Rattle.ksv_list_laws.proofs.Places.{same_start}
+use Rattle.ksv_list_laws.proofs.Telling.{field_room}
 use Rattle.ksv_list_laws.specs.Laws.{ShorterStaysPlain}
 use Rattle.ksv_list_laws.specs.Nodes.{place, field_start, integer_in, element_depends, sizer_uses, IsWhole}
 
@@ -28,10 +29,6 @@ module _ (d : Description) (change : Change) (before after : List ℕ) (x : List
     (low : c ≤ x.count) (left : (i : ℕ) → i < c → list_any (is_use_touched change) (element_depends x i) ≡ false) where
   abbrev shorter : Listing
   shorter = record x { count = c }
-
-  same_start : (i : ℕ) → start shorter i ≡ start x i
-  same_start zero = refl
-  same_start (suc i) = ap (λ a. field_start x.layout (x.says i) a (suc x.layout.last)) (same_start i)
 
   room_for : (z : ℕ) (o : Option ℕ) → z ≤ end_in before o → z ≤ length after → z ≤ end_in after o
   room_for z None r a = a
@@ -50,10 +47,10 @@ module _ (d : Description) (change : Change) (before after : List ℕ) (x : List
       → slice_range after (place x i x.layout.sizer) (place x i (suc x.layout.sizer)) ≡
       slice_range before (place x i x.layout.sizer) (place x i (suc x.layout.sizer))
   same_value i lt named =
-      let some = named_some d before x plain named in
-      let size = sizer_is d before x plain some named in
+      let some = named_some d x.list x.layout plain.laid named in
+      let size = sizer_is d x.list x.layout plain.laid some named in
       let far : place x i (suc x.layout.sizer) ≡ place x i x.layout.sizer + size.1 = ap (λ o. place x i x.layout.sizer + unwrap_or o (x.says i)) size.2 in
-      let room = field_room d before x plain i x.layout.sizer (omega (arith, lt, low)) (sizer_low d before x plain some named) in
+      let room = field_room d before x plain i x.layout.sizer (omega (arith, lt, low)) (sizer_low d x.list x.layout plain.laid some named) in
       let within = plain.within in
       let more = size.3 in
       let used : Use = uses_are.Bytes (place x i x.layout.sizer) (place x i (suc x.layout.sizer)) in
@@ -69,10 +66,10 @@ module _ (d : Description) (change : Change) (before after : List ℕ) (x : List
   is_whole i lt =
       let whole = plain.whole i (omega (arith, lt, low)) in
       record {
-        room = subst (λ z. z ≤ end_in after x.list.stream.to) (sym (same_start (suc i))) (end_room i lt);
+        room = subst (λ z. z ≤ end_in after x.list.stream.to) (sym (same_start x c (suc i))) (end_room i lt);
         counted = whole.counted;
         says = λ named. ap (λ a. integer_in (x.layout.field x.layout.sizer).choice
-            (slice_range after (field_start x.layout (x.says i) a x.layout.sizer) (field_start x.layout (x.says i) a (suc x.layout.sizer)))) (same_start i)
+            (slice_range after (field_start x.layout (x.says i) a x.layout.sizer) (field_start x.layout (x.says i) a (suc x.layout.sizer)))) (same_start x c i)
             ∙ ap (integer_in (x.layout.field x.layout.sizer).choice) (same_value i lt named) ∙ whole.says named;
       }
 

@@ -1,5 +1,5 @@
 -- The nodes of a plain list are a chain.
-use Rattle.std.proofs.Common.{◌*◌, not}
+use Rattle.std.proofs.Common.{◌*◌}
 use Rattle.std.specs.Prelude.{option_map}
 use Rattle.ksv_desc.specs.Description as contents
 use Rattle.ksv_expr_value.specs.Places.{aligned}
@@ -12,20 +12,21 @@ use Rattle.ksv_rule_meaning.specs.Choosing.{choose}
 use Rattle.ksv_rule_meaning.specs.Ends.{start_of, place_of, rest_from, element_end, object_end, fields_end}
 use Rattle.ksv_rule_meaning.specs.Heads.{is_past, is_of_bits, content_at, chosen_at, object_at, element_setting}
 use Rattle.ksv_list_laws.proofs.Chains.{AsksFirst, Chain, IsChain, chain_tells}
-use Rattle.ksv_list_laws.proofs.Common.{◌≡◌, ◌∙◌, ℕ, zero, suc, ◌+◌, ◌-◌, ◌<◌, ◌≤◌, nat_le, Bool, true, false, if◌then◌else◌, ◌||◌, List, [], ◌∷◌, length}
-use Rattle.ksv_list_laws.proofs.Common.{Option, Some, None, Result, Ok, ◌⊎◌, inl, inr, refl, sym, ap, subst, arith, nat_tests, cases_lt, is_some}
-use Rattle.ksv_list_laws.proofs.Common.{option_and_then, unwrap_or, Answer, bind, byte_of_byte, at_byte, Trail, child, parent, trail_of-steps, Description}
-use Rattle.ksv_list_laws.proofs.Common.{Content, Always, with_first, Node, NodeFault, Given, Head, end_in, head_node, end_node, in_path, ask_end, part_end}
-use Rattle.ksv_list_laws.proofs.Common.{shape_at, leaf, rule_of, size_at, is_named_to, content_size, Listing, start, Which, ElementHead, ElementEnd, Rest}
-use Rattle.ksv_list_laws.proofs.Common.{FieldHead, FieldEnd, SizeValue, node_at, nodes_of, size_asked, last_asked, later_asked, asked_by, element_uses}
-use Rattle.ksv_list_laws.proofs.Common.{uses_at, IsPlain, IsThere, Tells}
+use Rattle.ksv_list_laws.proofs.Common.{◌≡◌, ◌∙◌, ℕ, zero, suc, ◌+◌, ◌-◌, ◌<◌, ◌≤◌, nat_le, Bool, true, false, if◌then◌else◌, List, [], ◌∷◌, length}
+use Rattle.ksv_list_laws.proofs.Common.{Option, Some, None, Result, Ok, ◌⊎◌, inl, inr, refl, sym, ap, subst, arith, nat_tests, is_some, option_and_then}
+use Rattle.ksv_list_laws.proofs.Common.{unwrap_or, Answer, bind, byte_of_byte, at_byte, Trail, child, parent, trail_of-steps, Description, Content}
+use Rattle.ksv_list_laws.proofs.Common.{Always, with_first, Node, NodeFault, Given, Head, end_in, head_node, end_node, in_path, ask_end, part_end}
+use Rattle.ksv_list_laws.proofs.Common.{shape_at, leaf, rule_of, size_at, content_size, Listing, start, Which, ElementHead, ElementEnd, Rest, FieldHead}
+use Rattle.ksv_list_laws.proofs.Common.{FieldEnd, SizeValue, node_at, nodes_of, size_asked, last_asked, later_asked, asked_by, element_uses, uses_at}
+use Rattle.ksv_list_laws.proofs.Common.{IsPlain, IsThere, Tells}
 use Rattle.ksv_list_laws.proofs.Fields as fields
+use Rattle.ksv_list_laws.proofs.Laid.{first_size, named_more, named_here, sizer_is}
+use Rattle.ksv_list_laws.proofs.Laid as layouts_are
 use Rattle.ksv_list_laws.proofs.Paths.{element_is, field_is, mapped, then_is}
 use Rattle.ksv_list_laws.proofs.Places.{field_low, first_some, turns, turns_low, place_is, width, rank, step_rank, node_rank}
-use Rattle.ksv_list_laws.proofs.Plain.{IsNumber, IsLaidOut, IsSized, IsElementOf, IsRead, is_read}
+use Rattle.ksv_list_laws.proofs.Plain.{IsLaidOut, IsSized, IsElementOf, IsRead}
 use Rattle.ksv_list_laws.proofs.Rules as rules
 use Rattle.ksv_list_laws.proofs.Says.{as_head, Says, says_answer, says_given, says_by, says_asking}
-use Rattle.ksv_list_laws.proofs.Truth.{none_is, or_true}
 use Rattle.ksv_list_laws.specs.Laws.{NodesHavePaths, NodesTell}
 use Rattle.ksv_list_laws.specs.Lists.{choice_size}
 use Rattle.ksv_list_laws.specs.Lists as layouts
@@ -47,29 +48,13 @@ module _ (d : Description) (bytes : List ℕ) (x : Listing) (plain : IsPlain d b
   t = unwrap_or x.layout.type_number 0
 
   pub read : IsRead d x.list x.layout
-  read = is_read d x.list x.layout plain.laid
+  read = layouts_are.read d x.list x.layout plain.laid
 
   pub laid : is_some x.layout.type_number ≡ true → IsLaidOut d t x.layout
-  laid some = by x.layout.type_number some (IsRead.element read)
-    where
-      by : (o : Option ℕ) → is_some o ≡ true → IsElementOf d (IsRead.field read) x.layout o → IsLaidOut d (unwrap_or o 0) x.layout
-      by (Some k) h e = e.3
-      by None h e = absurd (cc)
-
-  -- the first field takes bytes
-  pub first_size : (n : ℕ) × (size_at x.layout 0 ≡ Some n) × (0 < n)
-  first_size = by x.layout.type_number (IsRead.element read)
-    where
-      by_sized : (o : Option ℕ) → size_at x.layout 0 ≡ o → IsSized x.layout 0 o → (n : ℕ) × (size_at x.layout 0 ≡ Some n) × (0 < n)
-      by_sized (Some n) e z = (n, e, z.0)
-      by_sized None e z = absurd (let never = z.0 in omega (arith, never))
-
-      by : (o : Option ℕ) → IsElementOf d (IsRead.field read) x.layout o → (n : ℕ) × (size_at x.layout 0 ≡ Some n) × (0 < n)
-      by (Some k) e = by_sized (size_at x.layout 0) refl (e.3.sized 0 (omega arith))
-      by None e = (e.2, e.5, e.6)
+  laid some = layouts_are.laid d x.list x.layout plain.laid some
 
   pub start_less : (i : ℕ) → start x i < start x (suc i)
-  start_less i = first_some x.layout (x.says i) (start x i) first_size.0 x.layout.last first_size.1 first_size.2
+  start_less i = let first = first_size d x.list x.layout plain.laid in first_some x.layout (x.says i) (start x i) first.0 x.layout.last first.1 first.2
 
   pub field_room : (i j : ℕ) → i < x.count → j ≤ x.layout.last → place x i (suc j) ≤ end_in bytes x.list.stream.to
   field_room i j low few =
@@ -106,50 +91,6 @@ module _ (d : Description) (bytes : List ℕ) (x : Listing) (plain : IsPlain d b
 
   field_there : (i j : ℕ) → IsField x i j → (q : Trail) × (field_path x i j ≡ Some q)
   field_there i j there = let p = below i j there in (p.1, field_path_is i j p.0 p.1 p.2 p.3)
-
-  -- ---- sizes by name
-
-  -- a field of such a size, up to one
-  named_field : (k : ℕ) → is_named_to x.layout k ≡ true → (j : ℕ) × (j ≤ k) × (size_at x.layout j ≡ None)
-  named_field zero h = (0, omega arith, none_is (size_at x.layout 0) h)
-  named_field (suc k) h = by (is_named_to x.layout k) refl h (named_field k)
-    where
-      by : (b : Bool) → is_named_to x.layout k ≡ b → (b || not (is_some (size_at x.layout (suc k)))) ≡ true
-          → (is_named_to x.layout k ≡ true → (j : ℕ) × (j ≤ k) × (size_at x.layout j ≡ None)) → (j : ℕ) × (j ≤ suc k) × (size_at x.layout j ≡ None)
-      by true e h' before = let z = before e in (z.0, (let le = z.1 in omega (arith, le)), z.2)
-      by false e h' before = (suc k, omega arith, none_is (size_at x.layout (suc k)) h')
-
-  pub named_more : (j k : ℕ) → j ≤ k → is_named_to x.layout j ≡ true → is_named_to x.layout k ≡ true
-  named_more j zero le h = let same : j ≡ 0 = omega (arith, le) in ap (is_named_to x.layout) (sym same) ∙ h
-  named_more j (suc k) le h = elim (cases_lt k j) [
-    | inl less ↦ (let same : j ≡ suc k = omega (arith, le, less) in ap (is_named_to x.layout) (sym same) ∙ h)
-    | inr more ↦ ap (λ b. b || not (is_some (size_at x.layout (suc k)))) (named_more j k more h)
-  ]
-
-  pub named_here : (j : ℕ) → size_at x.layout j ≡ None → is_named_to x.layout j ≡ true
-  named_here zero e = ap (λ o. not (is_some o)) e
-  named_here (suc j) e = ap (λ o. is_named_to x.layout j || not (is_some o)) e ∙ or_true (is_named_to x.layout j) true (inr refl)
-
-  -- the field that says them is an integer
-  pub sizer_is : is_some x.layout.type_number ≡ true → is_named_to x.layout x.layout.last ≡ true → IsNumber (x.layout.field x.layout.sizer) × (n : ℕ)
-      × (size_at x.layout x.layout.sizer ≡ Some n) × (0 < n)
-  sizer_is some named =
-      let z = named_field x.layout.last named in
-      let by = subst (IsSized x.layout z.0) z.2 ((laid some).sized z.0 z.1) in
-      let before = by.0 in
-      let le = z.1 in
-      let own = own_size (size_at x.layout x.layout.sizer) refl ((laid some).sized x.layout.sizer (omega (arith, before, le))) in (by.2, own.0, own.1, own.2)
-    where
-      own_size : (o : Option ℕ) → size_at x.layout x.layout.sizer ≡ o → IsSized x.layout x.layout.sizer o → (n : ℕ)
-          × (size_at x.layout x.layout.sizer ≡ Some n) × (0 < n)
-      own_size (Some n) e z = (n, e, z.0)
-      own_size None e z = absurd (let never = z.0 in omega (arith, never))
-
-  pub sizer_low : is_some x.layout.type_number ≡ true → is_named_to x.layout x.layout.last ≡ true → x.layout.sizer ≤ x.layout.last
-  sizer_low some named =
-      let z = named_field x.layout.last named in
-      let before = (subst (IsSized x.layout z.0) z.2 ((laid some).sized z.0 z.1)).0 in
-      let le = z.1 in omega (arith, before, le)
 
   no_bits : (j : ℕ) (o : Option ℕ) → IsSized x.layout j o → is_of_bits (x.layout.field j).choice ≡ false
   no_bits j (Some n) z = ap is_of_bits z.2 ∙ fixed_no_bits z.1 n z.3
@@ -417,7 +358,7 @@ module _ (d : Description) (bytes : List ℕ) (x : Listing) (plain : IsPlain d b
               let s = field_is x.path p i (x.layout.name x.layout.sizer) plain.short is ((laid there.2).named x.layout.sizer sizer.1) in
               let path = field_path_is i x.layout.sizer p s.0 is s.1 in
               let valued = lower (SizeValue i) (value_node s.0) (omega (arith, before, at))
-              ((sizer, named_more j x.layout.last there.1 (named_here j e)), ap (option_map value_node) path) in
+              ((sizer, named_more x.layout j x.layout.last there.1 (named_here x.layout j e)), ap (option_map value_node) path) in
               subst (FieldReads lt (x.says i)) (sym (node_next (SizeValue i) (value_node s.0) [] (ap (option_map value_node) path)))
               (fields.read_named met bytes d x.list t x.layout (laid there.2) p (start x i) plain.within j there.1 q was (headed lt) (place x i j) (x.says i)
               (x.layout.name x.layout.sizer) s.0 z.1 s.1 valued (omega (arith, far, room)))
@@ -457,7 +398,7 @@ module _ (d : Description) (bytes : List ℕ) (x : Listing) (plain : IsPlain d b
         → Said (SizeValue i) (value_node q)
     says_value i there p q is was at =
         let path = ap (option_map head_node) (field_path_is i x.layout.sizer p q is was) in
-        let by = sizer_is there.0.2 there.1 in
+        let by = sizer_is d x.list x.layout plain.laid there.0.2 there.1 in
         let size = by.2 in
         let some = by.3 in
         let far : place x i (suc x.layout.sizer) ≡ place x i x.layout.sizer + by.1 = ap (λ o. place x i x.layout.sizer + unwrap_or o (x.says i)) size in

@@ -12,7 +12,7 @@ use Rattle.ksv_desc.specs.declared.order.ByteOrder.TheVariants.{Big}
 use Rattle.ksv_rule_meaning.specs.Wanted.{whole}
 use Rattle.ksv_list_laws.specs.Lists.{Layout, is_named_to, layout_of}
 use Rattle.ksv_list_laws.specs.Lists as layouts
-use Rattle.ksv_list_laws.specs.Nodes.{Listing, is_last, IsPlain}
+use Rattle.ksv_list_laws.specs.Nodes.{Listing, is_last, IsPlain, IsSizedNext}
 
 -- ---- descriptions
 
@@ -101,3 +101,7 @@ ItemsArePlain = (f : Field) (l : Trail) → child root (steps.Name 0) ≡ Some l
 
 abbrev pub ItemsAreNamed : Type 0
 ItemsAreNamed = (f : Field) → is_named_to (item_layout f) 1 ≡ true
+
+-- and the other is the first of such a size
+abbrev pub ItemsAreSizedNext : Type 0
+ItemsAreSizedNext = (f : Field) → IsSizedNext (item_layout f)

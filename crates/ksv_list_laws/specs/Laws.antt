@@ -1,6 +1,6 @@
 -- Laws of plain lists: what the nodes of their elements answer, ask and use from nothing, and which changes touch them. They are stated over
 -- the definitions of ksv_rule_meaning, and of ksv_memo_rules what is right to keep.
-use Rattle.std.specs.Prelude.{◌≡◌, ◌+◌, ◌<◌, ◌≤◌, ℕ, Bool, true, false, ◌||◌, List, [], ◌∷◌, ◌++◌, length, Option, Some, None, Result, Ok}
+use Rattle.std.specs.Prelude.{◌≡◌, ◌+◌, ◌<◌, ◌≤◌, ◌⊎◌, ℕ, Bool, true, false, ◌||◌, List, [], ◌∷◌, ◌++◌, length, Option, Some, None, Result, Ok}
 use Rattle.std.specs.List.{AllByRecursion, flat_map, list_any}
 use Rattle.ksv_bytes.specs.declared.uses.Use.{Use}
 use Rattle.ksv_bytes.specs.declared.uses.Change.{Change}
@@ -16,13 +16,18 @@ use Rattle.ksv_nodes.specs.declared.given.Given.{Given}
 use Rattle.ksv_nodes.specs.declared.given.Given.TheVariants as givens
 use Rattle.ksv_nodes.specs.declared.given.Head.TheVariants as heads
 use Rattle.ksv_nodes.specs.Numbers.{node_number}
+use Rattle.ksv_nodes.specs.Reading.{end_in}
 use Rattle.ksv_nodes.specs.Rule.{head_node}
 use Rattle.ksv_rule_meaning.specs.Completed.{completed}
 use Rattle.ksv_rule_meaning.specs.Described.{described}
 use Rattle.ksv_rule_meaning.specs.FromNothing.{from_nothing, asks, uses}
+use Rattle.ksv_rule_meaning.specs.Heads.{is_past}
 use Rattle.ksv_rule_meaning.specs.Kept.{is_touched}
+use Rattle.ksv_expr_value.specs.Trail.{element_limit}
 use Rattle.ksv_expr_value.specs.declared.fault.Fault.{Fault}
-use Rattle.ksv_list_laws.specs.Nodes.{Listing, Which, ElementEnd, SizeValue, element_depends, element_of, is_in_element, node_at, nodes_of, answer_at, asked_by, uses_at, guard_of, reach_of, IsPlain, IsThere}
+use Rattle.ksv_list_laws.specs.Lists.{list_layout, is_named_to}
+use Rattle.ksv_list_laws.specs.Nodes.{Listing, start, Which, ElementEnd, FieldHead, SizeValue, element_depends, element_of, is_in_element, node_at}
+use Rattle.ksv_list_laws.specs.Nodes.{nodes_of, answer_at, asked_by, uses_at, guard_of, reach_of, SaysSize, IsPlain, IsThere, IsUpTo, IsSizedNext}
 
 -- what a node answers, asks and uses from nothing
 pub record Tells (d : Description) (bytes : List ℕ) (opened : List Node) (n : Node) (g : Given) (ns : List Node) (us : List Use) : Type 0 where
@@ -97,6 +102,37 @@ abbrev pub EarlierAreCompleted : Type 0
 EarlierAreCompleted = (d : Description) (bytes : List ℕ) (x : Listing) → IsPlain d bytes x → (k : Which) → IsThere bytes x k → is_in_element k ≡ true
     → (m : ℕ) → element_of k ≤ m → m < x.count → (n e : Node) → node_at x k ≡ Some n → node_at x (ElementEnd m) ≡ Some e
     → is_among node_number (completed d bytes [] e) n ≡ true
+
+-- ---- in order
+
+-- A question for a node completes all nodes up to it, but rests, if it is no value, and the field behind the one that says sizes is the first
+-- of such a size.
+abbrev pub UpToAreCompleted : Type 0
+UpToAreCompleted = (d : Description) (bytes : List ℕ) (x : Listing) → IsPlain d bytes x → IsSizedNext x.layout → (k m : Which) → IsThere bytes x k
+    → IsThere bytes x m → is_in_element k ≡ true → is_in_element m ≡ true → is_folded m ≡ true → IsUpTo x k m → (n o : Node) → node_at x k ≡ Some n
+    → node_at x m ≡ Some o → is_among node_number (completed d bytes [] o) n ≡ true
+
+-- One for a value completes the value, and all nodes up to its field's head. The end of its field is none of these.
+abbrev pub ValuesComplete : Type 0
+ValuesComplete = (d : Description) (bytes : List ℕ) (x : Listing) → IsPlain d bytes x → (k : Which) (i : ℕ) → IsThere bytes x k → IsThere bytes x (SizeValue i)
+    → is_in_element k ≡ true → (k ≡ SizeValue i) ⊎ IsUpTo x k (FieldHead i x.layout.sizer) → (n o : Node) → node_at x k ≡ Some n
+    → node_at x (SizeValue i) ≡ Some o → is_among node_number (completed d bytes [] o) n ≡ true
+
+-- ---- by answers
+
+-- What a value that says sizes answers is what its bytes write, if its field's head answers what it is to.
+abbrev pub ValuesAreWritten : Type 0
+ValuesAreWritten = (d : Description) (bytes : List ℕ) (x : Listing) → list_layout d x.list ≡ Some x.layout → is_named_to x.layout x.layout.last ≡ true
+    → (i : ℕ) (h v : Node) → node_at x (FieldHead i x.layout.sizer) ≡ Some h → node_at x (SizeValue i) ≡ Some v
+    → from_nothing d bytes [] h ≡ Ok (answer_at bytes x (FieldHead i x.layout.sizer)) → from_nothing d bytes [] v ≡ Ok (answer_at bytes x (SizeValue i))
+    → SaysSize bytes x i
+
+-- So a list that is plain with none of its elements is so with the first c, if these end in its stream, its count excludes none of them, and
+-- each says its size.
+abbrev pub WrittenArePlain : Type 0
+WrittenArePlain = (d : Description) (bytes : List ℕ) (x : Listing) (c : ℕ) → IsPlain d bytes (record x { count = 0 }) → c ≤ element_limit
+    → start x c ≤ end_in bytes x.list.stream.to → ((i : ℕ) → i < c → is_past x.list.count i ≡ false)
+    → ((i : ℕ) → i < c → is_named_to x.layout x.layout.last ≡ true → SaysSize bytes x i) → IsPlain d bytes (record x { count = c })
 
 -- ---- edits
 

@@ -1,6 +1,6 @@
 -- The nodes of a plain list's elements, and what each of them is to answer, to ask and to use: in closed form, by numbers alone.
-use Rattle.std.specs.Prelude.{◌≡◌, ℕ, zero, suc, ◌+◌, ◌-◌, ◌==◌, ◌<◌, ◌≤◌, nat_lt, nat_le, Bool, true, false, if◌then◌else◌, List, [], ◌∷◌, length, Option}
-use Rattle.std.specs.Prelude.{Some, None, is_some, option_map, option_and_then, unwrap_or, Ok, pos, slice_range}
+use Rattle.std.specs.Prelude.{◌≡◌, ℕ, zero, suc, ◌+◌, ◌-◌, ◌*◌, ◌==◌, ◌<◌, ◌≤◌, ◌⊎◌, nat_lt, nat_le, Bool, true, false, if◌then◌else◌, List, [], ◌∷◌, length}
+use Rattle.std.specs.Prelude.{Option, Some, None, is_some, option_map, option_and_then, unwrap_or, Ok, pos, slice_range}
 use Rattle.ksv_basics.specs.Plan.{Answer}
 use Rattle.ksv_bytes.specs.declared.uses.Use.{Use}
 use Rattle.ksv_bytes.specs.declared.uses.Use.TheVariants as uses_are
@@ -270,14 +270,18 @@ abbrev pub integer_in : Choice → List ℕ → Rule Value
 integer_in (Always (contents.Number is_signed size order enum)) bytes = number_in is_signed order enum bytes
 integer_in _ bytes = raise kinds.BadType
 
+-- the bytes of the field that says the sizes of the element i write its number
+abbrev pub SaysSize : List ℕ → Listing → ℕ → Type 0
+SaysSize bytes x i =
+    integer_in (x.layout.field x.layout.sizer).choice (slice_range bytes (place x i x.layout.sizer) (place x i (suc x.layout.sizer)))
+    ≡ Answer (values.Int (pos (x.says i)))
+
 -- The element i is whole: its bytes are in the stream, the list's count doesn't exclude it, and where a field has a size that another says,
 -- that one says this number.
 pub record IsWhole (bytes : List ℕ) (x : Listing) (i : ℕ) : Type 0 where
   pub room : start x (suc i) ≤ end_in bytes x.list.stream.to
   pub counted : is_past x.list.count i ≡ false
-  pub says : is_named_to x.layout x.layout.last ≡ true
-      → integer_in (x.layout.field x.layout.sizer).choice (slice_range bytes (place x i x.layout.sizer) (place x i (suc x.layout.sizer)))
-      ≡ Answer (values.Int (pos (x.says i)))
+  pub says : is_named_to x.layout x.layout.last ≡ true → SaysSize bytes x i
 
 -- A plain list, the first elements of which are whole. Its path is short enough for paths of fields; it begins at a byte; and its stream
 -- ends in the file.
@@ -303,3 +307,27 @@ IsThere bytes x (Rest i) = (i < x.count) × (is_last bytes x (x.count - 1) ≡ t
 IsThere bytes x (FieldHead i j) = IsField x i j
 IsThere bytes x (FieldEnd i j) = IsField x i j
 IsThere bytes x (SizeValue i) = IsField x i x.layout.sizer × (is_named_to x.layout x.layout.last ≡ true)
+
+-- ---- their order
+
+-- one for the value, where a field is behind it
+abbrev pub past_value : Layout → ℕ → ℕ
+past_value y j = if nat_lt y.sizer j then 1 else 0
+
+-- The nodes of an element in order: its head; of each field the head and the end, and behind the end of the field that says sizes its value;
+-- the element's end. This is the place of each; that of a rest isn't used.
+abbrev pub order_of : Layout → Which → ℕ
+order_of y (ElementHead i) = 0
+order_of y (ElementEnd i) = 2 * y.last + 4
+order_of y (Rest i) = 0
+order_of y (FieldHead i j) = 2 * j + 1 + past_value y j
+order_of y (FieldEnd i j) = 2 * j + 2 + past_value y j
+order_of y (SizeValue i) = 2 * y.sizer + 3
+
+-- a node is another, or before it: in an earlier element, or earlier in the same
+abbrev pub IsUpTo : Listing → Which → Which → Type 0
+IsUpTo x k m = (element_of k < element_of m) ⊎ ((element_of k ≡ element_of m) × (order_of x.layout k ≤ order_of x.layout m))
+
+-- the field right behind the one that says sizes is the first of such a size
+abbrev pub IsSizedNext : Layout → Type 0
+IsSizedNext y = (y.sizer < y.last) × (size_at y (suc y.sizer) ≡ None)

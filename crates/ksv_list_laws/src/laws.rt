@@ -1,7 +1,8 @@
 //! The laws, each a contract of a function that does nothing.
 
-ghost use Rattle.ksv_list_laws.specs.Examples.{NumbersArePlain, CountedArePlain, ItemsArePlain, ItemsAreNamed};
-ghost use Rattle.ksv_list_laws.specs.Laws.{NodesHavePaths, NodesTell, GuardsTell, TreesAreAsked, EntriesAreRight, FoldedStandIn, NodesGrow, EarlierAreCompleted, ShorterStaysPlain};
+ghost use Rattle.ksv_list_laws.specs.Examples.{NumbersArePlain, CountedArePlain, ItemsArePlain, ItemsAreNamed, ItemsAreSizedNext};
+ghost use Rattle.ksv_list_laws.specs.Laws.{NodesHavePaths, NodesTell, GuardsTell, TreesAreAsked, EntriesAreRight, FoldedStandIn, NodesGrow};
+ghost use Rattle.ksv_list_laws.specs.Laws.{EarlierAreCompleted, UpToAreCompleted, ValuesComplete, ValuesAreWritten, WrittenArePlain, ShorterStaysPlain};
 
 /// Each node of a plain list has a path, and answers, asks and uses from nothing what numbers alone tell: the heads and ends of its
 /// elements and of their fields, the values that say sizes, and, where the last element is known, the rests.
@@ -34,6 +35,22 @@ pub fn nodes_grow()
     ensures earlier { EarlierAreCompleted }
 {}
 
+/// So an engine may keep these nodes by numbers, in one order of all but rests. A question for one that is no value completes it and all
+/// before it, if the field behind the one that says sizes is the first of such a size. One for a value completes it and all up to its
+/// field's head.
+pub fn nodes_complete_in_order()
+    ensures up_to { UpToAreCompleted }
+    ensures values { ValuesComplete }
+{}
+
+/// What a value that says sizes answers from nothing is what its bytes write, if its field's head answers what it is to: so an engine that
+/// kept these answers knows that the bytes are still these. A list that is plain with none of its elements is so with the first ones,
+/// if these end in its stream, its count excludes none of them, and each says its size.
+pub fn values_are_written()
+    ensures values { ValuesAreWritten }
+    ensures plain { WrittenArePlain }
+{}
+
 /// After an edit that touches nothing on which the first elements depend, the list of these is plain, if its head answers the same.
 pub fn shorter_stays_plain()
     ensures { ShorterStaysPlain }
@@ -45,4 +62,5 @@ pub fn examples_are_plain()
     ensures counted { CountedArePlain }
     ensures items { ItemsArePlain }
     ensures named { ItemsAreNamed }
+    ensures next { ItemsAreSizedNext }
 {}

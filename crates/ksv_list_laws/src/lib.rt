@@ -48,6 +48,8 @@
 //! - `Folding`: a guard and a place stand in for a node
 //! - `Growing`: how an engine may grow by these nodes
 //! - `Guards`: a change touches a node just where it touches its guard or the farthest place
+//! - `Laid`: what a layout that was found says
+//! - `Ordering`: what is so of a node where it is so of one before it
 //! - `Paths`: paths of elements and of their fields
 //! - `Places`: where elements and fields begin, in order; the ranks of nodes
 //! - `Plain`: what the test of a plain list says
@@ -58,11 +60,12 @@
 //! - `Telling`: the nodes of a plain list are a chain
 //! - `Trees`: the tree of a node, and what touches it
 //! - `Truth`: truth values, and what there may be
+//! - `Written`: a list is plain by what its values answer
 #![tactic(auto)]
 
 mod laws;
 
 pub use laws::{
-    entries_are_right, examples_are_plain, guards_tell, nodes_grow, nodes_tell,
-    shorter_stays_plain, trees_are_asked,
+    entries_are_right, examples_are_plain, guards_tell, nodes_complete_in_order, nodes_grow,
+    nodes_tell, shorter_stays_plain, trees_are_asked, values_are_written,
 };

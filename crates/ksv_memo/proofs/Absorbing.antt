@@ -4,17 +4,25 @@ use Rattle.ksv_memo.proofs.Common.{ap, subst, inl, inr, append-nil, map, AllByRe
 use Rattle.ksv_memo.proofs.Common.{IsStack, Closes, MayKeep, OnOk, nodes, Done, nodes_in, IsRight, Answered, Outcome, tells, eq-eqb, Option, Some, None}
 use Rattle.std.specs.Prelude.{max, min, ◌≢◌}
 use Rattle.std.proofs.Common.{true≢false, Ok, Err, OnErr}
+use Rattle.std.specs.List.{flat_map}
+use Rattle.std.proofs.lemmas.Bool.{or_left, or_right}
+use Rattle.ksv_memo.proofs.Common.{IsSettled, Standing, is_among, is_among-append}
 use Rattle.std.proofs.lemmas.Result.{on_err_weaker, on_ok_weaker}
-use Rattle.ksv_memo_rules.specs.Folds.{Fold, IsFold, first_of}
+use Rattle.ksv_memo_rules.specs.Folds.{AreTold, Fold, IsFold, first_of}
+use Rattle.ksv_memo_rules.specs.Evaluation.{IsAnswered, completed}
+use Rattle.ksv_memo_rules.specs.Touched.{tree}
+use Rattle.ksv_memo_rules.proofs.Keeping.{kept-tree}
+use Rattle.ksv_memo_rules.proofs.Standins.{answered-by}
+use Rattle.ksv_memo.specs.declared.lendings.Lending.{Lending}
 use Rattle.ksv_memo.specs.declared.folded.Run.{Run}
 use Rattle.ksv_memo.specs.Nodes.{Nodes, Tabled, IsHeard, IsPut, MayLose, MayPut, is_there}
 use Rattle.ksv_memo.specs.Running.{ClosesRight, HasReached, MayKeepRight}
 use Rattle.ksv_memo.specs.Folding.{ClosesAs, IsFolding, IsLastAt, IsLastFree, IsLastOut, IsNext, IsNoneBelow, IsRun, IsTold, LosesFirst, NextOf}
-use Rattle.ksv_memo.specs.Folding.{SameRun, entry_as, viewed, with_folded}
+use Rattle.ksv_memo.specs.Folding.{SameRun, entry_as, lending, lent_as, viewed, with_folded}
 use Rattle.ksv_memo.proofs.Beside.{own, seen_lent}
 use Rattle.ksv_memo.proofs.Founding.{ended-tells}
 use Rattle.ksv_memo.proofs.Growing.{grown-right}
-use Rattle.ksv_memo.proofs.Growth.{after_one, grown-to, root-told, run-at}
+use Rattle.ksv_memo.proofs.Growth.{after_one, first-told, grown-to, root-told, run-at}
 use Rattle.ksv_memo.proofs.Leasts.{below_own, lower}
 use Rattle.ksv_memo.proofs.Lending.{apart-heard, as-told, lent-on, reopened, same-run}
 use Rattle.ksv_memo.proofs.Runs.{close-any, nearer, otherwise}
@@ -53,11 +61,11 @@ module _ {N A : Type 0} (f : Fold N A) where
 
 -- ---- a run
 module _ {N V F : Type 0} (eq : N → N → Bool) (laws : IsEquivalence eq) (exact : (a b : N) → eq a b ≡ true → a ≡ b) (f : Fold N (Result V F))
-    (kept wild far : ℕ) (lent : List ℕ) (es all : List (Entry N (Result V F))) (o : Open N (Result V F)) (st : List (Open N (Result V F)))
+    (kept wild far : ℕ) (lent : List (Lending N)) (es all : List (Entry N (Result V F))) (o : Open N (Result V F)) (st : List (Open N (Result V F)))
     (h : IsRun eq f kept wild far lent es (o ∷ st)) (j : ℕ) (v : V) (next : NextOf f kept far j (Ok v) o st) (put : IsPut (entry_as f j v o) es all) where
   -- what is put is what the sequence says
-  put-told : IsPut (f.entry kept) es all
-  put-told = subst (λ e. IsPut e es all) (as-told eq laws exact f kept wild far lent h.laid j v o next.node next.answer ∙ ap f.entry next.is) put
+  put-told : IsPut (lent_as f kept) es all
+  put-told = subst (λ e. IsPut e es all) (as-told eq laws exact f kept wild far lent j v o next.node next.answer ∙ ap (lent_as f) next.is) put
 
   -- the run before it, once the node isn't open any more
   before : IsRun eq f kept (suc kept) far lent es []
@@ -65,26 +73,26 @@ module _ {N V F : Type 0} (eq : N → N → Bool) (laws : IsEquivalence eq) (exa
 
   -- and after it
   pub absorbed : (now : List (Open N (Result V F))) (count other : ℕ) → count ≡ j + 1 → count ≤ other → other ≤ far
-      → AllByRecursion (λ w. IsNoneBelow f other w.node) now → IsRun eq f count other far (lent ++ j ∷ []) all now
+      → AllByRecursion (λ w. IsNoneBelow f other w.node) now → IsRun eq f count other far (lent ++ lending f j ∷ []) all now
   absorbed now count other one order reach apart =
       let is : suc kept ≡ count = let same = next.is in omega arith in
       let same : kept ≡ j = sym next.is in
       let lt = next.before in
       let grown : IsRun eq f (suc kept) (suc kept) far lent es [] =
       run-at eq laws exact f kept (suc kept) far lent es [] before (suc kept) (omega arith) (omega arith) in
-      let run : IsRun eq f (suc kept) (suc kept) far (lent ++ kept ∷ []) all [] =
+      let run : IsRun eq f (suc kept) (suc kept) far (lent ++ lending f kept ∷ []) all [] =
       lent-on eq laws exact f (suc kept) (suc kept) far lent kept (record { kept = es; opened = [] }) grown (omega arith) all put-told [] tt in
-      let then : IsRun eq f (suc kept) other far (lent ++ kept ∷ []) all now =
-      otherwise eq laws exact f (suc kept) (suc kept) other far (lent ++ kept ∷ []) all [] now run (omega arith) reach apart in
-      subst (λ i. IsRun eq f count other far (lent ++ i ∷ []) all now) same
-      (subst (λ c. IsRun eq f c other far (lent ++ kept ∷ []) all now) is then)
+      let then : IsRun eq f (suc kept) other far (lent ++ lending f kept ∷ []) all now =
+      otherwise eq laws exact f (suc kept) (suc kept) other far (lent ++ lending f kept ∷ []) all [] now run (omega arith) reach apart in
+      subst (λ i. IsRun eq f count other far (lent ++ lending f i ∷ []) all now) same
+      (subst (λ c. IsRun eq f c other far (lent ++ lending f kept ∷ []) all now) is then)
 
   -- it is seen kept as the last
   pub absorbed-seen : (count : ℕ) → count ≡ j + 1 → IsPut (f.entry j) (with_folded eq (first_of f kept) es) (with_folded eq (first_of f count) all)
   absorbed-seen count one =
       let is : suc kept ≡ count = let same = next.is in omega arith in
       let seen : with_folded eq (first_of f (suc kept)) all ≡ with_folded eq (first_of f kept) es ++ f.entry kept ∷ [] =
-      seen_lent eq laws exact f (suc kept) (f.entry kept) es all (own eq laws exact f (suc kept) kept (omega arith)) put-told
+      seen_lent eq laws exact f (suc kept) (lent_as f kept) es all (own eq laws exact f (suc kept) kept (omega arith)) put-told
       ∙ after_one eq laws exact f kept (suc kept) far lent es [] before (omega arith) in
       record {
         front = with_folded eq (first_of f kept) es;
@@ -109,7 +117,8 @@ module _ {N V F : Type 0} (eq : N → N → Bool) (laws : IsEquivalence eq) (exa
       (all-both f least count now below (subst (λ k. AllByRecursion (λ w. IsNoneBelow f k w.node) now) more beyond))
 
 -- ---- whether the last open node is the next one
-module _ {N A : Type 0} (q : Asking N A) (f : Fold N A) (kept wild far : ℕ) (lent : List ℕ) (es : List (Entry N A)) (o : Open N A) (st : List (Open N A))
+module _ {N A : Type 0} (q : Asking N A) (f : Fold N A) (kept wild far : ℕ) (lent : List (Lending N)) (es : List (Entry N A))
+    (o : Open N A) (st : List (Open N A))
     (h : IsRun q.eq f kept wild far lent es (o ∷ st)) (a : A) (stack : IsStack q.world (with_folded q.eq (first_of f kept) es) o.node st) where
   same-answer : (b c : A) → (x y : Outcome N A) → x ≡ Answered b → y ≡ Answered c → x ≡ y → b ≡ c
   same-answer b c x y first second same = cc
@@ -136,8 +145,15 @@ module _ {N A : Type 0} (q : Asking N A) (f : Fold N A) (kept wild far : ℕ) (l
     apart = others;
   }
 
+-- evaluation of an answered node completes it
+tree-own : {N A : Type 0} (w : Standing N A) → IsSettled w → (n : N) → IsAnswered (tells w [] n).outcome → is_among w.number (tree w n) n ≡ true
+tree-own w law n answered =
+    let before = flat_map (completed w w.nodes []) (tells w [] n).asked in
+    ap (λ ns. is_among w.number ns n) (kept-tree w law n answered) ∙ is_among-append w.number before (n ∷ []) n
+    ∙ or_right (is_among w.number before n) (is_among w.number (n ∷ []) n) (or_left (nat_eq (w.number n) (w.number n)) false (eq-eqb _ _ refl))
+
 -- with the next one, what is seen is right
-pub next-right : {N A : Type 0} (q : Asking N A) (f : Fold N A) (kept wild far : ℕ) (lent : List ℕ) (es : List (Entry N A)) (st : List (Open N A))
+pub next-right : {N A : Type 0} (q : Asking N A) (f : Fold N A) (kept wild far : ℕ) (lent : List (Lending N)) (es : List (Entry N A)) (st : List (Open N A))
     → IsRun q.eq f kept wild far lent es st → (j count : ℕ) → j ≡ kept → wild ≢ far → IsFold q.world f count → j < count
     → IsRight q.world (with_folded q.eq (first_of f kept) es) → IsRight q.world (with_folded q.eq (first_of f kept) es ++ f.entry j ∷ [])
 next-right q f kept wild far lent es st h j count is short fold lt right =
@@ -145,15 +161,19 @@ next-right q f kept wild far lent es st h j count is short fold lt right =
     let reach = h.reach in
     let one : IsRun q.eq f kept (suc kept) far lent es [] =
     otherwise q.eq q.laws q.exact f kept wild (suc kept) far lent es st [] h (omega arith) (omega arith) tt in
+    let own : (i : ℕ) → kept ≤ i → i < suc kept → is_among q.world.number (tree q.world (f.entry kept).node) (f.entry i).node ≡ true =
+    λ i low high. (let same : i ≡ kept = omega arith in
+    subst (λ n. is_among q.world.number (tree q.world (f.entry kept).node) n ≡ true) (ap (λ x. (f.entry x).node) (sym same))
+    (tree-own q.world q.law (f.entry kept).node (answered-by q.world _ (f.entry kept) (fold.stands kept (omega arith))))) in
     let grown = grown-to q f kept (suc kept) far lent es [] one (f.entry kept).node kept count (suc kept) refl fold (omega arith) (omega arith) (omega arith)
-    (omega arith) right in
+    own (omega arith) right in
     let all : IsRight q.world (with_folded q.eq (first_of f (suc kept)) es) = grown-right q.world q.law _ _ _ _ _ grown right in
     subst (λ i. IsRight q.world (with_folded q.eq (first_of f kept) es ++ f.entry i ∷ [])) (sym is)
     (subst (IsRight q.world) (after_one q.eq q.laws q.exact f kept (suc kept) far lent es [] one (omega arith)) all)
 
 -- ---- over a table
 module _ {N V F S : Type 0} (eq : N → N → Bool) (laws : IsEquivalence eq) (exact : (a b : N) → eq a b ≡ true → a ≡ b) (fold : S → Fold N (Result V F))
-    (run : Run S) (place : ℕ) (v : V) (old new : Nodes N (Result V F)) (h : IsFolding eq fold (Some run) old) where
+    (run : Run N S) (place : ℕ) (v : V) (old new : Nodes N (Result V F)) (h : IsFolding eq fold (Some run) old) where
   -- what is known of the next one
   next-there : (st : List (Open N (Result V F))) → IsNext fold run place (Ok v) st → is_there st ≡ true
   next-there [] next = absurd next
@@ -174,7 +194,7 @@ module _ {N V F S : Type 0} (eq : N → N → Bool) (laws : IsEquivalence eq) (e
     in-size = let lt = before-far in let size = h.in_size in omega arith
 
     -- it isn't kept
-    pub loses-run : (last : Run S) → SameRun run last run.lent.items → LosesFirst old new → IsFolding eq fold (Some last) new
+    pub loses-run : (last : Run N S) → SameRun run last run.lent.items → LosesFirst old new → IsFolding eq fold (Some last) new
         × (with_folded eq (first_of (fold last.nodes) last.kept) new.kept ≡ with_folded eq (first_of (fold run.nodes) run.kept) old.kept)
     loses-run last same lost =
         let apart : AllByRecursion (λ w. IsNoneBelow (fold run.nodes) run.wild w.node) new.opened =
@@ -185,8 +205,8 @@ module _ {N V F S : Type 0} (eq : N → N → Bool) (laws : IsEquivalence eq) (e
         )
 
     -- it is kept, and the one below has its answer, or not
-    pub absorbs : (last : Run S) (least : ℕ) (is_heard : Bool) → last.nodes ≡ run.nodes → last.kept ≡ place + 1 → last.wild ≡ max least last.kept
-        → last.far ≡ run.far → last.lent.items ≡ run.lent.items ++ place ∷ [] → least ≤ run.far
+    pub absorbs : (last : Run N S) (least : ℕ) (is_heard : Bool) → last.nodes ≡ run.nodes → last.kept ≡ place + 1 → last.wild ≡ max least last.kept
+        → last.far ≡ run.far → last.lent.items ≡ run.lent.items ++ lending (fold run.nodes) place ∷ [] → least ≤ run.far
         → AllByRecursion (λ w. IsNoneBelow (fold run.nodes) least w.node) new.opened → ClosesAs (fold run.nodes) place v is_heard old.opened old new
         → IsFolding eq fold (Some last) new
         × IsPut ((fold run.nodes).entry place) (with_folded eq (first_of (fold run.nodes) run.kept) old.kept)
@@ -224,13 +244,13 @@ module _ {N V F S : Type 0} (eq : N → N → Bool) (laws : IsEquivalence eq) (e
         by (o ∷ st) is one false c = all o st is one c.0 (λ P is_all. subst (AllByRecursion (λ w. P w.node)) (sym c.1) is_all)
 
 -- the answer of its number is what it has
-pub next-answer : {N A S : Type 0} (fold : S → Fold N A) (run : Run S) (place : ℕ) (a : A) (st : List (Open N A)) → IsNext fold run place a st
+pub next-answer : {N A S : Type 0} (fold : S → Fold N A) (run : Run N S) (place : ℕ) (a : A) (st : List (Open N A)) → IsNext fold run place a st
     → ((fold run.nodes).entry place).answer ≡ a
 next-answer fold run place a [] next = absurd next
 next-answer fold run place a (o ∷ st) next = next.answer
 
 -- ---- with the answer that the last open node has
-module _ {N A S : Type 0} (q : Asking N A) (fold : S → Fold N A) (run : Run S) (old : Nodes N A) (h : IsFolding q.eq fold (Some run) old) (a : A)
+module _ {N A S : Type 0} (q : Asking N A) (fold : S → Fold N A) (run : Run N S) (old : Nodes N A) (h : IsFolding q.eq fold (Some run) old) (a : A)
     (reached : HasReached q.world (with_folded q.eq (first_of (fold run.nodes) run.kept) old.kept) old.opened (Done a)) where
   abbrev f : Fold N A
   f = fold run.nodes
@@ -255,6 +275,9 @@ module _ {N A S : Type 0} (q : Asking N A) (fold : S → Fold N A) (run : Run S)
   -- what is told of how many nodes there can be is so
   pub told-now : IsTold q.world q.eq old.kept f.root
   told-now = root-told q f run.kept run.wild run.far run.lent.items old.kept old.opened h right-seen
+
+  pub first-now : AreTold q.world f run.kept
+  first-now = first-told q f run.kept run.wild run.far run.lent.items old.kept old.opened h right-seen
 
   -- no node is open that is one of the first
   pub free-all : run.wild ≡ run.far → IsLastFree fold run old.opened
@@ -284,7 +307,7 @@ module _ {N A S : Type 0} (q : Asking N A) (fold : S → Fold N A) (run : Run S)
         let from = at-wild old.opened at h.apart in
         nearer q.eq q.laws q.exact f run.kept run.wild run.far less run.lent.items old.kept old.opened h (omega arith) (omega arith)
 
-    pub far-free : (last : Run S) → last.nodes ≡ run.nodes → last.far ≡ min run.far place → IsLastFree fold last old.opened
+    pub far-free : (last : Run N S) → last.nodes ≡ run.nodes → last.far ≡ min run.far place → IsLastFree fold last old.opened
     far-free last same is = by old.opened at
       where
         by : (st : List (Open N A)) → IsLastAt f place st → IsLastFree fold last st
@@ -307,7 +330,7 @@ module _ {N A S : Type 0} (q : Asking N A) (fold : S → Fold N A) (run : Run S)
         next-right q f run.kept run.wild run.far run.lent.items old.kept old.opened h place count is short folds lt right-seen
 
 -- ---- the table after it
-module _ {N A S : Type 0} (q : Asking N A) (fold : S → Fold N A) (was run : Run S) (old mid : Tabled N A)
+module _ {N A S : Type 0} (q : Asking N A) (fold : S → Fold N A) (was run : Run N S) (old mid : Tabled N A)
     (seen : viewed q.eq fold (Some run) old ≡ viewed q.eq fold (Some was) old) (same : nodes mid ≡ nodes old) (a : A)
     (reached : HasReached q.world (viewed q.eq fold (Some was) old).kept old.opened (Done a)) where
   view-mid : nodes (viewed q.eq fold (Some run) mid) ≡ nodes (viewed q.eq fold (Some was) old)
@@ -342,7 +365,7 @@ module _ {N A S : Type 0} (q : Asking N A) (fold : S → Fold N A) (was run : Ru
       (subst (λ b. IsNext fold run place b old.opened) (sym (next-answer fold run place a old.opened next)) next)
 
   module _ (place : ℕ) (next : IsNext fold run place a old.opened)
-      (right : IsRight q.world ((viewed q.eq fold (Some was) old).kept ++ (fold run.nodes).entry place ∷ [])) (last : Run S) (new : Tabled N A) where
+      (right : IsRight q.world ((viewed q.eq fold (Some was) old).kept ++ (fold run.nodes).entry place ∷ [])) (last : Run N S) (new : Tabled N A) where
     abbrev whole : Tabled N A
     whole = viewed q.eq fold (Some was) old
 
@@ -378,7 +401,7 @@ module _ {N A S : Type 0} (q : Asking N A) (fold : S → Fold N A) (was run : Ru
     )
 
 -- ---- a table without a run, before one may begin
-module _ {N A S : Type 0} (q : Asking N A) (fold : S → Fold N A) (was run : Option (Run S)) (none : was ≡ None) (a : A) (old new now : Tabled N A)
+module _ {N A S : Type 0} (q : Asking N A) (fold : S → Fold N A) (was run : Option (Run N S)) (none : was ≡ None) (a : A) (old new now : Tabled N A)
     (view : viewed q.eq fold was old ≡ now) (reached : HasReached q.world now.kept now.opened (Done a)) where
   plain : old ≡ now
   plain = ap (λ r. viewed q.eq fold r old) (sym none) ∙ view
@@ -396,10 +419,10 @@ module _ {N A S : Type 0} (q : Asking N A) (fold : S → Fold N A) (was run : Op
       (subst (λ t. MayKeep a t.opened t.kept (viewed q.eq fold run new).kept) plain may)
 
 -- and none begins
-pub closes-plain : {N A S : Type 0} (eq : N → N → Bool) (fold : S → Fold N A) (run : Option (Run S)) (a : A) (old new : Tabled N A) → run ≡ None
+pub closes-plain : {N A S : Type 0} (eq : N → N → Bool) (fold : S → Fold N A) (run : Option (Run N S)) (a : A) (old new : Tabled N A) → run ≡ None
     → Closes a old.opened (nodes old) (nodes new) → Closes a old.opened (nodes old) (nodes (viewed eq fold run new))
 closes-plain eq fold run a old new none c = subst (λ r. Closes a old.opened (nodes old) (nodes (viewed eq fold r new))) (sym none) c
 
-pub may-plain : {N A S : Type 0} (eq : N → N → Bool) (fold : S → Fold N A) (run : Option (Run S)) (a : A) (old new : Tabled N A) → run ≡ None
+pub may-plain : {N A S : Type 0} (eq : N → N → Bool) (fold : S → Fold N A) (run : Option (Run N S)) (a : A) (old new : Tabled N A) → run ≡ None
     → MayKeep a old.opened old.kept new.kept → MayKeep a old.opened old.kept (viewed eq fold run new).kept
 may-plain eq fold run a old new none may = subst (λ r. MayKeep a old.opened old.kept (viewed eq fold r new).kept) (sym none) may

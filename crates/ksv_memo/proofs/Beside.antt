@@ -7,7 +7,7 @@ use Rattle.std.proofs.lemmas.Bool.{or_left, or_right}
 use Rattle.std.proofs.lemmas.List.Folds.{list_any-append}
 use Rattle.ksv_memo_rules.specs.Folds.{Fold, first_of}
 use Rattle.ksv_memo.specs.Nodes.{IsEntry, HasNoEntry, IsPut}
-use Rattle.ksv_memo.specs.Folding.{IsNoneBelow, is_one, with_folded}
+use Rattle.ksv_memo.specs.Folding.{IsNoneBelow, is_one, lent_as, with_folded}
 use Rattle.ksv_memo.proofs.Laying.{one_of-all}
 
 -- ---- members
@@ -102,20 +102,43 @@ module _ {N A : Type 0} (eq : N → N → Bool) (laws : IsEquivalence eq) (exact
   pub own : (j : ℕ) → j < kept → folds (f.entry j) ≡ true
   own j lt = first_one f eq kept j (f.entry j).node lt (laws.refl (f.entry j).node)
 
-  -- a kept node is seen kept
+  -- an entry that is seen of a node, with this answer
+  pub record IsSeen (es : List (Entry N A)) (n : N) (e : Entry N A) : Type 0 where
+    pub entry : Entry N A
+    pub is : IsEntry eq (seen es) n entry
+    pub node : entry.node ≡ e.node
+    pub answer : entry.answer ≡ e.answer
+
+  -- a kept node is seen kept, with the same answer
   pub seen_entry : (es : List (Entry N A)) (wild : ℕ) → kept ≤ wild
-      → AllByRecursion (λ e. (j : ℕ) → j < wild → (f.entry j).node ≡ e.node → (j < kept) × (e ≡ f.entry j)) es
-      → (n : N) (e : Entry N A) → IsEntry eq es n e → IsEntry eq (seen es) n e
-  seen_entry es wild le same n e is = record { there = by (folds e) refl; passes = is.passes }
+      → AllByRecursion (λ e. (j : ℕ) → j < wild → (f.entry j).node ≡ e.node → (j < kept) × (e ≡ lent_as f j)) es
+      → (n : N) (e : Entry N A) → IsEntry eq es n e → IsSeen es n e
+  seen_entry es wild le same n e is = by (folds e) refl
     where
-      by : (b : Bool) → folds e ≡ b → IsOneOf (seen es) e
-      by false at = in_front (filter (λ x. not (folds x)) es) (first_of f kept) e (in_filter (λ x. not (folds x)) es e is.there (ap not at))
+      by : (b : Bool) → folds e ≡ b → IsSeen es n e
+      by false at = record {
+        entry = e;
+        is = record {
+          there = in_front (filter (λ x. not (folds x)) es) (first_of f kept) e (in_filter (λ x. not (folds x)) es e is.there (ap not at));
+          passes = is.passes;
+        };
+        node = refl;
+        answer = refl;
+      }
       by true at =
           let h = one_first f eq kept e.node at in
           let lt : h.0 < kept = h.1 in
-          let it : e ≡ f.entry h.0 = (one_of-all (λ x. (j : ℕ) → j < wild → (f.entry j).node ≡ x.node → (j < kept) × (x ≡ f.entry j)) es same e is.there h.0
-          (omega arith) (sym (exact e.node (f.entry h.0).node h.2))).1 in
-          in_back (filter (λ x. not (folds x)) es) (first_of f kept) e (subst (IsOneOf (first_of f kept)) (sym it) (first_has f kept h.0 lt))
+          let it : e ≡ lent_as f h.0 = (one_of-all (λ x. (j : ℕ) → j < wild → (f.entry j).node ≡ x.node → (j < kept) × (x ≡ lent_as f j)) es same e is.there
+          h.0 (omega arith) (sym (exact e.node (f.entry h.0).node h.2))).1 in
+          record {
+            entry = f.entry h.0;
+            is = record {
+              there = in_back (filter (λ x. not (folds x)) es) (first_of f kept) (f.entry h.0) (first_has f kept h.0 lt);
+              passes = subst (λ m. eq n m ≡ true) (ap (λ (x : Entry N A). x.node) it) is.passes;
+            };
+            node = sym (ap (λ (x : Entry N A). x.node) it);
+            answer = sym (ap (λ (x : Entry N A). x.answer) it);
+          }
 
   -- a folded node is seen kept
   pub seen_folded : (es : List (Entry N A)) (j : ℕ) (n : N) → j < kept → (f.entry j).node ≡ n → IsEntry eq (seen es) n (f.entry j)

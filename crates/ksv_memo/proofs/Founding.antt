@@ -45,7 +45,7 @@ module _ {N A : Type 0} (w : Standing N A) (law : IsSettled w) where
     founds-in [] first reached = absurd first
     founds-in (o ∷ st) first reached = is (ap (λ n. (tells w [] n).outcome) first ∙ ended-tells es o st a reached.0 reached.1)
 
-    pub founds : (eq : N → N → Bool) {S : Type 0} (fold : S → Fold N A) (run : Run S) → fold run.nodes ≡ f → run.kept ≡ 0 → run.wild ≤ count → run.far ≡ count
+    pub founds : (eq : N → N → Bool) {S : Type 0} (fold : S → Fold N A) (run : Run N S) → fold run.nodes ≡ f → run.kept ≡ 0 → run.wild ≤ count → run.far ≡ count
         → run.lent.items ≡ [] → IsLaid f → (st : List (Open N A)) → IsFirst f.root st → HasReached w es st (Done a)
         → AllByRecursion (λ o. IsNoneBelow f run.wild o.node) st → Founds eq fold (Some run) es st
     founds eq fold run same none le far lent laid [] first reached apart = absurd first

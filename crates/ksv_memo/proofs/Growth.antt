@@ -2,7 +2,7 @@
 use Rattle.ksv_memo.proofs.Common.{◌≡◌, ℕ, zero, suc, ◌+◌, ◌-◌, ◌<◌, ◌≤◌, nat_lt, nat_eq, arith, Bool, true, false, not, cond, ◌||◌, List, [], ◌∷◌, ◌++◌}
 use Rattle.ksv_memo.proofs.Common.{filter, count_by, refl, sym, ◌∙◌, ap, subst, inr, AllByRecursion, IsDistinct, map, append_assoc, append-nil}
 use Rattle.ksv_memo.proofs.Common.{sum_by-cons, Decides-ltb, All-map, All-++, Entry, Open, nodes_in, nodes_of, nodes_of-append, is_among, eqb_true, IsIn, IsOut}
-use Rattle.ksv_memo.proofs.Common.{IsEquivalence, tells, AreDistinct, IsRight, StandsIn, costs, Standing, Option, Some, Result, IfOk, nodes}
+use Rattle.ksv_memo.proofs.Common.{Answered, IsEquivalence, tells, AreDistinct, IsRight, StandsIn, costs, Standing, Option, Some, Result, IfOk, nodes}
 use Rattle.std.specs.Prelude.{min}
 use Rattle.std.proofs.Common.{true≢false, OnErr}
 use Rattle.std.proofs.lemmas.List.{map-append}
@@ -10,15 +10,16 @@ use Rattle.std.proofs.lemmas.Result.{on_err_weaker}
 use Rattle.std.proofs.lemmas.Cmp.{nat_eq_equiv}
 use Rattle.std.proofs.lemmas.Map.Keys.{IsDistinct-push}
 use Rattle.ksv_memo_rules.specs.Evaluation.{IsAnswered}
-use Rattle.ksv_memo_rules.specs.Folds.{Fold, IsFold, first_of, calls_from}
+use Rattle.ksv_memo_rules.specs.Folds.{AreTold, Fold, IsFold, first_of, calls_from}
 use Rattle.ksv_memo_rules.specs.Right.{cost, counted}
 use Rattle.ksv_memo_rules.specs.Touched.{tree}
 use Rattle.ksv_memo_rules.proofs.Lists.{none_fails}
 use Rattle.ksv_memo_rules.proofs.Standins.{stands-among, answered-by}
+use Rattle.ksv_memo.specs.declared.lendings.Lending.{Lending}
 use Rattle.ksv_memo.specs.declared.folded.Run.{Run}
 use Rattle.ksv_memo.specs.Nodes.{Nodes, Tabled, Asks, HasNoEntry}
 use Rattle.ksv_memo.specs.Growing.{AsksGrown, Grows, GrowsBy}
-use Rattle.ksv_memo.specs.Folding.{IsFolding, IsRun, IsNoneBelow, IsTold, is_one, viewed, with_folded}
+use Rattle.ksv_memo.specs.Folding.{IsFolding, IsRun, IsNoneBelow, IsTold, is_one, lent_as, viewed, with_folded}
 use Rattle.ksv_memo.proofs.Laying.{one_of-all}
 use Rattle.ksv_memo.proofs.Change.{member}
 use Rattle.ksv_memo.proofs.Turns.{waits_among}
@@ -73,7 +74,7 @@ module _ {N A : Type 0} (eq : N → N → Bool) (laws : IsEquivalence eq) (exact
           absurd (true≢false (sym (first_one f eq t h.0 n (omega arith) h.2) ∙ at))
 
   -- ---- a run
-  module _ (k wild far : ℕ) (lent : List ℕ) (es : List (Entry N A)) (st : List (Open N A)) (h : IsRun eq f k wild far lent es st) where
+  module _ (k wild far : ℕ) (lent : List (Lending N)) (es : List (Entry N A)) (st : List (Open N A)) (h : IsRun eq f k wild far lent es st) where
     -- no fewer may have slots than may be open
     pub in-reach : (t : ℕ) → t ≤ wild → t ≤ far
     in-reach t le = let reach = h.reach in omega arith
@@ -85,17 +86,17 @@ module _ {N A : Type 0} (eq : N → N → Bool) (laws : IsEquivalence eq) (exact
     same_ones : (t : ℕ) → k ≤ t → t ≤ wild → AllByRecursion (λ e. is_one eq (first_of f t) e.node ≡ is_one eq (first_of f k) e.node) es
     same_ones t le most = All-map (λ e own. same_first k t e.node le (λ j lt at. (own j (let reach = in-reach t most in omega arith) at).0)) es h.same
 
-    counted_at : (t : ℕ) → t ≤ wild → count_by (λ e. is_one eq (first_of f t) e.node) es ≡ count_by (λ j. nat_lt j t) lent
+    counted_at : (t : ℕ) → t ≤ wild → count_by (λ e. is_one eq (first_of f t) e.node) es ≡ count_by (λ l. nat_lt l.place t) lent
     counted_at t most = by (nat_lt k t) refl
       where
-        by : (b : Bool) → nat_lt k t ≡ b → count_by (λ e. is_one eq (first_of f t) e.node) es ≡ count_by (λ j. nat_lt j t) lent
+        by : (b : Bool) → nat_lt k t ≡ b → count_by (λ e. is_one eq (first_of f t) e.node) es ≡ count_by (λ l. nat_lt l.place t) lent
         by false e = h.counted t (not_less k t e)
         by true e =
             let more : k < t = (Decides-ltb k t).0 e in
             count-same (λ e. is_one eq (first_of f t) e.node) (λ e. is_one eq (first_of f k) e.node) es (same_ones t (omega arith) most)
             ∙ h.counted k (omega arith)
-            ∙ count-same (λ j. nat_lt j k) (λ j. nat_lt j t) lent
-            (All-map (λ j lt. (Decides-ltb j k).1 lt ∙ sym ((Decides-ltb j t).1 (let less : j < k = lt in omega arith))) lent h.below)
+            ∙ count-same (λ l. nat_lt l.place k) (λ l. nat_lt l.place t) lent
+            (All-map (λ l lt. (Decides-ltb l.place k).1 lt ∙ sym ((Decides-ltb l.place t).1 (let less : l.place < k = lt in omega arith))) lent h.below)
 
     -- it may have any number of nodes below the first that may have slots or be open
     pub run-at : (t : ℕ) → k ≤ t → t ≤ wild → IsRun eq f t wild far lent es st
@@ -108,7 +109,8 @@ module _ {N A : Type 0} (eq : N → N → Bool) (laws : IsEquivalence eq) (exact
       same = All-map (λ e own j lt at. (let less : j < k = (own j lt at).0 in ((omega arith), (own j lt at).1))) es h.same;
       apart = h.apart;
       counted = λ s less. counted_at s (omega arith);
-      below = All-map (λ j lt. (let less : j < k = lt in let more : j < t = omega arith in more)) lent h.below;
+      below = All-map (λ l lt. (let less : l.place < k = lt in let more : l.place < t = omega arith in more)) lent h.below;
+      named = h.named;
     }
 
     -- what is seen is what was, and these
@@ -151,7 +153,7 @@ module _ {N A : Type 0} (q : Asking N A) (f : Fold N A) where
       (IsDistinct-push nat_eq_equiv (map q.world.number (nodes_of es)) (q.world.number e.node) once out))
 
   -- ---- a run
-  module _ (k wild far : ℕ) (lent : List ℕ) (es : List (Entry N A)) (st : List (Open N A)) (h : IsRun q.eq f k wild far lent es st) where
+  module _ (k wild far : ℕ) (lent : List (Lending N)) (es : List (Entry N A)) (st : List (Open N A)) (h : IsRun q.eq f k wild far lent es st) where
     abbrev seen_at : ℕ → List (Entry N A)
     seen_at t = with_folded q.eq (first_of f t) es
 
@@ -167,13 +169,21 @@ module _ {N A : Type 0} (q : Asking N A) (f : Fold N A) where
     -- where what is seen is right, the root has its answer
     pub root-told : IsRight q.world (seen_at k) → IsTold q.world q.eq es f.root
     root-told right e is =
-        let there = seen_entry q.eq q.laws q.exact f k es far (in-far k h.order) h.same f.root e is in
-        (one_of-all (λ x. StandsIn q.world (nodes_of (seen_at k)) x) (seen_at k) right.each e there.there).outcome
+        let seen = seen_entry q.eq q.laws q.exact f k es far (in-far k h.order) h.same f.root e is in
+        ap (λ n. (tells q.world [] n).outcome) (sym seen.node)
+        ∙ (one_of-all (λ x. StandsIn q.world (nodes_of (seen_at k)) x) (seen_at k) right.each seen.entry seen.is.there).outcome ∙ ap Answered seen.answer
+
+    -- and so has each folded node
+    pub first-told : IsRight q.world (seen_at k) → AreTold q.world f k
+    first-told right j lt =
+        (one_of-all (λ x. StandsIn q.world (nodes_of (seen_at k)) x) (seen_at k) right.each (f.entry j)
+        (seen_folded q.eq q.laws q.exact f k es j (f.entry j).node lt refl).there).outcome
 
     -- the root and each folded node are seen kept
     root_in : (t : ℕ) → k ≤ t → t ≤ wild → IsIn q.world (nodes_of (seen_at t)) f.root
-    root_in t le most = entry_in q (seen_at t) f.root h.root.0
-        (seen_entry q.eq q.laws q.exact f t es far (in-far t most) (run-to t le most).same f.root h.root.0 h.root.1)
+    root_in t le most =
+        let seen = seen_entry q.eq q.laws q.exact f t es far (in-far t most) (run-to t le most).same f.root h.root.0 h.root.1 in
+        entry_in q (seen_at t) f.root seen.entry seen.is
 
     first_in : (t i : ℕ) → i < t → IsIn q.world (nodes_of (seen_at t)) (f.entry i).node
     first_in t i lt = entry_in q (seen_at t) (f.entry i).node (f.entry i) (seen_folded q.eq q.laws q.exact f t es i (f.entry i).node lt refl)
@@ -206,7 +216,7 @@ module _ {N A : Type 0} (q : Asking N A) (f : Fold N A) where
         let none : HasNoEntry q.eq es n = none_fails (λ e. q.eq n e.node) es (All-map (λ e own. apart e own (q.eq n e.node) refl) es h.same) in
         no_entry_out q (seen_at t) n (seen_none q.eq q.laws q.exact f t es n none (below_own f h.laid t t n (omega arith) (omega arith) refl))
       where
-        apart : (e : Entry N A) → ((j : ℕ) → j < far → (f.entry j).node ≡ e.node → (j < k) × (e ≡ f.entry j)) → (b : Bool)
+        apart : (e : Entry N A) → ((j : ℕ) → j < far → (f.entry j).node ≡ e.node → (j < k) × (e ≡ lent_as f j)) → (b : Bool)
             → q.eq (f.entry t).node e.node ≡ b → q.eq (f.entry t).node e.node ≡ false
         apart e own false at = at
         apart e own true at = let less : t < k = (own t (in-far (suc t) lt) (q.exact (f.entry t).node e.node at)).0 in absurd (omega arith)
@@ -242,29 +252,30 @@ module _ {N A : Type 0} (q : Asking N A) (f : Fold N A) where
         omega arith
 
     -- it grows by so many
-    grown_more : (m : N) (place count d : ℕ) → (f.entry place).node ≡ m → IsFold q.world f count → place < count → k + d ≤ place + 1 → k + d ≤ wild
+    grown_more : (m : N) (place count d : ℕ) → (f.entry place).node ≡ m → IsFold q.world f count → place < count → k + d ≤ count
+        → ((i : ℕ) → k ≤ i → i < k + d → is_among q.world.number (tree q.world (f.entry place).node) (f.entry i).node ≡ true) → k + d ≤ wild
         → IsRight q.world (seen_at k) → GrowsBy q.world m (nodes_in st) (seen_at k) (seen_at (k + d)) (calls_from f.calls k d)
-    grown_more m place count d at fold lt le most right = record {
+    grown_more m place count d at fold lt few in_tree most right = record {
       more = next_of f k d;
       after = seen-more d most;
-      stand = stand_more d count most (omega arith) fold;
+      stand = stand_more d count most few fold;
       once = subst (λ xs. AreDistinct q.world (nodes_of xs)) (sym (seen-more d most)) (once_more d most right.once);
       free = free_more d most;
       within = subst (λ n. AllByRecursion (λ e. is_among q.world.number (tree q.world n) e.node ≡ true) (next_of f k d)) at
-          (all_next (λ e. is_among q.world.number (tree q.world (f.entry place).node) e.node ≡ true) k d
-          (λ i below less. fold.within i place (omega arith) lt));
+          (all_next (λ e. is_among q.world.number (tree q.world (f.entry place).node) e.node ≡ true) k d in_tree);
       answered = inr (subst (λ n. IsAnswered (tells q.world [] n).outcome) at
           (answered-by q.world (f.root ∷ nodes_of (first_of f place)) (f.entry place) (fold.stands place lt)));
-      calls = calls_more d count (omega arith) fold;
+      calls = calls_more d count few fold;
     }
 
     -- up to a number
-    pub grown-to : (m : N) (place count now : ℕ) → (f.entry place).node ≡ m → IsFold q.world f count → place < count → k ≤ now → now ≤ place + 1 → now ≤ wild
+    pub grown-to : (m : N) (place count now : ℕ) → (f.entry place).node ≡ m → IsFold q.world f count → place < count → k ≤ now → now ≤ place + 1
+        → ((i : ℕ) → k ≤ i → i < now → is_among q.world.number (tree q.world (f.entry place).node) (f.entry i).node ≡ true) → now ≤ wild
         → IsRight q.world (seen_at k) → GrowsBy q.world m (nodes_in st) (seen_at k) (seen_at now) (calls_from f.calls k (now - k))
-    grown-to m place count now at fold lt less le most right =
+    grown-to m place count now at fold lt less le in_tree most right =
         let e : k + (now - k) ≡ now = omega arith in
         subst (λ t. GrowsBy q.world m (nodes_in st) (seen_at k) (seen_at t) (calls_from f.calls k (now - k))) e
-        (grown_more m place count (now - k) at fold lt (omega arith) (omega arith) right)
+        (grown_more m place count (now - k) at fold lt (omega arith) (λ i low high. in_tree i low (omega arith)) (omega arith) right)
 
 -- ---- a table
 -- one that hasn't grown
@@ -288,7 +299,7 @@ asks-same w eq m old mid new turns right same r ok err = record {
   err = on_err_weaker r (ap (λ t. t.kept)) err;
 }
 
-module _ {N A S : Type 0} (q : Asking N A) (fold : S → Fold N A) (was : Option (Run S)) (run : Run S) (is : was ≡ Some run) (old new : Tabled N A)
+module _ {N A S : Type 0} (q : Asking N A) (fold : S → Fold N A) (was : Option (Run N S)) (run : Run N S) (is : was ≡ Some run) (old new : Tabled N A)
     (same : nodes new ≡ nodes old) (h : IsFolding q.eq fold was (nodes old)) (right : IsRight q.world (viewed q.eq fold was old).kept) (m : N)
     (before : Option ℕ) where
   -- the run that is beside it
@@ -302,6 +313,10 @@ module _ {N A S : Type 0} (q : Asking N A) (fold : S → Fold N A) (was : Option
   pub told-beside : IsTold q.world q.eq old.kept (fold run.nodes).root
   told-beside = root-told q (fold run.nodes) run.kept run.wild run.far run.lent.items old.kept old.opened held right-seen
 
+  -- and so has each node that is kept by its number
+  pub first-beside : AreTold q.world (fold run.nodes) run.kept
+  first-beside = first-told q (fold run.nodes) run.kept run.wild run.far run.lent.items old.kept old.opened held right-seen
+
   -- it stays
   pub stays-beside : Grows q.world m (viewed q.eq fold was old) (viewed q.eq fold (Some run) new) before before
   stays-beside = subst (λ r. Grows q.world m (viewed q.eq fold r old) (viewed q.eq fold (Some run) new) before before) (sym is)
@@ -309,7 +324,7 @@ module _ {N A S : Type 0} (q : Asking N A) (fold : S → Fold N A) (was : Option
       (ap (λ (t : Nodes N A). with_folded q.eq (first_of (fold run.nodes) run.kept) t.kept) same) (ap (λ (t : Nodes N A). t.opened) same))
 
   -- or it has more nodes, up to a number
-  module _ (place now : ℕ) (order : run.kept ≤ place) (until : now ≡ min run.wild (place + 1)) where
+  module _ (place now : ℕ) (order : run.kept < now) (until : now ≡ min run.wild ((fold run.nodes).whole place)) where
     pub runs-beside : IsRun q.eq (fold run.nodes) now run.wild run.far run.lent.items new.kept new.opened
     runs-beside =
         let le = held.order in
@@ -323,10 +338,11 @@ module _ {N A S : Type 0} (q : Asking N A) (fold : S → Fold N A) (was : Option
     grows-beside count calls after at folds lt many turns =
         let f = fold run.nodes in
         let le = held.order in
+        let last-in : now ≤ place + 1 = (let size = folds.in_size in let whole = (held.laid.whole place (omega arith)).0 in omega arith) in
         let grown : GrowsBy q.world m (nodes_in old.opened) (with_folded q.eq (first_of f run.kept) old.kept) (with_folded q.eq (first_of f now) old.kept)
         (calls_from f.calls run.kept (now - run.kept)) =
-        grown-to q f run.kept run.wild run.far run.lent.items old.kept old.opened held m place count now at folds lt (omega arith) (omega arith) (omega arith)
-        right-seen in
+        grown-to q f run.kept run.wild run.far run.lent.items old.kept old.opened held m place count now at folds lt (omega arith) last-in
+        (λ i low high. folds.within i place (omega arith) lt) (omega arith) right-seen in
         let t : Tabled N A = record { kept = with_folded q.eq (first_of f now) new.kept; opened = new.opened; looks = new.looks } in
         subst (λ r. Grows q.world m (viewed q.eq fold r old) t before after) (sym is) (record {
           opened = ap (λ (x : Nodes N A). x.opened) same;

@@ -5,21 +5,26 @@ use Rattle.ksv_memo.proofs.Common.{list_any, IsDistinct}
 use Rattle.ksv_memo.proofs.Common.{sum_by-cons, IsDistinct-head, IsDistinct-tail, IsEquivalence, Change, is_use_touched, pages_in, append-nil}
 use Rattle.ksv_memo.proofs.Common.{Entry, nodes_of, IsOneOf, Mark, IsMarked, entries_left, Sweeps, All-map, All-++, Decides-ltb}
 use Rattle.ksv_memo.proofs.Common.{Option, Some, None, Slot, Linked, with_first, entry_at, entries_at, entries_of, numbers_from, Open, nodes}
+use Rattle.std.specs.Prelude.{nat_le, IfSome}
 use Rattle.std.proofs.Math.Bool.{or-false}
 use Rattle.std.proofs.lemmas.Bool.{cases_Bool, cases_lt, not-true, true≢false}
+use Rattle.std.proofs.lemmas.Bool.Decides.{nat_tests}
 use Rattle.std.proofs.lemmas.List.{map-append}
 use Rattle.std.proofs.lemmas.List.Elements.{filter-append}
 use Rattle.std.proofs.lemmas.List.Filters.{length-filter_both}
 use Rattle.std.proofs.lemmas.List.Folds.{list_any-append}
-use Rattle.std.proofs.lemmas.List.Sums.{length-filter, count_by-le-length}
+use Rattle.std.proofs.lemmas.List.Sums.{length-filter, count_by-le-length, sum_by-append}
 use Rattle.ksv_memo_links.specs.Links.{pages_met, met_by, pages_behind, behind_by, ended_by}
-use Rattle.ksv_memo_rules.specs.Folds.{Fold, Leaves, first_of}
+use Rattle.ksv_memo_rules.specs.Folds.{Fold, Leaves, first_of, is_from, named_in}
+use Rattle.ksv_memo.specs.declared.lendings.Lending.{Lending}
 use Rattle.ksv_memo.specs.declared.folded.Run.{Run}
-use Rattle.ksv_memo.specs.Folding.{IsRun, IsFolding, IsCut, is_one, viewed, with_folded}
+use Rattle.ksv_memo.specs.Folding.{IsRun, IsFolding, IsCut, is_one, lent_as, viewed, with_folded}
 use Rattle.ksv_memo.specs.Nodes.{Tabled, KeepsNode, HasNoEntry}
-use Rattle.ksv_memo.specs.Sweep.{Says, AllSay, entries_with, entries_gone}
+use Rattle.ksv_memo.specs.Sweep.{IsMarkedBy, SweepsBy, Says, AllSay, entries_with, entries_gone}
 use Rattle.ksv_memo.proofs.Forgetting.{stay-all}
+use Rattle.ksv_memo.specs.Lending.{Listed, is_lent_from}
 use Rattle.ksv_memo.proofs.Laying.{one_of-all, same_or}
+use Rattle.ksv_memo.proofs.Listing.{lent-test, unlent-test}
 
 -- ---- members
 module _ {X : Type 0} where
@@ -384,13 +389,14 @@ numbers-length a (suc n) = omega (arith, numbers-length (a + 1) n)
 pub few-kept : {N V F : Type 0} (ps : List (N × Slot V F)) (l : Linked) → length (entries_of ps l) ≤ length ps
 few-kept ps l = omega (arith, entries-few ps l (numbers_from 0 (length ps)), numbers-length 0 (length ps))
 
--- ---- numbers of nodes that have slots too
+-- ---- nodes that have slots too
 -- all of them are below a number
-all-count : (k : ℕ) (xs : List ℕ) → AllByRecursion (λ j. j < k) xs → count_by (λ j. nat_lt j k) xs ≡ length xs
+all-count : {N : Type 0} (k : ℕ) (xs : List (Lending N)) → AllByRecursion (λ l. l.place < k) xs → count_by (λ l. nat_lt l.place k) xs ≡ length xs
 all-count k [] h = refl
-all-count k (x ∷ xs) h =
-    let s : count_by (λ j. nat_lt j k) (x ∷ xs) ≡ cond (nat_lt x k) 1 0 + count_by (λ j. nat_lt j k) xs = sum_by-cons (λ j. cond (nat_lt j k) 1 0) x xs in
-    let one : cond {A = ℕ} (nat_lt x k) 1 0 ≡ 1 = ap (λ b. cond {A = ℕ} b 1 0) ((Decides-ltb x k).1 h.0) in
+all-count {N} k (x ∷ xs) h =
+    let s : count_by (λ l. nat_lt l.place k) (x ∷ xs) ≡ cond (nat_lt x.place k) 1 0 + count_by (λ l. nat_lt l.place k) xs =
+    sum_by-cons (λ (l : Lending N). cond (nat_lt l.place k) 1 0) x xs in
+    let one : cond {A = ℕ} (nat_lt x.place k) 1 0 ≡ 1 = ap (λ b. cond {A = ℕ} b 1 0) ((Decides-ltb x.place k).1 h.0) in
     omega (arith, all-count k xs h.1)
 
 -- the test of a number that isn't less, and what it says
@@ -401,37 +407,59 @@ less-not : (x k : ℕ) → nat_lt x k ≡ false → k ≤ x
 less-not x k e = elim (cases_lt x k) [ inl lt ↦ absurd (true≢false (sym ((Decides-ltb x k).1 lt) ∙ e)) | inr le ↦ le ]
 
 -- those below a number are the same among those below a greater one
-count-cut : (t left : ℕ) → t ≤ left → (xs : List ℕ) → count_by (λ j. nat_lt j t) (filter (λ j. nat_lt j left) xs) ≡ count_by (λ j. nat_lt j t) xs
+count-cut : {N : Type 0} (t left : ℕ) → t ≤ left → (xs : List (Lending N))
+    → count_by (λ l. nat_lt l.place t) (filter (λ l. nat_lt l.place left) xs) ≡ count_by (λ l. nat_lt l.place t) xs
 count-cut t left le [] = refl
-count-cut t left le (x ∷ xs) = by (nat_lt x left) refl (count-cut t left le xs)
+count-cut {N} t left le (x ∷ xs) = by (nat_lt x.place left) refl (count-cut t left le xs)
   where
-    one : (ys : List ℕ) → count_by (λ j. nat_lt j t) (x ∷ ys) ≡ cond (nat_lt x t) 1 0 + count_by (λ j. nat_lt j t) ys
-    one ys = sum_by-cons (λ j. cond (nat_lt j t) 1 0) x ys
+    one : (ys : List (Lending N)) → count_by (λ l. nat_lt l.place t) (x ∷ ys) ≡ cond (nat_lt x.place t) 1 0 + count_by (λ l. nat_lt l.place t) ys
+    one ys = sum_by-cons (λ (l : Lending N). cond (nat_lt l.place t) 1 0) x ys
 
-    by : (b : Bool) → nat_lt x left ≡ b → count_by (λ j. nat_lt j t) (filter (λ j. nat_lt j left) xs) ≡ count_by (λ j. nat_lt j t) xs
-        → count_by (λ j. nat_lt j t) (cond b (x ∷ filter (λ j. nat_lt j left) xs) (filter (λ j. nat_lt j left) xs)) ≡ count_by (λ j. nat_lt j t) (x ∷ xs)
-    by true e ih = omega (arith, one xs, one (filter (λ j. nat_lt j left) xs))
+    by : (b : Bool) → nat_lt x.place left ≡ b
+        → count_by (λ l. nat_lt l.place t) (filter (λ l. nat_lt l.place left) xs) ≡ count_by (λ l. nat_lt l.place t) xs
+        → count_by (λ l. nat_lt l.place t) (cond b (x ∷ filter (λ l. nat_lt l.place left) xs) (filter (λ l. nat_lt l.place left) xs))
+        ≡ count_by (λ l. nat_lt l.place t) (x ∷ xs)
+    by true e ih = omega (arith, one xs, one (filter (λ l. nat_lt l.place left) xs))
     by false e ih =
-        let past = less-not x left e in
-        let none : cond {A = ℕ} (nat_lt x t) 1 0 ≡ 0 = ap (λ b. cond {A = ℕ} b 1 0) (not-less x t (omega arith)) in
+        let past = less-not x.place left e in
+        let none : cond {A = ℕ} (nat_lt x.place t) 1 0 ≡ 0 = ap (λ b. cond {A = ℕ} b 1 0) (not-less x.place t (omega arith)) in
         omega (arith, one xs)
+
+-- the test of a number that isn't greater, and of one that is
+le-true : (x k : ℕ) → x ≤ k → nat_le x k ≡ true
+le-true x k le = grind (arith, nat_tests)
+
+le-false : (x k : ℕ) → k < x → nat_le x k ≡ false
+le-false x k lt = grind (arith, nat_tests)
+
+-- whether the node goes that an entry names: the root, or one of a number
+abbrev pub named_goes : Bool → ℕ → Option ℕ → Bool
+named_goes root left None = root
+named_goes root left (Some i) = nat_le left i
 
 -- ---- the table beside folded nodes
 module _ {N A : Type 0} (eq : N → N → Bool) (laws : IsEquivalence eq) (exact : (a b : N) → eq a b ≡ true → a ≡ b) (f : Fold N A) (kept wild far : ℕ)
-    (lent : List ℕ) (st : List (Open N A)) where
-  -- each entry of the table is in the view
-  in_view : (es : List (Entry N A)) → IsRun eq f kept wild far lent es st → (e : Entry N A) → IsOneOf es e → IsOneOf (with_folded eq (first_of f kept) es) e
-  in_view es run e m = in_both (λ x. is_one eq (first_of f kept) x.node) es (first_of f kept) e
-      (λ t. (let r = number-of eq laws exact f kept e.node t in
-      let same : e ≡ f.entry r.0 =
-      (one_of-all (λ (e : Entry N A). (j : ℕ) → j < far → (f.entry j).node ≡ e.node → (j < kept) × (e ≡ f.entry j)) es run.same e m r.0
-      (omega (arith, r.1, run.order, run.reach)) r.2).1 in
-      subst (IsOneOf (first_of f kept)) (sym same) (first-in f kept r.0 r.1))) m
+    (lent : List (Lending N)) (st : List (Open N A)) where
+  -- what each entry of the view has, each of the table has, if it doesn't say what the entry names
+  pub of-view : (P : Entry N A → Type 0) → ((j : ℕ) → P (f.entry j) → P (lent_as f j)) → (es : List (Entry N A)) → IsRun eq f kept wild far lent es st
+      → AllByRecursion P (with_folded eq (first_of f kept) es) → AllByRecursion P es
+  of-view P lends es run h = all-one_of P es one
+    where
+      whole : (e : Entry N A) → IsOneOf (with_folded eq (first_of f kept) es) e → P e
+      whole e m = one_of-all P (with_folded eq (first_of f kept) es) h e m
 
-  -- what each entry of the view has, each of the table has
-  pub of-view : (P : Entry N A → Type 0) (es : List (Entry N A)) → IsRun eq f kept wild far lent es st → AllByRecursion P (with_folded eq (first_of f kept) es)
-      → AllByRecursion P es
-  of-view P es run h = all-one_of P es (λ e m. one_of-all P (with_folded eq (first_of f kept) es) h e (in_view es run e m))
+      one : (e : Entry N A) → IsOneOf es e → P e
+      one e m = elim (cases_Bool (is_one eq (first_of f kept) e.node)) [
+        | inl t ↦ let r = number-of eq laws exact f kept e.node t in
+            let same : e ≡ lent_as f r.0 =
+            (one_of-all (λ (e : Entry N A). (j : ℕ) → j < far → (f.entry j).node ≡ e.node → (j < kept) × (e ≡ lent_as f j)) es run.same e m r.0
+            (omega (arith, r.1, run.order, run.reach)) r.2).1 in
+            subst P (sym same) (lends r.0
+            (whole (f.entry r.0) (in_right (filter (λ x. not (is_one eq (first_of f kept) x.node)) es) (first_of f kept) (f.entry r.0)
+            (first-in f kept r.0 r.1))))
+        | inr t ↦ whole e (in_left (filter (λ x. not (is_one eq (first_of f kept) x.node)) es) (first_of f kept) e
+            (in_filter (λ x. not (is_one eq (first_of f kept) x.node)) es e (ap not t) m))
+      ]
 
   -- how many nodes the view has
   pub view-length : (es : List (Entry N A)) → IsRun eq f kept wild far lent es st
@@ -439,7 +467,7 @@ module _ {N A : Type 0} (eq : N → N → Bool) (laws : IsEquivalence eq) (exact
   view-length es run =
       let p : Entry N A → Bool = λ e. is_one eq (first_of f kept) e.node in
       let q : Entry N A → Bool = λ e. not (is_one eq (first_of f kept) e.node) in
-      let few : count_by p es ≡ count_by (λ j. nat_lt j kept) lent = run.counted kept (omega arith) in
+      let few : count_by p es ≡ count_by (λ l. nat_lt l.place kept) lent = run.counted kept (omega arith) in
       omega (
         arith,
         few,
@@ -454,15 +482,24 @@ module _ {N A : Type 0} (eq : N → N → Bool) (laws : IsEquivalence eq) (exact
   pub few-lent : (es : List (Entry N A)) → IsRun eq f kept wild far lent es st → length lent ≤ length es
   few-lent es run =
       let p : Entry N A → Bool = λ e. is_one eq (first_of f kept) e.node in
-      let few : count_by p es ≡ count_by (λ j. nat_lt j kept) lent = run.counted kept (omega arith) in
+      let few : count_by p es ≡ count_by (λ l. nat_lt l.place kept) lent = run.counted kept (omega arith) in
       omega (arith, few, count_by-le-length p es, all-count kept lent run.below)
 
+  -- the sequence with what is kept in slots
+  abbrev lent-fold : Fold N A
+  lent-fold = record f { entry = lent_as f }
+
   -- ---- an edit
-  module _ (change : Change) (ks : List (Mark N A)) (run : IsRun eq f kept wild far lent (entries_with ks) st) (marked : AllByRecursion (IsMarked change ks) ks)
-      (once : IsDistinct eq (nodes_of (entries_with ks))) (root : Mark N A) (there : IsOneOf ks root) (named : root.entry.node ≡ f.root) where
-    -- a folded node goes if its own uses are touched, or the root goes
+  module _ (itself : N → Bool) (change : Change) (ks : List (Mark N A)) (run : IsRun eq f kept wild far lent (entries_with ks) st)
+      (marked : AllByRecursion (IsMarkedBy itself change ks) ks) (once : IsDistinct eq (nodes_of (entries_with ks))) (root : Mark N A) (there : IsOneOf ks root)
+      (named : root.entry.node ≡ f.root) (left : ℕ)
+      (plain : (n : N) → is_one eq (first_of f kept) n ≡ false → itself n ≡ false)
+      (lent-goes : (j : ℕ) → j < kept → (e : Entry N A) → IsOneOf (entries_with ks) e → (f.entry j).node ≡ e.node
+      → (itself e.node || (list_any (is_use_touched change) (f.entry j).uses || root.goes)) ≡ nat_le left j)
+      (view-goes : (j : ℕ) → j < kept → nat_le left j ≡ (list_any (is_use_touched change) (f.entry j).uses || named_goes root.goes left (f.prior j))) where
+    -- the folded nodes from a number on go
     abbrev goes : ℕ → Bool
-    goes j = list_any (is_use_touched change) (f.entry j).uses || root.goes
+    goes j = nat_le left j
 
     -- a mark of a node that isn't folded
     abbrev is_slot : Mark N A → Bool
@@ -471,6 +508,10 @@ module _ {N A : Type 0} (eq : N → N → Bool) (laws : IsEquivalence eq) (exact
     -- the marks of the view: those of such nodes, and then those of the folded ones
     abbrev view-marks : List (Mark N A)
     view-marks = filter is_slot ks ++ marks_of f goes kept
+
+    -- the same with what is kept in slots
+    abbrev lent-marks : List (Mark N A)
+    lent-marks = filter is_slot ks ++ marks_of lent-fold goes kept
 
     -- who asked the root alone has asked a node that goes, exactly if the root goes
     root-says : (ms : List N) (bs : List Bool) → ms ≡ f.root ∷ [] → AllSay ks ms bs → list_any (λ b. b) bs ≡ root.goes
@@ -484,81 +525,153 @@ module _ {N A : Type 0} (eq : N → N → Bool) (laws : IsEquivalence eq) (exact
     root-says (m ∷ n ∷ ms) bs e h = absurd (cc)
 
     -- an entry of a node of a number below which none else has a slot is that of a folded one
-    same-at : (k : Mark N A) → IsOneOf ks k → (j : ℕ) → j < far → (f.entry j).node ≡ k.entry.node → (j < kept) × (k.entry ≡ f.entry j)
-    same-at k m = one_of-all (λ (e : Entry N A). (j : ℕ) → j < far → (f.entry j).node ≡ e.node → (j < kept) × (e ≡ f.entry j)) (entries_with ks) run.same
+    same-at : (k : Mark N A) → IsOneOf ks k → (j : ℕ) → j < far → (f.entry j).node ≡ k.entry.node → (j < kept) × (k.entry ≡ lent_as f j)
+    same-at k m = one_of-all (λ (e : Entry N A). (j : ℕ) → j < far → (f.entry j).node ≡ e.node → (j < kept) × (e ≡ lent_as f j)) (entries_with ks) run.same
         k.entry (entry-of ks k m)
 
     -- where it has a slot too, its mark there says the same
-    alike : (k : Mark N A) → IsOneOf ks k → (j : ℕ) → j < kept → (f.entry j).node ≡ k.entry.node → k ≡ mark_at f goes j
+    alike : (k : Mark N A) → IsOneOf ks k → (j : ℕ) → j < kept → (f.entry j).node ≡ k.entry.node → k ≡ mark_at lent-fold goes j
     alike k m j lt s =
-        let mark : IsMarked change ks k = one_of-all (IsMarked change ks) ks marked k m in
-        let e : k.entry ≡ f.entry j = (same-at k m j (omega (arith, run.order, run.reach)) s).1 in
-        let asks : k.entry.asked ≡ f.root ∷ [] = ap (λ x. x.asked) e ∙ run.laid.named j in
+        let mark : IsMarkedBy itself change ks k = one_of-all (IsMarkedBy itself change ks) ks marked k m in
+        let e : k.entry ≡ lent_as f j = (same-at k m j (omega (arith, run.order, run.reach)) s).1 in
+        let asks : k.entry.asked ≡ f.root ∷ [] = ap (λ x. x.asked) e in
         let g : k.goes ≡ goes j =
-        mark.goes ∙ (λ i. list_any (is_use_touched change) (e i).uses || root-says k.entry.asked mark.asked asks mark.say i) in
+        mark.goes
+        ∙ (λ i. itself k.entry.node || (list_any (is_use_touched change) (e i).uses || root-says k.entry.asked mark.asked asks mark.say i))
+        ∙ lent-goes j lt k.entry (entry-of ks k m) s in
         (λ i. record { entry = e i; goes = g i })
 
     -- the number of a folded node that has a slot
     numbered-mark : (t : ℕ) → t ≤ kept → (k : Mark N A) → IsOneOf ks k → is_one eq (first_of f t) k.entry.node ≡ true
-        → (j : ℕ) × (j < t) × (k ≡ mark_at f goes j)
+        → (j : ℕ) × (j < t) × (k ≡ mark_at lent-fold goes j)
     numbered-mark t le k m e = let r = number-of eq laws exact f t k.entry.node e in (r.0, r.1, alike k m r.0 (omega (arith, r.1)) r.2)
 
-    -- each mark of the table is one of the view
-    seen : (k : Mark N A) → IsOneOf ks k → IsOneOf view-marks k
-    seen k m = in_both (λ (x : Mark N A). is_one eq (first_of f kept) x.entry.node) ks (marks_of f goes kept) k
-        (λ t. (let r = numbered-mark kept (omega arith) k m t in subst (IsOneOf (marks_of f goes kept)) (sym r.2) (mark-in f goes kept r.0 r.1))) m
+    -- each mark of the table is one of the view, as it is kept in slots
+    in-lent : (k : Mark N A) → IsOneOf ks k → IsOneOf lent-marks k
+    in-lent k m = in_both (λ (x : Mark N A). is_one eq (first_of f kept) x.entry.node) ks (marks_of lent-fold goes kept) k
+        (λ t. (let r = numbered-mark kept (omega arith) k m t in
+        subst (IsOneOf (marks_of lent-fold goes kept)) (sym r.2) (mark-in lent-fold goes kept r.0 r.1))) m
+
+    -- so the view says of its node what it says
+    folded-says : (j : ℕ) → j < kept → Says view-marks (f.entry j).node (goes j)
+    folded-says j lt = record {
+      mark = mark_at f goes j;
+      there = in_right (filter is_slot ks) (marks_of f goes kept) (mark_at f goes j) (mark-in f goes kept j lt);
+      node = refl;
+      goes = refl;
+    }
+
+    seen : (k : Mark N A) → IsOneOf ks k → Says view-marks k.entry.node k.goes
+    seen k m = elim (cases_Bool (is_one eq (first_of f kept) k.entry.node)) [
+      | inl t ↦ let r = numbered-mark kept (omega arith) k m t in
+          subst (λ (x : Mark N A). Says view-marks x.entry.node x.goes) (sym r.2) (folded-says r.0 r.1)
+      | inr t ↦ record {
+        mark = k;
+        there = in_left (filter is_slot ks) (marks_of f goes kept) k (in_filter is_slot ks k (ap not t) m);
+        node = refl;
+        goes = refl;
+      }
+    ]
 
     -- so what the marks of the table say, those of the view say
     says-seen : (ms : List N) (bs : List Bool) → AllSay ks ms bs → AllSay view-marks ms bs
     says-seen [] [] h = tt
     says-seen [] (b ∷ bs) h = absurd h
     says-seen (m ∷ ms) [] h = absurd h
-    says-seen (m ∷ ms) (b ∷ bs) h =
-        (record { mark = h.0.mark; there = seen h.0.mark h.0.there; node = h.0.node; goes = h.0.goes }, says-seen ms bs h.1)
+    says-seen (m ∷ ms) (b ∷ bs) h = let s = seen h.0.mark h.0.there in (
+      record { mark = s.mark; there = s.there; node = s.node ∙ h.0.node; goes = s.goes ∙ h.0.goes },
+      says-seen ms bs h.1,
+    )
+
+    -- and of what a folded node's entry names
+    named-says : (o : Option ℕ) → IfSome o (λ i. i < kept) → Says view-marks (named_in f o) (named_goes root.goes left o)
+    named-says None h = let s = seen root there in record { mark = s.mark; there = s.there; node = s.node ∙ named; goes = s.goes }
+    named-says (Some i) h = folded-says i h
 
     -- the marks of the view are right
     view-marked : AllByRecursion (IsMarked change view-marks) view-marks
     view-marked = All-++ (IsMarked change view-marks) (filter is_slot ks) (marks_of f goes kept)
-        (all-one_of (IsMarked change view-marks) (filter is_slot ks)
-        (λ k m. (let mark = one_of-all (IsMarked change ks) ks marked k (out_of-filter is_slot ks k m).0 in
-        record { asked = mark.asked; say = says-seen k.entry.asked mark.asked mark.say; goes = mark.goes })))
-        (all-marks f goes (IsMarked change view-marks) kept
-        (λ j lt. (let says : Says view-marks f.root root.goes = record { mark = root; there = seen root there; node = named; goes = refl } in
-        record {
-          asked = root.goes ∷ [];
-          say = subst (λ ms. AllSay view-marks ms (root.goes ∷ [])) (sym (run.laid.named j)) (says, tt);
-          goes = ap (λ b. list_any (is_use_touched change) (f.entry j).uses || b) (sym (or-false root.goes));
-        })))
+        (all-one_of (IsMarked change view-marks) (filter is_slot ks) slot-marked) (all-marks f goes (IsMarked change view-marks) kept folded-marked)
+      where
+        slot-marked : (k : Mark N A) → IsOneOf (filter is_slot ks) k → IsMarked change view-marks k
+        slot-marked k m =
+            let out = out_of-filter is_slot ks k m in
+            let mark = one_of-all (IsMarkedBy itself change ks) ks marked k out.0 in
+            record {
+              asked = mark.asked;
+              say = says-seen k.entry.asked mark.asked mark.say;
+              goes = mark.goes
+                  ∙ ap (λ b. b || (list_any (is_use_touched change) k.entry.uses || list_any (λ b. b) mark.asked))
+                  (plain k.entry.node (not-true (is_one eq (first_of f kept) k.entry.node) out.1));
+            }
+
+        below : (o : Option ℕ) (j : ℕ) → j < kept → IfSome o (λ i. i < j) → IfSome o (λ i. i < kept)
+        below None j lt h = tt
+        below (Some i) j lt h = let less : i < j = h in let all : i < kept = omega arith in all
+
+        folded-marked : (j : ℕ) → j < kept → IsMarked change view-marks (mark_at f goes j)
+        folded-marked j lt =
+            let b = named_goes root.goes left (f.prior j) in
+            let early = run.laid.earlier j (let order = run.order in let reach = run.reach in let size = run.in_size in omega arith) in
+            record {
+              asked = b ∷ [];
+              say = subst (λ ms. AllSay view-marks ms (b ∷ [])) (sym (run.laid.named j)) (named-says (f.prior j) (below (f.prior j) j lt early), tt);
+              goes = view-goes j lt ∙ ap (λ c. list_any (is_use_touched change) (f.entry j).uses || c) (sym (or-false b));
+            }
 
     -- they mark the entries of the view
     view-entries : entries_with view-marks ≡ with_folded eq (first_of f kept) (entries_with ks)
     view-entries = map-append (λ (k : Mark N A). k.entry) (filter is_slot ks) (marks_of f goes kept)
         ∙ (λ i. filter-entries (λ e. not (is_one eq (first_of f kept) e.node)) ks i ++ marks-entries f goes kept i)
 
+    -- a sum doesn't say what entries name
+    lent-sum : (p : Mark N A → ℕ) → ((j : ℕ) → p (mark_at lent-fold goes j) ≡ p (mark_at f goes j)) → sum_by p lent-marks ≡ sum_by p view-marks
+    lent-sum p same =
+        sum_by-append p (filter is_slot ks) (marks_of lent-fold goes kept) ∙ ap (λ n. sum_by p (filter is_slot ks) + n) (all kept)
+        ∙ sym (sum_by-append p (filter is_slot ks) (marks_of f goes kept))
+      where
+        all : (t : ℕ) → sum_by p (marks_of lent-fold goes t) ≡ sum_by p (marks_of f goes t)
+        all zero = refl
+        all (suc t) =
+            sum_by-append p (marks_of lent-fold goes t) (mark_at lent-fold goes t ∷ [])
+            ∙ (λ i. all t i + one i) ∙ sym (sum_by-append p (marks_of f goes t) (mark_at f goes t ∷ []))
+          where
+            one : sum_by p (mark_at lent-fold goes t ∷ []) ≡ sum_by p (mark_at f goes t ∷ [])
+            one = sum_by-cons p (mark_at lent-fold goes t) [] ∙ ap (λ n. n + sum_by p []) (same t) ∙ sym (sum_by-cons p (mark_at f goes t) [])
+
     -- sums over the view are no less than over the table
-    more-all : (p : Entry N A → ℕ) → sum_by p (entries_with ks) ≤ sum_by p (with_folded eq (first_of f kept) (entries_with ks))
-    more-all p =
+    more-all : (p : Entry N A → ℕ) → ((j : ℕ) → p (lent_as f j) ≡ p (f.entry j))
+        → sum_by p (entries_with ks) ≤ sum_by p (with_folded eq (first_of f kept) (entries_with ks))
+    more-all p same =
         omega (
           arith,
-          sum-among (λ (k : Mark N A). p k.entry) ks view-marks (marks-apart eq laws ks once) seen,
+          sum-among (λ (k : Mark N A). p k.entry) ks lent-marks (marks-apart eq laws ks once) in-lent,
+          lent-sum (λ (k : Mark N A). p k.entry) same,
           all-sum p ks,
           all-sum p view-marks,
           ap (sum_by p) view-entries,
         )
 
     -- the same of what goes
-    more-gone : (p : Entry N A → ℕ) → sum_by p (entries_gone ks) ≤ sum_by p (entries_gone view-marks)
-    more-gone p =
+    more-gone : (p : Entry N A → ℕ) → ((j : ℕ) → p (lent_as f j) ≡ p (f.entry j)) → sum_by p (entries_gone ks) ≤ sum_by p (entries_gone view-marks)
+    more-gone p same =
         omega (
           arith,
-          sum-among (λ (k : Mark N A). cond k.goes (p k.entry) 0) ks view-marks (marks-apart eq laws ks once) seen,
+          sum-among (λ (k : Mark N A). cond k.goes (p k.entry) 0) ks lent-marks (marks-apart eq laws ks once) in-lent,
+          lent-sum (λ (k : Mark N A). cond k.goes (p k.entry) 0) (λ j. ap (λ n. cond (goes j) n 0) (same j)),
           gone-sum p ks,
           gone-sum p view-marks,
         )
 
-    module _ (left : ℕ) (within : left ≤ kept) (stay : (j : ℕ) → j < left → goes j ≡ false) (go : (j : ℕ) → left ≤ j → j < kept → goes j ≡ true) where
+    module _ (within : left ≤ kept) where
+      stay : (j : ℕ) → j < left → goes j ≡ false
+      stay j lt = le-false left j lt
+
+      go : (j : ℕ) → left ≤ j → j < kept → goes j ≡ true
+      go j le lt = le-true left j le
+
       -- a folded node that stays is one of those that are left
-      lower : (k : Mark N A) → k.goes ≡ false → (j : ℕ) → j < kept → k ≡ mark_at f goes j → j < left
+      lower : (k : Mark N A) → k.goes ≡ false → (j : ℕ) → j < kept → k ≡ mark_at lent-fold goes j → j < left
       lower k e j lt s = elim (cases_lt j left) [
         | inl l ↦ l
         | inr ge ↦ absurd (true≢false (sym (go j ge lt) ∙ sym (ap (λ x. x.goes) s) ∙ e))
@@ -584,8 +697,12 @@ module _ {N A : Type 0} (eq : N → N → Bool) (laws : IsEquivalence eq) (exact
           (all-one_of (λ (k : Mark N A). k.goes ≡ false → is_slot k ≡ not (is_one eq (first_of f left) k.entry.node)) ks still) i
           ++ marks-left f goes left kept within stay go i)
 
+      -- those that have slots after it
+      abbrev IsLeft : List (Lending N) → Type 0
+      IsLeft now = (now ≡ filter (λ l. nat_lt l.place left) lent) ⊎ ((left ≡ kept) × (now ≡ lent))
+
       -- the run after it
-      run-left : (now : List ℕ) → (now ≡ filter (λ j. nat_lt j left) lent) ⊎ ((left ≡ kept) × (now ≡ lent)) → KeepsNode eq (entries_left ks) f.root
+      run-left : (now : List (Lending N)) → IsLeft now → KeepsNode eq (entries_left ks) f.root
           → IsRun eq f left wild far now (entries_left ks) []
       run-left now cut holds = record {
         laid = run.laid;
@@ -602,24 +719,35 @@ module _ {N A : Type 0} (eq : N → N → Bool) (laws : IsEquivalence eq) (exact
             (λ k m u. (let r = numbered-mark t (omega arith) k m u in ap (λ (x : Mark N A). x.goes) r.2 ∙ stay r.0 (omega (arith, r.1)))))
             ∙ run.counted t (omega arith) ∙ sym (lent-count t le cut);
         below = lent-below cut;
+        named = lent-named cut;
       }
         where
           Same : Entry N A → Type 0
-          Same e = (j : ℕ) → j < far → (f.entry j).node ≡ e.node → (j < left) × (e ≡ f.entry j)
+          Same e = (j : ℕ) → j < far → (f.entry j).node ≡ e.node → (j < left) × (e ≡ lent_as f j)
 
-          lent-count : (t : ℕ) → t ≤ left → (now ≡ filter (λ j. nat_lt j left) lent) ⊎ ((left ≡ kept) × (now ≡ lent))
-              → count_by (λ j. nat_lt j t) now ≡ count_by (λ j. nat_lt j t) lent
-          lent-count t le (inl e) = ap (count_by (λ j. nat_lt j t)) e ∙ count-cut t left le lent
-          lent-count t le (inr e) = ap (count_by (λ j. nat_lt j t)) e.1
+          Below : Lending N → Type 0
+          Below l = l.place < left
 
-          lent-below : (now ≡ filter (λ j. nat_lt j left) lent) ⊎ ((left ≡ kept) × (now ≡ lent)) → AllByRecursion (λ j. j < left) now
-          lent-below (inl e) = subst (AllByRecursion (λ j. j < left)) (sym e)
-              (all-one_of (λ j. j < left) (filter (λ j. nat_lt j left) lent)
-              (λ j m. (Decides-ltb j left).0 (out_of-filter (λ j. nat_lt j left) lent j m).1))
-          lent-below (inr e) = subst (AllByRecursion (λ j. j < left)) (sym e.1) (All-map (λ j lt. (let l : j < left = omega (arith, e.0) in l)) lent run.below)
+          Named : Lending N → Type 0
+          Named l = (f.entry l.place).node ≡ l.node
+
+          lent-count : (t : ℕ) → t ≤ left → IsLeft now → count_by (λ l. nat_lt l.place t) now ≡ count_by (λ l. nat_lt l.place t) lent
+          lent-count t le (inl e) = ap (count_by (λ l. nat_lt l.place t)) e ∙ count-cut t left le lent
+          lent-count t le (inr e) = ap (count_by (λ l. nat_lt l.place t)) e.1
+
+          lent-below : IsLeft now → AllByRecursion Below now
+          lent-below (inl e) = subst (AllByRecursion Below) (sym e) (all-one_of Below (filter (λ l. nat_lt l.place left) lent)
+              (λ l m. (Decides-ltb l.place left).0 (out_of-filter (λ l. nat_lt l.place left) lent l m).1))
+          lent-below (inr e) = subst (AllByRecursion Below) (sym e.1)
+              (All-map (λ l lt. (let less : l.place < left = omega (arith, e.0) in less)) lent run.below)
+
+          lent-named : IsLeft now → AllByRecursion Named now
+          lent-named (inl e) = subst (AllByRecursion Named) (sym e) (all-one_of Named (filter (λ l. nat_lt l.place left) lent)
+              (λ l m. one_of-all Named lent run.named l (out_of-filter (λ l. nat_lt l.place left) lent l m).0))
+          lent-named (inr e) = subst (AllByRecursion Named) (sym e.1) run.named
 
   -- ---- the pass
-  module _ (change : Change) (pages : ℕ) (es after : List (Entry N A)) (looked : ℕ) (s : Sweeps change pages es after looked)
+  module _ (itself : N → Bool) (change : Change) (pages : ℕ) (es after : List (Entry N A)) (looked : ℕ) (s : SweepsBy itself change pages es after looked)
       (run : IsRun eq f kept wild far lent es st) (once : IsDistinct eq (nodes_of es)) where
     -- the run and its nodes, by the marks of the pass
     run-marks : IsRun eq f kept wild far lent (entries_with s.marks) st
@@ -652,43 +780,53 @@ module _ {N A : Type 0} (eq : N → N → Bool) (laws : IsEquivalence eq) (exact
         ]
 
     module _ (root : Mark N A) (b : Bool) (is : IsOneOf s.marks root × (root.entry.node ≡ f.root) × (root.goes ≡ b)) (left : ℕ) (within : left ≤ kept)
-        (stay : (j : ℕ) → j < left → (list_any (is_use_touched change) (f.entry j).uses || b) ≡ false)
-        (go : (j : ℕ) → left ≤ j → j < kept → (list_any (is_use_touched change) (f.entry j).uses || b) ≡ true) where
-      -- which folded nodes stay, by the root's mark
-      stay-root : (j : ℕ) → j < left → (list_any (is_use_touched change) (f.entry j).uses || root.goes) ≡ false
-      stay-root j lt = ap (λ c. list_any (is_use_touched change) (f.entry j).uses || c) is.2 ∙ stay j lt
+        (plain : (n : N) → is_one eq (first_of f kept) n ≡ false → itself n ≡ false)
+        (lent-goes : (j : ℕ) → j < kept → (e : Entry N A) → IsOneOf es e → (f.entry j).node ≡ e.node
+        → (itself e.node || (list_any (is_use_touched change) (f.entry j).uses || b)) ≡ nat_le left j)
+        (view-goes : (j : ℕ) → j < kept → nat_le left j ≡ (list_any (is_use_touched change) (f.entry j).uses || named_goes b left (f.prior j))) where
+      -- the same by the root's mark
+      lent-root : (j : ℕ) → j < kept → (e : Entry N A) → IsOneOf (entries_with s.marks) e → (f.entry j).node ≡ e.node
+          → (itself e.node || (list_any (is_use_touched change) (f.entry j).uses || root.goes)) ≡ nat_le left j
+      lent-root j lt e m at =
+          ap (λ c. itself e.node || (list_any (is_use_touched change) (f.entry j).uses || c)) is.2
+          ∙ lent-goes j lt e (subst (λ xs. IsOneOf xs e) s.entries m) at
 
-      go-root : (j : ℕ) → left ≤ j → j < kept → (list_any (is_use_touched change) (f.entry j).uses || root.goes) ≡ true
-      go-root j le lt = ap (λ c. list_any (is_use_touched change) (f.entry j).uses || c) is.2 ∙ go j le lt
+      view-root : (j : ℕ) → j < kept → nat_le left j ≡ (list_any (is_use_touched change) (f.entry j).uses || named_goes root.goes left (f.prior j))
+      view-root j lt = view-goes j lt ∙ ap (λ c. list_any (is_use_touched change) (f.entry j).uses || named_goes c left (f.prior j)) (sym is.2)
 
       -- the marks of the view, what they mark, and what they leave
       abbrev all-marks-now : List (Mark N A)
-      all-marks-now = view-marks change s.marks run-marks s.marked once-marks root is.0 is.1
+      all-marks-now = view-marks itself change s.marks run-marks s.marked once-marks root is.0 is.1 left plain lent-root view-root
 
       now-entries : entries_with all-marks-now ≡ with_folded eq (first_of f kept) es
-      now-entries = view-entries change s.marks run-marks s.marked once-marks root is.0 is.1 ∙ ap (with_folded eq (first_of f kept)) s.entries
+      now-entries = view-entries itself change s.marks run-marks s.marked once-marks root is.0 is.1 left plain lent-root view-root
+          ∙ ap (with_folded eq (first_of f kept)) s.entries
 
       now-left : with_folded eq (first_of f left) after ≡ entries_left all-marks-now
       now-left = ap (with_folded eq (first_of f left)) s.stays
-          ∙ sym (view-left change s.marks run-marks s.marked once-marks root is.0 is.1 left within stay-root go-root)
+          ∙ sym (view-left itself change s.marks run-marks s.marked once-marks root is.0 is.1 left plain lent-root view-root within)
 
       -- sums over the view are no less, before it and over what goes
-      more-before : (p : Entry N A → ℕ) → sum_by p es ≤ sum_by p (with_folded eq (first_of f kept) es)
-      more-before p = subst (λ xs. sum_by p xs ≤ sum_by p (with_folded eq (first_of f kept) xs)) s.entries
-          (more-all change s.marks run-marks s.marked once-marks root is.0 is.1 p)
+      more-before : (p : Entry N A → ℕ) → ((j : ℕ) → p (lent_as f j) ≡ p (f.entry j)) → sum_by p es ≤ sum_by p (with_folded eq (first_of f kept) es)
+      more-before p same = subst (λ xs. sum_by p xs ≤ sum_by p (with_folded eq (first_of f kept) xs)) s.entries
+          (more-all itself change s.marks run-marks s.marked once-marks root is.0 is.1 left plain lent-root view-root p same)
 
-      more-went : (p : Entry N A → ℕ) → sum_by p (entries_gone s.marks) ≤ sum_by p (entries_gone all-marks-now)
-      more-went p = more-gone change s.marks run-marks s.marked once-marks root is.0 is.1 p
+      more-went : (p : Entry N A → ℕ) → ((j : ℕ) → p (lent_as f j) ≡ p (f.entry j)) → sum_by p (entries_gone s.marks) ≤ sum_by p (entries_gone all-marks-now)
+      more-went p same = more-gone itself change s.marks run-marks s.marked once-marks root is.0 is.1 left plain lent-root view-root p same
+
+      -- an entry names as many
+      as-many : (j : ℕ) → length (lent_as f j).asked ≡ length (f.entry j).asked
+      as-many j = sym (ap length (run.laid.named j))
 
       -- how many nodes go
       view-went : length (with_folded eq (first_of f kept) es) ≡ length (entries_gone all-marks-now) + length (with_folded eq (first_of f left) after)
       view-went = ap length (sym now-entries) ∙ gone-and-left all-marks-now ∙ ap (λ xs. length (entries_gone all-marks-now) + length xs) (sym now-left)
 
       -- the run after it
-      left-run : (now : List ℕ) → (now ≡ filter (λ j. nat_lt j left) lent) ⊎ ((left ≡ kept) × (now ≡ lent)) → KeepsNode eq after f.root
+      left-run : (now : List (Lending N)) → (now ≡ filter (λ l. nat_lt l.place left) lent) ⊎ ((left ≡ kept) × (now ≡ lent)) → KeepsNode eq after f.root
           → IsRun eq f left wild far now after []
       left-run now cut holds = subst (λ xs. IsRun eq f left wild far now xs []) (sym s.stays)
-          (run-left change s.marks run-marks s.marked once-marks root is.0 is.1 left within stay-root go-root now cut
+          (run-left itself change s.marks run-marks s.marked once-marks root is.0 is.1 left plain lent-root view-root within now cut
           (subst (λ xs. KeepsNode eq xs f.root) s.stays holds))
 
       -- no more looks than the table's, or no more than the nodes that go
@@ -701,7 +839,7 @@ module _ {N A : Type 0} (eq : N → N → Bool) (laws : IsEquivalence eq) (exact
       swept result least most = record {
         marks = all-marks-now;
         entries = now-entries;
-        marked = view-marked change s.marks run-marks s.marked once-marks root is.0 is.1;
+        marked = view-marked itself change s.marks run-marks s.marked once-marks root is.0 is.1 left plain lent-root view-root;
         stays = now-left;
         least = omega (arith, view-went);
         most = λ over. by (s.most over) most;
@@ -709,51 +847,52 @@ module _ {N A : Type 0} (eq : N → N → Bool) (laws : IsEquivalence eq) (exact
       }
         where
           went-count : length (entries_gone s.marks) ≤ length (entries_gone all-marks-now)
-          went-count = omega (arith, more-went (λ e. 1), ones (entries_gone s.marks), ones (entries_gone all-marks-now))
+          went-count = omega (arith, more-went (λ e. 1) (λ j. refl), ones (entries_gone s.marks), ones (entries_gone all-marks-now))
 
-          by : looked ≤ pages_met change + 3 * sum_by (λ e. met_by change e.uses) es + 9 * length (entries_gone s.marks)
+          by : looked ≤ pages_met change + 3 * sum_by (λ e. met_by change e.uses) es + 10 * length (entries_gone s.marks)
               + 6 * sum_by (λ e. length e.asked) (entries_gone s.marks) + 4 * sum_by (λ e. length (pages_in e.uses)) (entries_gone s.marks) + 4 → Few result
               → result ≤ pages_met change + 3 * sum_by (λ e. met_by change e.uses) (with_folded eq (first_of f kept) es)
-              + 9 * length (entries_gone all-marks-now)
+              + 10 * length (entries_gone all-marks-now)
               + 6 * sum_by (λ e. length e.asked) (entries_gone all-marks-now) + 4 * sum_by (λ e. length (pages_in e.uses)) (entries_gone all-marks-now) + 4
           by bound (inl le) =
               omega (
                 arith,
                 bound,
                 went-count,
-                more-before (λ e. met_by change e.uses),
-                more-went (λ e. length e.asked),
-                more-went (λ e. length (pages_in e.uses)),
+                more-before (λ e. met_by change e.uses) (λ j. refl),
+                more-went (λ e. length e.asked) as-many,
+                more-went (λ e. length (pages_in e.uses)) (λ j. refl),
               )
           by bound (inr le) = omega (arith, view-went)
 
           past : looked ≤ 2 * pages_behind change pages + 3 * sum_by (λ e. behind_by change e.uses) es + 3 * sum_by (λ e. ended_by change e.uses) es
-              + 9 * length (entries_gone s.marks) + 6 * sum_by (λ e. length e.asked) (entries_gone s.marks)
+              + 10 * length (entries_gone s.marks) + 6 * sum_by (λ e. length e.asked) (entries_gone s.marks)
               + 4 * sum_by (λ e. length (pages_in e.uses)) (entries_gone s.marks) + 5 → Few result
               → result ≤ 2 * pages_behind change pages + 3 * sum_by (λ e. behind_by change e.uses) (with_folded eq (first_of f kept) es)
               + 3 * sum_by (λ e. ended_by change e.uses) (with_folded eq (first_of f kept) es)
-              + 9 * length (entries_gone all-marks-now)
+              + 10 * length (entries_gone all-marks-now)
               + 6 * sum_by (λ e. length e.asked) (entries_gone all-marks-now) + 4 * sum_by (λ e. length (pages_in e.uses)) (entries_gone all-marks-now) + 5
           past bound (inl le) =
               omega (
                 arith,
                 bound,
                 went-count,
-                more-before (λ e. behind_by change e.uses),
-                more-before (λ e. ended_by change e.uses),
-                more-went (λ e. length e.asked),
-                more-went (λ e. length (pages_in e.uses)),
+                more-before (λ e. behind_by change e.uses) (λ j. refl),
+                more-before (λ e. ended_by change e.uses) (λ j. refl),
+                more-went (λ e. length e.asked) as-many,
+                more-went (λ e. length (pages_in e.uses)) (λ j. refl),
               )
           past bound (inr le) = omega (arith, view-went)
 
 -- ---- runs
 module _ {N A S : Type 0} (eq : N → N → Bool) (laws : IsEquivalence eq) (exact : (a b : N) → eq a b ≡ true → a ≡ b) (fold : S → Fold N A) where
   -- what holds of each entry of the view holds of each of the table
-  pub table-all : (P : Entry N A → Type 0) (run : Run S) (t now : Tabled N A) → IsFolding eq fold (Some run) (nodes t) → nodes now ≡ nodes t
+  pub table-all : (P : Entry N A → Type 0) → ((f : Fold N A) (j : ℕ) → P (f.entry j) → P (lent_as f j)) → (run : Run N S) (t now : Tabled N A)
+      → IsFolding eq fold (Some run) (nodes t) → nodes now ≡ nodes t
       → AllByRecursion P (viewed eq fold (Some run) t).kept → AllByRecursion P now.kept
-  table-all P run t now is same all =
+  table-all P lends run t now is same all =
       subst (λ v. AllByRecursion P v.kept) (sym same)
-      (of-view eq laws exact (fold run.nodes) run.kept run.wild run.far run.lent.items t.opened P t.kept is all)
+      (of-view eq laws exact (fold run.nodes) run.kept run.wild run.far run.lent.items t.opened P (lends (fold run.nodes)) t.kept is all)
 
   -- a table beside no folded nodes
   with_none : (es : List (Entry N A)) → with_folded eq [] es ≡ es
@@ -764,73 +903,133 @@ module _ {N A S : Type 0} (eq : N → N → Bool) (laws : IsEquivalence eq) (exa
       same (e ∷ es) = ap (λ xs. e ∷ xs) (same es)
 
   -- the table's pass: what it kept before, and after it
-  module _ (run : Run S) (t looked_up swept_table now : Tabled N A) (is : IsFolding eq fold (Some run) (nodes t)) (once : IsDistinct eq (nodes_of t.kept))
-      (same : nodes looked_up ≡ nodes t) (then : nodes now ≡ nodes swept_table) (change : Change) (pages looked : ℕ)
-      (sweeps : Sweeps change pages looked_up.kept swept_table.kept looked) where
+  module _ (run : Run N S) (t looked_up swept_table now : Tabled N A) (is : IsFolding eq fold (Some run) (nodes t)) (once : IsDistinct eq (nodes_of t.kept))
+      (same : nodes looked_up ≡ nodes t) (then : nodes now ≡ nodes swept_table) (change : Change) (pages looked left : ℕ)
+      (sweeps : SweepsBy (is_lent_from eq left run.lent.items) change pages looked_up.kept swept_table.kept looked)
+      (leaves : Leaves (fold run.nodes) change run.kept left) where
+    abbrev f : Fold N A
+    f = fold run.nodes
+
+    -- the nodes that go by themselves
+    abbrev itself : N → Bool
+    itself = is_lent_from eq left run.lent.items
+
+    abbrev hits : ℕ → Bool
+    hits j = list_any (is_use_touched change) (f.entry j).uses
+
     -- the pass, between the table before and after all
-    sweeps-now : Sweeps change pages t.kept now.kept looked
-    sweeps-now = subst (λ v. Sweeps change pages v.kept now.kept looked) same (subst (λ v. Sweeps change pages looked_up.kept v.kept looked) (sym then) sweeps)
+    sweeps-now : SweepsBy itself change pages t.kept now.kept looked
+    sweeps-now = subst (λ v. SweepsBy itself change pages v.kept now.kept looked) same
+        (subst (λ v. SweepsBy itself change pages looked_up.kept v.kept looked) (sym then) sweeps)
+
+    plain : (n : N) → is_one eq (first_of f run.kept) n ≡ false → itself n ≡ false
+    plain n out = unlent-test eq laws exact f run.kept run.wild run.far run.lent.items t.kept t.opened is once left n out
+
+    lent-itself : (j : ℕ) → j < run.kept → (e : Entry N A) → IsOneOf t.kept e → (f.entry j).node ≡ e.node → itself e.node ≡ nat_le left j
+    lent-itself j lt e m at = lent-test eq laws exact f run.kept run.wild run.far run.lent.items t.kept t.opened is once left e m j lt at
 
     -- where the root stays
-    module _ (n : N) (root : n ≡ (fold run.nodes).root) (holds : KeepsNode eq swept_table.kept n) (left : ℕ)
-        (leaves : Leaves (fold run.nodes) change run.kept left) where
+    lent-stays : (j : ℕ) → j < run.kept → (e : Entry N A) → IsOneOf t.kept e → (f.entry j).node ≡ e.node → (itself e.node || (hits j || false)) ≡ nat_le left j
+    lent-stays j lt e m at = elim (cases_lt j left) [
+      | inl less ↦ (λ i. lent-itself j lt e m at i || (leaves.stays j less i || false)) ∙ or-false (nat_le left j)
+      | inr le ↦ ap (λ b. b || (hits j || false)) (lent-itself j lt e m at ∙ le-true left j le) ∙ sym (le-true left j le)
+    ]
+
+    named-stays : (o : Option ℕ) → named_goes false left o ≡ is_from left o
+    named-stays None = refl
+    named-stays (Some i) = refl
+
+    from-later : (o : Option ℕ) (j : ℕ) → j < left → IfSome o (λ i. i < j) → is_from left o ≡ false
+    from-later None j lt h = refl
+    from-later (Some i) j lt h = le-false left i (let less : i < j = h in omega arith)
+
+    view-stays : (j : ℕ) → j < run.kept → nat_le left j ≡ (hits j || named_goes false left (f.prior j))
+    view-stays j lt = elim (cases_lt j left) [
+      | inl less ↦ let early = is.laid.earlier j (let order = is.order in let reach = is.reach in let size = is.in_size in omega arith) in
+          le-false left j less ∙ sym (λ i. leaves.stays j less i || (named-stays (f.prior j) ∙ from-later (f.prior j) j less early) i)
+      | inr le ↦ le-true left j le ∙ sym (ap (λ b. hits j || b) (named-stays (f.prior j)) ∙ leaves.goes j le lt)
+    ]
+
+    -- where it goes
+    all-true : (j : ℕ) → nat_le 0 j ≡ true
+    all-true j = le-true 0 j (omega arith)
+
+    lent-all-go : (j : ℕ) → j < run.kept → (e : Entry N A) → IsOneOf t.kept e → (f.entry j).node ≡ e.node → (itself e.node || (hits j || true)) ≡ nat_le 0 j
+    lent-all-go j lt e m at = ap (λ b. itself e.node || b) (or_true (hits j)) ∙ or_true (itself e.node) ∙ sym (all-true j)
+
+    named-all-go : (o : Option ℕ) → named_goes true 0 o ≡ true
+    named-all-go None = refl
+    named-all-go (Some i) = all-true i
+
+    view-all-go : (j : ℕ) → j < run.kept → nat_le 0 j ≡ (hits j || named_goes true 0 (f.prior j))
+    view-all-go j lt = all-true j ∙ sym (ap (λ b. hits j || b) (named-all-go (f.prior j)) ∙ or_true (hits j))
+
+    -- where the root stays
+    module _ (n : N) (root : n ≡ f.root) (holds : KeepsNode eq swept_table.kept n) where
       -- the root, and its mark
-      holds-now : KeepsNode eq now.kept (fold run.nodes).root
+      holds-now : KeepsNode eq now.kept f.root
       holds-now = subst (KeepsNode eq now.kept) root (subst (λ v. KeepsNode eq v.kept n) (sym then) holds)
 
-      at_root : (k : Mark N A) × IsOneOf sweeps-now.marks k × (k.entry.node ≡ (fold run.nodes).root) × (k.goes ≡ false)
+      at_root : (k : Mark N A) × IsOneOf sweeps-now.marks k × (k.entry.node ≡ f.root) × (k.goes ≡ false)
       at_root =
-          let r = root-stays eq laws exact (fold run.nodes) run.kept run.wild run.far run.lent.items t.opened change pages t.kept now.kept looked sweeps-now is
+          let r = root-stays eq laws exact f run.kept run.wild run.far run.lent.items t.opened itself change pages t.kept now.kept looked sweeps-now is
           once holds-now in (r.0, r.1.0, r.1.1, r.1.2)
 
-      -- which folded nodes stay
-      stay : (j : ℕ) → j < left → (list_any (is_use_touched change) ((fold run.nodes).entry j).uses || false) ≡ false
-      stay j lt = ap (λ b. b || false) (leaves.stays j lt)
-
-      go : (j : ℕ) → left ≤ j → j < run.kept → (list_any (is_use_touched change) ((fold run.nodes).entry j).uses || false) ≡ true
-      go j le lt = ap (λ b. b || false) (leaves.goes j le lt)
-
       -- the run after it, and what is left of the view
-      pub some-left : (new : Run S) → IsCut left run new → swept_table.opened ≡ [] → IsFolding eq fold (Some new) (nodes now)
+      pub some-left : (new : Run N S) → IsCut left run new → swept_table.opened ≡ [] → IsFolding eq fold (Some new) (nodes now)
       some-left new cut none =
           let opened : now.opened ≡ [] = ap (λ v. v.opened) then ∙ none in
-          let r : IsRun eq (fold run.nodes) left run.wild run.far new.lent.items now.kept [] =
-          left-run eq laws exact (fold run.nodes) run.kept run.wild run.far run.lent.items t.opened change pages t.kept now.kept looked sweeps-now is once
-          at_root.0 false (at_root.1, at_root.2, at_root.3) left leaves.within stay go new.lent.items cut.lent holds-now in
+          let r : IsRun eq f left run.wild run.far new.lent.items now.kept [] =
+          left-run eq laws exact f run.kept run.wild run.far run.lent.items t.opened itself change pages t.kept now.kept looked sweeps-now is once
+          at_root.0 false (at_root.1, at_root.2, at_root.3) left leaves.within plain lent-stays view-stays new.lent.items cut.lent holds-now in
           subst (λ st. IsRun eq (fold new.nodes) new.kept new.wild new.far new.lent.items now.kept st) (sym opened)
           (subst (λ u. IsRun eq (fold new.nodes) new.kept new.wild u new.lent.items now.kept []) (sym cut.far)
           (subst (λ w. IsRun eq (fold new.nodes) new.kept w run.far new.lent.items now.kept []) (sym cut.wild)
           (subst (λ k. IsRun eq (fold new.nodes) k run.wild run.far new.lent.items now.kept []) (sym cut.kept)
           (subst (λ ns. IsRun eq (fold ns) left run.wild run.far new.lent.items now.kept []) (sym cut.nodes) r))))
 
-      pub some-swept : (new : Run S) → IsCut left run new → (told : ℕ)
+      pub some-swept : (new : Run N S) → IsCut left run new → (told : ℕ)
           → length (viewed eq fold (Some run) t).kept ≤ told + length (viewed eq fold (Some new) now).kept
           → (told ≤ looked) ⊎ (told + length (viewed eq fold (Some new) now).kept ≤ length (viewed eq fold (Some run) t).kept)
           → Sweeps change pages (viewed eq fold (Some run) t).kept (viewed eq fold (Some new) now).kept told
       some-swept new cut told least most =
           let before = (viewed eq fold (Some run) t).kept in
-          let view : (viewed eq fold (Some new) now).kept ≡ with_folded eq (first_of (fold run.nodes) left) now.kept =
+          let view : (viewed eq fold (Some new) now).kept ≡ with_folded eq (first_of f left) now.kept =
           (λ i. with_folded eq (first_of (fold (cut.nodes i)) (cut.kept i)) now.kept) in
           subst (λ xs. Sweeps change pages before xs told) (sym view)
-          (swept eq laws exact (fold run.nodes) run.kept run.wild run.far run.lent.items t.opened change pages t.kept now.kept looked sweeps-now is once
-          at_root.0 false (at_root.1, at_root.2, at_root.3) left leaves.within stay go told (subst (λ xs. length before ≤ told + length xs) view least)
+          (swept eq laws exact f run.kept run.wild run.far run.lent.items t.opened itself change pages t.kept now.kept looked sweeps-now is once
+          at_root.0 false (at_root.1, at_root.2, at_root.3) left leaves.within plain lent-stays view-stays told
+          (subst (λ xs. length before ≤ told + length xs) view least)
           (subst (λ xs. (told ≤ looked) ⊎ (told + length xs ≤ length before)) view most))
 
     -- where it goes
-    pub none-swept : (n : N) → n ≡ (fold run.nodes).root → HasNoEntry eq swept_table.kept n → (told : ℕ)
+    pub none-swept : (n : N) → n ≡ f.root → HasNoEntry eq swept_table.kept n → (told : ℕ)
         → length (viewed eq fold (Some run) t).kept ≤ told + length now.kept
         → (told ≤ looked) ⊎ (told + length now.kept ≤ length (viewed eq fold (Some run) t).kept)
         → Sweeps change pages (viewed eq fold (Some run) t).kept now.kept told
     none-swept n root gone told least most =
-        let f = fold run.nodes in
         let out : HasNoEntry eq now.kept f.root = subst (HasNoEntry eq now.kept) root (subst (λ v. HasNoEntry eq v.kept n) (sym then) gone) in
-        let r = root-goes eq laws exact f run.kept run.wild run.far run.lent.items t.opened change pages t.kept now.kept looked sweeps-now is once out in
+        let r = root-goes eq laws exact f run.kept run.wild run.far run.lent.items t.opened itself change pages t.kept now.kept looked sweeps-now is once out in
         let all = with_none now.kept in
         subst (λ xs. Sweeps change pages (viewed eq fold (Some run) t).kept xs told) all
-        (swept eq laws exact f run.kept run.wild run.far run.lent.items t.opened change pages t.kept now.kept looked sweeps-now is once r.0 true r.1 0
-        (omega arith) (λ j lt. absurd (omega arith)) (λ j le lt. or_true (list_any (is_use_touched change) (f.entry j).uses)) told
+        (swept eq laws exact f run.kept run.wild run.far run.lent.items t.opened itself change pages t.kept now.kept looked sweeps-now is once r.0 true r.1 0
+        (omega arith) plain lent-all-go view-all-go told
         (subst (λ xs. length (viewed eq fold (Some run) t).kept ≤ told + length xs) (sym all) least)
         (subst (λ xs. (told ≤ looked) ⊎ (told + length xs ≤ length (viewed eq fold (Some run) t).kept)) (sym all) most))
+
+-- a run is cut, of which the same have slots as of another
+pub cut-of : {N S : Type 0} (left : ℕ) (run new : Run N S) {lent : Listed N} → lent.items ≡ run.lent.items → IsCut left (record run { lent = lent }) new
+    → IsCut left run new
+cut-of left run new same cut = record {
+  nodes = cut.nodes;
+  kept = cut.kept;
+  wild = cut.wild;
+  far = cut.far;
+  lent = elim cut.lent [
+    | inl e ↦ inl (e ∙ ap (filter (λ l. nat_lt l.place left)) same)
+    | inr e ↦ inr (e.0, e.1 ∙ same)
+  ];
+}
 
 -- the same of equal tables
 pub swept-of : {N A : Type 0} (change : Change) (pages : ℕ) (view whole rest left : Tabled N A) → view ≡ whole → left ≡ rest → (looked told : ℕ)

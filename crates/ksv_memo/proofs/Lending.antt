@@ -5,14 +5,22 @@ use Rattle.ksv_memo.proofs.Common.{Option, Some, None, newly, Replies, Opens, Ci
 use Rattle.std.proofs.lemmas.List.Sums.{sum_by-append}
 use Rattle.ksv_memo_rules.specs.declared.rules.Outcome.TheVariants.{Circle as CircleOf}
 use Rattle.ksv_memo_rules.specs.Folds.{Fold, IsLaid, first_of}
+use Rattle.ksv_memo.specs.declared.lendings.Lending.{Lending}
 use Rattle.ksv_memo.specs.declared.folded.Run.{Run}
 use Rattle.ksv_memo.specs.Nodes.{Nodes, Asks, Starts, HasNoEntry, KeepsNode, IsPut, TakesFirst, is_there}
+use Rattle.ksv_memo.specs.Lending.{dropped_last}
 use Rattle.ksv_memo.specs.Open.{heard}
-use Rattle.ksv_memo.specs.Folding.{FailsToLend, LendsTo, LosesFirst, ClosesAs, SameRun, IsRun, IsNoneBelow, is_one, with_folded, entry_as}
+use Rattle.ksv_memo.specs.Folding.{FailsToLend, LendsTo, LosesFirst, ClosesAs, SameRun, IsRun, IsNoneBelow, is_one, lending, lent_as, with_folded, entry_as}
 use Rattle.std.proofs.Common.{true≢false, Ok, Err, OnErr}
 use Rattle.ksv_memo.proofs.Beside.{seen_entry, seen_folded, seen_none, seen_lent, own, first_one, one_first}
 use Rattle.ksv_memo.proofs.Leasts.{lower}
 use Rattle.ksv_memo.proofs.Tabling.{keeps_or_not}
+
+-- what was listed last is dropped
+pub drops-end : {X : Type 0} (xs : List X) (x : X) → dropped_last (xs ++ x ∷ []) ≡ xs
+drops-end [] x = refl
+drops-end (y ∷ []) x = refl
+drops-end (y ∷ z ∷ xs) x = ap (λ ys. y ∷ ys) (drops-end (z ∷ xs) x)
 
 -- memory is refused for its number: it is taken out
 pub loses-first : {N A : Type 0} (b : Bool) (old new : Nodes N A) → is_there old.opened ≡ true → TakesFirst b old.opened new.opened → new.kept ≡ old.kept
@@ -20,13 +28,14 @@ pub loses-first : {N A : Type 0} (b : Bool) (old new : Nodes N A) → is_there o
 loses-first true old new there takes kept = record { first = takes.0; was = takes.1; kept = kept }
 loses-first false old new there takes kept = let none : is_there old.opened ≡ false = ap is_there takes.0 in absurd (true≢false (sym there ∙ none))
 
-module _ {N V F S : Type 0} (fold : S → Fold N (Result V F)) (j : ℕ) (v : V) (old_run new_run : Run S) (old new : Nodes N (Result V F)) where
+module _ {N V F S : Type 0} (fold : S → Fold N (Result V F)) (j : ℕ) (v : V) (old_run new_run : Run N S) (old new : Nodes N (Result V F)) where
   -- it isn't kept
   pub fails-lost : LosesFirst old new → SameRun old_run new_run old_run.lent.items → FailsToLend fold j v old_run new_run old new
   fails-lost lost same = record { first = lost.first; was = lost.was; kept = inl (lost.kept, same) }
 
   -- the one below doesn't get its answer
-  pub fails-put : ClosesAs (fold old_run.nodes) j v false old.opened old new → SameRun old_run new_run (old_run.lent.items ++ j ∷ [])
+  pub fails-put : ClosesAs (fold old_run.nodes) j v false old.opened old new
+      → SameRun old_run new_run (old_run.lent.items ++ lending (fold old_run.nodes) j ∷ [])
       → FailsToLend fold j v old_run new_run old new
   fails-put closes same = by old.opened refl closes
     where
@@ -67,21 +76,22 @@ apart-heard P m a [] h = tt
 apart-heard P m a (o ∷ st) h = h
 
 -- the same run, by other names
-pub same-run : {N A S : Type 0} (eq : N → N → Bool) (fold : S → Fold N A) (old new : Run S) (items : List ℕ) (es : List (Entry N A)) (st : List (Open N A))
+pub same-run : {N A S : Type 0} (eq : N → N → Bool) (fold : S → Fold N A) (old new : Run N S) (items : List (Lending N)) (es : List (Entry N A))
+    (st : List (Open N A))
     → SameRun old new items → IsRun eq (fold old.nodes) old.kept old.wild old.far items es st
     → IsRun eq (fold new.nodes) new.kept new.wild new.far new.lent.items es st
 same-run eq fold old new items es st same h = rw same.nodes (rw same.kept (rw same.wild (rw same.far (rw same.lent h))))
 
 module _ {N A : Type 0} (eq : N → N → Bool) (laws : IsEquivalence eq) (exact : (a b : N) → eq a b ≡ true → a ≡ b) (f : Fold N A) (kept wild far : ℕ)
-    (lent : List ℕ) where
+    (lent : List (Lending N)) where
   abbrev pub sees : Nodes N A → Nodes N A
   sees t = record { kept = with_folded eq (first_of f kept) t.kept; opened = t.opened }
 
-  abbrev pub Runs : List ℕ → Nodes N A → Type 0
+  abbrev pub Runs : List (Lending N) → Nodes N A → Type 0
   Runs js t = IsRun eq f kept wild far js t.kept t.opened
 
   -- other open nodes
-  pub reopened : (js : List ℕ) (old new : Nodes N A) → Runs js old → new.kept ≡ old.kept → AllByRecursion (λ o. IsNoneBelow f wild o.node) new.opened
+  pub reopened : (js : List (Lending N)) (old new : Nodes N A) → Runs js old → new.kept ≡ old.kept → AllByRecursion (λ o. IsNoneBelow f wild o.node) new.opened
       → Runs js new
   reopened js old new h same apart = record {
     laid = h.laid;
@@ -93,6 +103,7 @@ module _ {N A : Type 0} (eq : N → N → Bool) (laws : IsEquivalence eq) (exact
     apart = apart;
     counted = λ t le. rw same (h.counted t le);
     below = h.below;
+    named = h.named;
   }
 
   -- no fewer may have slots than are kept
@@ -126,12 +137,13 @@ module _ {N A : Type 0} (eq : N → N → Bool) (laws : IsEquivalence eq) (exact
   replies-on old new h n r = (
     reopened lent old new h r.kept (subst (AllByRecursion (λ w. IsNoneBelow f wild w.node)) (sym r.opened)
         (apart-heard (IsNoneBelow f wild) r.entry.node r.entry.answer old.opened h.apart)),
-    record {
-      entry = r.entry;
-      is = seen_entry eq laws exact f kept old.kept far (in-reach old h) h.same n r.entry r.is;
-      kept = ap (with_folded eq (first_of f kept)) r.kept;
-      opened = r.opened;
-    },
+    (let seen = seen_entry eq laws exact f kept old.kept far (in-reach old h) h.same n r.entry r.is in
+        record {
+          entry = seen.entry;
+          is = seen.is;
+          kept = ap (with_folded eq (first_of f kept)) r.kept;
+          opened = r.opened ∙ (λ i. heard (sym seen.node i) (sym seen.answer i) old.opened);
+        }),
   )
 
   -- a node is asked that may be open, or is kept
@@ -146,7 +158,8 @@ module _ {N A : Type 0} (eq : N → N → Bool) (laws : IsEquivalence eq) (exact
   pub starts-some : (old new : Nodes N A) → Runs lent old → (n : N) → (out : Outcome N A) → Starts eq n old new (Some out)
       → Runs lent new × Starts eq n (sees old) (sees new) (Some out)
   starts-some old new h n (Answered a) (has, same) =
-      (subst (Runs lent) (sym same) h, ((has.0, seen_entry eq laws exact f kept old.kept far (in-reach old h) h.same n has.0 has.1, has.2), ap sees same))
+      let seen = seen_entry eq laws exact f kept old.kept far (in-reach old h) h.same n has.0 has.1 in
+      (subst (Runs lent) (sym same) h, ((seen.entry, seen.is, seen.answer ∙ has.2), ap sees same))
   starts-some old new h n (CircleOf m) circles = circles-on old new h n m circles
 
   -- or a question for it starts
@@ -176,7 +189,7 @@ module _ {N A : Type 0} (eq : N → N → Bool) (laws : IsEquivalence eq) (exact
 
 -- ---- a folded node that gets a slot
 module _ {N V F : Type 0} (eq : N → N → Bool) (laws : IsEquivalence eq) (exact : (a b : N) → eq a b ≡ true → a ≡ b) (f : Fold N (Result V F))
-    (kept wild far : ℕ) (lent : List ℕ) where
+    (kept wild far : ℕ) (lent : List (Lending N)) where
   -- which of the first nodes a node is
   first_test : IsLaid f → (t j : ℕ) → t ≤ f.size → j < f.size → is_one eq (first_of f t) (f.entry j).node ≡ nat_lt j t
   first_test laid t j le lt = by (nat_lt j t) refl (is_one eq (first_of f t) (f.entry j).node) refl
@@ -190,14 +203,14 @@ module _ {N V F : Type 0} (eq : N → N → Bool) (laws : IsEquivalence eq) (exa
           let same : j ≡ h.0 = laid.once j h.0 lt (omega arith) (exact (f.entry j).node (f.entry h.0).node h.2) in
           absurd (true≢false (sym ((Decides-ltb j t).1 (omega arith)) ∙ is))
 
-  -- what is kept of it is what the sequence says
-  pub as-told : IsLaid f → (j : ℕ) (v : V) (o : Open N (Result V F)) → (f.entry j).node ≡ o.node → (f.entry j).answer ≡ Ok v → entry_as f j v o ≡ f.entry j
-  as-told laid j v o node answer = λ i. record { node = sym node i; answer = sym answer i; asked = sym (laid.named j) i; uses = (f.entry j).uses }
+  -- what is kept of it is what the sequence says, by the root
+  pub as-told : (j : ℕ) (v : V) (o : Open N (Result V F)) → (f.entry j).node ≡ o.node → (f.entry j).answer ≡ Ok v → entry_as f j v o ≡ lent_as f j
+  as-told j v o node answer = λ i. record { node = sym node i; answer = sym answer i; asked = f.root ∷ []; uses = (f.entry j).uses }
 
   -- a run once it has a slot
   pub lent-on : (j : ℕ) (old : Nodes N (Result V F)) → IsRun eq f kept wild far lent old.kept old.opened → j < kept → (es : List (Entry N (Result V F)))
-      → IsPut (f.entry j) old.kept es → (st : List (Open N (Result V F))) → AllByRecursion (λ o. IsNoneBelow f wild o.node) st
-      → IsRun eq f kept wild far (lent ++ j ∷ []) es st
+      → IsPut (lent_as f j) old.kept es → (st : List (Open N (Result V F))) → AllByRecursion (λ o. IsNoneBelow f wild o.node) st
+      → IsRun eq f kept wild far (lent ++ lending f j ∷ []) es st
   lent-on j old h lt es put st apart =
       let order = h.order in
       let reach = h.reach in
@@ -207,22 +220,23 @@ module _ {N V F : Type 0} (eq : N → N → Bool) (laws : IsEquivalence eq) (exa
         order = h.order;
         reach = h.reach;
         in_size = h.in_size;
-        root = (h.root.0, record { there = put_one (f.entry j) h.root.0 old.kept es put h.root.1.there; passes = h.root.1.passes });
-        same = put_all (λ e. (i : ℕ) → i < far → (f.entry i).node ≡ e.node → (i < kept) × (e ≡ f.entry i)) (f.entry j) old.kept es put h.same
-            (λ i below same. (let is : i ≡ j = h.laid.once i j (omega arith) (omega arith) same in ((omega arith), ap f.entry (sym is))));
+        root = (h.root.0, record { there = put_one (lent_as f j) h.root.0 old.kept es put h.root.1.there; passes = h.root.1.passes });
+        same = put_all (λ e. (i : ℕ) → i < far → (f.entry i).node ≡ e.node → (i < kept) × (e ≡ lent_as f i)) (lent_as f j) old.kept es put h.same
+            (λ i below same. (let is : i ≡ j = h.laid.once i j (omega arith) (omega arith) same in ((omega arith), ap (lent_as f) (sym is))));
         apart = apart;
         counted = λ t le.
-            count_put (λ e. is_one eq (first_of f t) e.node) (f.entry j) old.kept es put
+            count_put (λ e. is_one eq (first_of f t) e.node) (lent_as f j) old.kept es put
             ∙ (λ i. h.counted t le i + cond (first_test h.laid t j (omega arith) (omega arith) i) 1 0)
-            ∙ sym (count_end (λ k. nat_lt k t) lent j);
-        below = All-++ (λ k. k < kept) lent (j ∷ []) h.below (lt, tt);
+            ∙ sym (count_end (λ l. nat_lt l.place t) lent (lending f j));
+        below = All-++ (λ l. l.place < kept) lent (lending f j ∷ []) h.below (lt, tt);
+        named = All-++ (λ l. (f.entry l.place).node ≡ l.node) lent (lending f j ∷ []) h.named (refl, tt);
       }
     where
-      count_end : (p : ℕ → Bool) (xs : List ℕ) (x : ℕ) → count_by p (xs ++ x ∷ []) ≡ count_by p xs + cond (p x) 1 0
+      count_end : {X : Type 0} (p : X → Bool) (xs : List X) (x : X) → count_by p (xs ++ x ∷ []) ≡ count_by p xs + cond (p x) 1 0
       count_end p xs x = let all = sum_by-append (λ y. cond (p y) 1 0) xs (x ∷ []) in let one = sum_by-cons (λ y. cond (p y) 1 0) x [] in
           let none : count_by p [] ≡ 0 = refl in omega arith
 
-  module _ {S : Type 0} (fold : S → Fold N (Result V F)) (old_run new_run : Run S) (is : fold old_run.nodes ≡ f) (kept_is : old_run.kept ≡ kept)
+  module _ {S : Type 0} (fold : S → Fold N (Result V F)) (old_run new_run : Run N S) (is : fold old_run.nodes ≡ f) (kept_is : old_run.kept ≡ kept)
       (wild_is : old_run.wild ≡ wild) (far_is : old_run.far ≡ far) (lent_is : old_run.lent.items ≡ lent) (j : ℕ) (v : V) (n : N) (lt : j < kept)
       (at : (f.entry j).node ≡ n) (answer : (f.entry j).answer ≡ Ok v) (old mid new : Nodes N (Result V F))
       (h : IsRun eq f kept wild far lent old.kept old.opened) (opens : Opens eq n old mid) where
@@ -230,11 +244,11 @@ module _ {N V F : Type 0} (eq : N → N → Bool) (laws : IsEquivalence eq) (exa
     same_node = at ∙ exact n opens.node opens.passes
 
     put_here : (o : Open N (Result V F)) → o.node ≡ opens.node → (es : List (Entry N (Result V F))) → IsPut (entry_as (fold old_run.nodes) j v o) mid.kept es
-        → IsPut (f.entry j) old.kept es
-    put_here o named es p = rw (← opens.kept) (subst (λ e. IsPut e mid.kept es) (as-told h.laid j v o (same_node ∙ sym named) answer)
+        → IsPut (lent_as f j) old.kept es
+    put_here o named es p = rw (← opens.kept) (subst (λ e. IsPut e mid.kept es) (as-told j v o (same_node ∙ sym named) answer)
         (subst (λ g. IsPut (entry_as g j v o) mid.kept es) is p))
 
-    as_new : {items : List ℕ} → SameRun old_run new_run items → (es : List (Entry N (Result V F)))
+    as_new : {items : List (Lending N)} → SameRun old_run new_run items → (es : List (Entry N (Result V F)))
         → with_folded eq (first_of (fold new_run.nodes) new_run.kept) es ≡ with_folded eq (first_of f kept) es
     as_new same es = λ i. with_folded eq (first_of ((ap fold same.nodes ∙ is) i) ((same.kept ∙ kept_is) i)) es
 
@@ -249,13 +263,13 @@ module _ {N V F : Type 0} (eq : N → N → Bool) (laws : IsEquivalence eq) (exa
         let put = put_here (newly opens.node) refl new.kept l2.0 in
         let apart : AllByRecursion (λ w. IsNoneBelow f wild w.node) new.opened = subst (AllByRecursion (λ w. IsNoneBelow f wild w.node)) (sym l2.1)
         (apart-heard (IsNoneBelow f wild) opens.node (Ok v) old.opened h.apart) in
-        let run : IsRun eq f kept wild far (lent ++ j ∷ []) new.kept new.opened = lent-on j old h lt new.kept put new.opened apart in (
-          same-run eq fold old_run new_run (old_run.lent.items ++ j ∷ []) new.kept new.opened l2.2
+        let run : IsRun eq f kept wild far (lent ++ lending f j ∷ []) new.kept new.opened = lent-on j old h lt new.kept put new.opened apart in (
+          same-run eq fold old_run new_run (old_run.lent.items ++ lending (fold old_run.nodes) j ∷ []) new.kept new.opened l2.2
               (rw is (rw kept_is (rw wild_is (rw far_is (rw lent_is run))))),
           record {
             entry = f.entry j;
             is = seen_folded eq laws exact f kept old.kept j n lt at;
-            kept = as_new l2.2 new.kept ∙ seen_lent eq laws exact f kept (f.entry j) old.kept new.kept (own eq laws exact f kept j lt) put;
+            kept = as_new l2.2 new.kept ∙ seen_lent eq laws exact f kept (lent_as f j) old.kept new.kept (own eq laws exact f kept j lt) put;
             opened = l2.1 ∙ (λ i. heard (sym same_node i) (sym answer i) old.opened);
           },
         )
@@ -278,9 +292,9 @@ module _ {N V F : Type 0} (eq : N → N → Bool) (laws : IsEquivalence eq) (exa
           )
           | inr kept_it ↦
               let put = put_here l.first (ap (λ (o : Open N (Result V F)). o.node) (sym first)) new.kept kept_it.0 in (
-                same-run eq fold old_run new_run (old_run.lent.items ++ j ∷ []) new.kept new.opened kept_it.1
+                same-run eq fold old_run new_run (old_run.lent.items ++ lending (fold old_run.nodes) j ∷ []) new.kept new.opened kept_it.1
                     (rw is (rw kept_is (rw wild_is (rw far_is (rw lent_is (lent-on j old h lt new.kept put new.opened apart)))))),
-                as_new kept_it.1 new.kept ∙ seen_lent eq laws exact f kept (f.entry j) old.kept new.kept (own eq laws exact f kept j lt) put,
+                as_new kept_it.1 new.kept ∙ seen_lent eq laws exact f kept (lent_as f j) old.kept new.kept (own eq laws exact f kept j lt) put,
               )
         ]
       where

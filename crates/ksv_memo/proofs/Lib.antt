@@ -25,6 +25,7 @@ pub mod Leasts
 pub mod Unfolded
 pub mod Beside
 pub mod Lending
+mod Listing
 pub mod Founding
 pub mod Retelling
 pub mod Counted

@@ -3,16 +3,17 @@ use Rattle.ksv_memo.proofs.Common.{◌≡◌, ◌⊎◌, inl, inr, Bool, true, f
 use Rattle.ksv_memo.proofs.Common.{map, filter, get_or, Option, Some, None, is_some, Contains, refl, sym, ◌∙◌, ap, subst, arith, Result, sum_by, count_by}
 use Rattle.ksv_memo.proofs.Common.{option_map, AllByRecursion, list_any, sum_by-cons, Use, Change, Overwrite, row, is_use_touched}
 use Rattle.ksv_memo.proofs.Common.{pages_in, numbers_from, AreWithin, is_kept, Linked, Slot, answer_at, with_first, Entry, IsOneOf, slots_of, node_at, nodes_at}
-use Rattle.ksv_memo.proofs.Common.{IsKept, entry_with, entry_at, entries_at, entries_of, AreLinked, Mark, IsMarked, Sweeps, entries_left}
+use Rattle.ksv_memo.proofs.Common.{IsKept, entry_with, entry_at, entries_at, entries_of, AreLinked, Mark, entries_left}
 use Rattle.std.proofs.Common.{max, All}
 use Rattle.std.proofs.lemmas.Bool.{and_parts, cases_Bool, not-true}
 use Rattle.std.proofs.lemmas.List.{get_or_default}
 use Rattle.std.proofs.lemmas.List.Sums.{length-filter}
 use Rattle.std.proofs.lemmas.List.Folds.{Any-from_list_any, list_any-from_Any}
 use Rattle.std.proofs.lemmas.List.Elements.{Contains-get_or}
-use Rattle.ksv_memo_links.specs.Links.{Forgets, Reaches, here, through, IsHit, is_hit, IsMove, IsOverwrite, pages_met, met_by, pages_behind, behind_by}
+use Rattle.ksv_memo_links.specs.Links.{Forgets, GoesItself, Reaches, here, through, is_hit, IsMove, IsOverwrite, pages_met, met_by, pages_behind, behind_by}
 use Rattle.ksv_memo_links.specs.Links.{ended_by, asks_of}
-use Rattle.ksv_memo.specs.Sweep.{Says, AllSay, entries_with, entries_gone}
+use Rattle.ksv_memo.specs.Lending.{AreSlotsOf}
+use Rattle.ksv_memo.specs.Sweep.{IsMarkedBy, SweepsBy, Says, AllSay, entries_with, entries_gone}
 use Rattle.ksv_memo.specs.Emptying.{IsEmptied, parts_of}
 use Rattle.ksv_memo.proofs.Knowing.{sum-shift, find_entry}
 use Rattle.ksv_memo.proofs.Sums.{one_of-contains, differ, numbers-differ, filter-differ, filter-passes, sum-within, sum-alike}
@@ -99,12 +100,13 @@ module _ {N V F : Type 0} where
       (find_entry ps l (numbers_from 0 (length ps)) s x (number_in 0 (length ps) s (omega arith) (omega arith)) at)
 
   -- the slots that go are there
-  pub waits-in : (change : Change) (ps : List (N × Slot V F)) (l m : Linked) → AreLinked ps l → Forgets l m change → All (λ s. s < length ps) m.waits
-  waits-in change ps l m h f k d lt = past _ _
+  pub waits-in : (change : Change) (also : List ℕ) (ps : List (N × Slot V F)) (l m : Linked) → AreLinked ps l → Forgets l m change also
+      → All (λ s. s < length ps) m.waits
+  waits-in change also ps l m h f k d lt = past _ _
       (sym (h.kept (get_or m.waits k d)) ∙ ((f.exact (get_or m.waits k d)).0 (Contains-get_or m.waits k d lt)).was_kept)
 
-  module _ (change : Change) (ps qs : List (N × Slot V F)) (l m n : Linked) (from count : ℕ) (h : AreLinked ps l) (f : Forgets l m change)
-      (g : IsEmptied ps qs m n from count) where
+  module _ (itself : N → Bool) (change : Change) (also : List ℕ) (ps qs : List (N × Slot V F)) (l m n : Linked) (from count : ℕ) (h : AreLinked ps l)
+      (those : AreSlotsOf itself ps also) (f : Forgets l m change also) (g : IsEmptied ps qs m n from count) where
     abbrev goes : ℕ → Bool
     goes i = not (is_kept m.kept i)
 
@@ -223,8 +225,12 @@ module _ {N V F : Type 0} where
     kept_at (i ∷ is) zero all lt = all.0
     kept_at (i ∷ is) (suc k) all lt = kept_at is k all.1 (omega arith)
 
-    goes-is : (i : ℕ) → IsKept ps i → goes i ≡ (is_hit change l.uses i || list_any goes (row l.asked i))
-    goes-is i k = by (cases_Bool (is_kept m.kept i)) (is_hit change l.uses i) refl (list_any goes (row l.asked i)) refl
+    -- why slots go
+    abbrev Going : ℕ → Type 0
+    Going = GoesItself change also l.kept l.uses
+
+    goes-is : (i : ℕ) (o : N) → node_at ps i ≡ Some o → IsKept ps i → goes i ≡ (itself o || (is_hit change l.uses i || list_any goes (row l.asked i)))
+    goes-is i o at k = by (cases_Bool (is_kept m.kept i)) (itself o) refl (is_hit change l.uses i) refl (list_any goes (row l.asked i)) refl
       where
         kept_now : is_kept l.kept i ≡ true
         kept_now = h.kept i ∙ k
@@ -232,9 +238,11 @@ module _ {N V F : Type 0} where
         all : AllByRecursion (IsKept ps) (row l.asked i)
         all = h.asked i k
 
-        reached : (s : ℕ) → s ≡ i → Reaches l.asked (IsHit change l.kept l.uses) s → is_hit change l.uses i ≡ false → list_any goes (row l.asked i) ≡ false → ⊥
-        reached _ e (here s hit) x y = let t = ap (is_hit change l.uses) (sym e) ∙ hit.touched in cc
-        reached _ e (through s a lt r) x y =
+        reached : (s : ℕ) → s ≡ i → Reaches l.asked Going s → itself o ≡ false → is_hit change l.uses i ≡ false → list_any goes (row l.asked i) ≡ false → ⊥
+        reached _ e (here s (inl hit)) w x y = let t = ap (is_hit change l.uses) (sym e) ∙ hit.touched in cc
+        reached _ e (here s (inr one)) w x y =
+            let t : itself o ≡ true = (those.each i (subst (Contains also) e one)).1 o at in cc
+        reached _ e (through s a lt r) w x y =
             let lt2 : a < length (row l.asked i) = rw e at lt in
             let j = get_or (row l.asked i) a 0 in
             let kj = kept_at (row l.asked i) a all lt2 in
@@ -250,34 +258,38 @@ module _ {N V F : Type 0} where
             let kj : IsKept ps a.1 = subst (IsKept ps) j (kept_at (row l.asked i) a.0 all a.2) in
             let c = taken a.1 kj (not-true (is_kept m.kept a.1) a.4) in
             let r = ((f.exact a.1).0 c).reaches in
-            stay i e ((f.exact i).1
-            (record { was_kept = kept_now; reaches = through i a.0 a.2 (subst (Reaches l.asked (IsHit change l.kept l.uses)) (sym j) r) }))
+            stay i e ((f.exact i).1 (record { was_kept = kept_now; reaches = through i a.0 a.2 (subst (Reaches l.asked Going) (sym j) r) }))
 
-        by : (is_kept m.kept i ≡ true) ⊎ (is_kept m.kept i ≡ false) → (x : Bool) → is_hit change l.uses i ≡ x → (y : Bool) → list_any goes (row l.asked i) ≡ y
-            → goes i ≡ (x || y)
-        by (inl e) true x y z =
-            absurd (stay i e ((f.exact i).1 (record { was_kept = kept_now; reaches = here i (record { was_kept = kept_now; touched = x }) })))
-        by (inl e) false x true y = absurd (gone_by e y)
-        by (inl e) false x false y = ap not e
-        by (inr e) true x y z = ap not e
-        by (inr e) false x true y = ap not e
-        by (inr e) false x false y = absurd (reached i refl ((f.exact i).0 (taken i k e)).reaches x y)
+        goes_here : is_kept m.kept i ≡ true → Going i → ⊥
+        goes_here e why = stay i e ((f.exact i).1 (record { was_kept = kept_now; reaches = here i why }))
 
-    mark-right : (i : ℕ) (e : Entry N (Result V F)) → entry_at ps l i ≡ Some e → IsMarked change all_marks (mark_of i e)
+        by : (is_kept m.kept i ≡ true) ⊎ (is_kept m.kept i ≡ false) → (w : Bool) → itself o ≡ w → (x : Bool) → is_hit change l.uses i ≡ x → (y : Bool)
+            → list_any goes (row l.asked i) ≡ y → goes i ≡ (w || (x || y))
+        by (inl e) true w x x' y y' = absurd (goes_here e (inr (those.all i o k at w)))
+        by (inl e) false w true x y y' = absurd (goes_here e (inl (record { was_kept = kept_now; touched = x })))
+        by (inl e) false w false x true y = absurd (gone_by e y)
+        by (inl e) false w false x false y = ap not e
+        by (inr e) true w x x' y y' = ap not e
+        by (inr e) false w true x y y' = ap not e
+        by (inr e) false w false x true y = ap not e
+        by (inr e) false w false x false y = absurd (reached i refl ((f.exact i).0 (taken i k e)).reaches w x y)
+
+    mark-right : (i : ℕ) (e : Entry N (Result V F)) → entry_at ps l i ≡ Some e → IsMarkedBy itself change all_marks (mark_of i e)
     mark-right i e at =
         let p = entry_parts (node_at ps i) (answer_at (slots_of ps) i) (nodes_at ps (row l.asked i)) (row l.uses i) e at in
         record {
           asked = map goes (row l.asked i);
           say = rw p.1 (say-all (row l.asked i) (h.asked i p.0));
-          goes = goes-is i p.0 ∙ (λ j. list_any (is_use_touched change) (sym p.2 j) || sym (any-of-map goes (row l.asked i)) j);
+          goes = goes-is i e.node p.3 p.0
+              ∙ (λ j. itself e.node || (list_any (is_use_touched change) (sym p.2 j) || sym (any-of-map goes (row l.asked i)) j));
         }
 
-    pub marked : (is : List ℕ) → AllByRecursion (IsMarked change all_marks) (marks_at is)
+    pub marked : (is : List ℕ) → AllByRecursion (IsMarkedBy itself change all_marks) (marks_at is)
     marked [] = tt
     marked (i ∷ is) = by (entry_at ps l i) refl (marked is)
       where
-        by : (o : Option (Entry N (Result V F))) → entry_at ps l i ≡ o → AllByRecursion (IsMarked change all_marks) (marks_at is)
-            → AllByRecursion (IsMarked change all_marks) (with_first (option_map (mark_of i) o) (marks_at is))
+        by : (o : Option (Entry N (Result V F))) → entry_at ps l i ≡ o → AllByRecursion (IsMarkedBy itself change all_marks) (marks_at is)
+            → AllByRecursion (IsMarkedBy itself change all_marks) (with_first (option_map (mark_of i) o) (marks_at is))
         by None e rest = rest
         by (Some x) e rest = (mark-right i x e, rest)
 
@@ -314,7 +326,7 @@ module _ {N V F : Type 0} where
         | inr c ↦ let at = from 0 (omega arith) in
             let r = ((f.exact j).0 (taken j all.0 c)).reaches in
             absurd (stay i e ((f.exact i).1
-            (record { was_kept = h.kept i ∙ k; reaches = through i at.0 at.1 (subst (Reaches l.asked (IsHit change l.kept l.uses)) (sym at.2) r) })))
+            (record { was_kept = h.kept i ∙ k; reaches = through i at.0 at.1 (subst (Reaches l.asked Going) (sym at.2) r) })))
       ],
       asks_stay i e k js (λ x lt. from (suc x) (omega arith)) all.1,
     )
@@ -461,12 +473,25 @@ module _ {N V F : Type 0} where
         (λ i le. ap of (vacant i (h.kept i ∙ ap is_some (none_after ps i le))) ∙ none) in
         omega (arith, entry-sum (λ e. of e.uses) (λ i. of (row l.uses i)) (λ i e at. ap of (uses_same i e at)) nums)
 
+    -- those that go by themselves are no more than those that go
+    also-few : length also ≤ length m.waits
+    also-few = omega (
+      arith,
+      sum-within (λ i. 1) also m.waits (differ also those.apart) (λ i c. one_of-contains m.waits i (goes-also i (one_of-back also i c))),
+      ones also,
+      ones m.waits,
+    )
+      where
+        goes-also : (i : ℕ) → Contains also i → Contains m.waits i
+        goes-also i c = (f.exact i).1 (record { was_kept = h.kept i ∙ (those.each i c).0; reaches = here i (inr c) })
+
     pub looks-most : ((s : ℕ) → is_kept l.kept s ≡ false → row l.uses s ≡ [])
         → (IsOverwrite change → m.looks ≤ l.looks + pages_met change + 3 * sum_by (met_by change) l.uses + 1 + 4 * length m.waits
-        + 2 * asks_of l.asked m.waits) → (looked : ℕ) → looked ≤ max (n.looks + count - (l.looks + from)) (length m.waits) → IsOverwrite change
-        → looked ≤ pages_met change + 3 * sum_by (λ e. met_by change e.uses) (entries_of ps l) + 9 * length (entries_gone all_marks)
+        + 2 * asks_of l.asked m.waits) → (first looked : ℕ) → from ≤ first + length also → looked ≤ max (n.looks + count - (l.looks + first)) (length m.waits)
+        → IsOverwrite change
+        → looked ≤ pages_met change + 3 * sum_by (λ e. met_by change e.uses) (entries_of ps l) + 10 * length (entries_gone all_marks)
         + 6 * sum_by (λ e. length e.asked) (entries_gone all_marks) + 4 * sum_by (λ e. length (pages_in e.uses)) (entries_gone all_marks) + 2
-    looks-most vacant most looked le over =
+    looks-most vacant most first looked found le over =
         omega (
           arith,
           most over,
@@ -476,16 +501,17 @@ module _ {N V F : Type 0} where
           same_parts,
           two_sums (λ s. length (row l.asked s)) (λ s. length (pages_in (row l.uses s))) m.waits,
           gone-most,
+          also-few,
         )
 
     pub looks-behind : (pages : ℕ) → ((s : ℕ) → is_kept l.kept s ≡ false → row l.uses s ≡ [])
         → (IsMove change → m.looks ≤ l.looks + 2 * pages_behind change pages + 3 * sum_by (behind_by change) l.uses + 3 * sum_by (ended_by change) l.uses + 2
-        + 4 * length m.waits + 2 * asks_of l.asked m.waits) → (looked : ℕ) → looked ≤ max (n.looks + count - (l.looks + from)) (length m.waits)
-        → IsMove change
+        + 4 * length m.waits + 2 * asks_of l.asked m.waits) → (first looked : ℕ) → from ≤ first + length also
+        → looked ≤ max (n.looks + count - (l.looks + first)) (length m.waits) → IsMove change
         → looked ≤ 2 * pages_behind change pages + 3 * sum_by (λ e. behind_by change e.uses) (entries_of ps l)
-        + 3 * sum_by (λ e. ended_by change e.uses) (entries_of ps l) + 9 * length (entries_gone all_marks)
+        + 3 * sum_by (λ e. ended_by change e.uses) (entries_of ps l) + 10 * length (entries_gone all_marks)
         + 6 * sum_by (λ e. length e.asked) (entries_gone all_marks) + 4 * sum_by (λ e. length (pages_in e.uses)) (entries_gone all_marks) + 3
-    looks-behind pages vacant most looked le moves =
+    looks-behind pages vacant most first looked found le moves =
         omega (
           arith,
           most moves,
@@ -497,6 +523,7 @@ module _ {N V F : Type 0} where
           same_parts,
           two_sums (λ s. length (row l.asked s)) (λ s. length (pages_in (row l.uses s))) m.waits,
           gone-most,
+          also-few,
         )
 
     -- what the pass leaves, if at most two looks more are told than were made
@@ -504,15 +531,23 @@ module _ {N V F : Type 0} where
         → (IsOverwrite change → m.looks ≤ l.looks + pages_met change + 3 * sum_by (met_by change) l.uses + 1 + 4 * length m.waits
         + 2 * asks_of l.asked m.waits)
         → (IsMove change → m.looks ≤ l.looks + 2 * pages_behind change pages + 3 * sum_by (behind_by change) l.uses + 3 * sum_by (ended_by change) l.uses + 2
-        + 4 * length m.waits + 2 * asks_of l.asked m.waits) → (looked : ℕ) → length m.waits ≤ looked
-        → looked ≤ max (n.looks + count - (l.looks + from)) (length m.waits) → (told : ℕ) → looked ≤ told → told ≤ looked + 2
-        → Sweeps change pages (entries_of ps l) (entries_of qs n) told
-    swept pages vacant most behind looked all le told less more = record {
+        + 4 * length m.waits + 2 * asks_of l.asked m.waits) → (first looked : ℕ) → from ≤ first + length also → length m.waits ≤ looked
+        → looked ≤ max (n.looks + count - (l.looks + first)) (length m.waits) → (told : ℕ) → looked ≤ told → told ≤ looked + 2
+        → SweepsBy itself change pages (entries_of ps l) (entries_of qs n) told
+    swept pages vacant most behind first looked found all le told less more = record {
       marks = all_marks;
       entries = entries (numbers_from 0 (length ps));
       marked = marked (numbers_from 0 (length ps));
       stays = ap (λ k. entries_at qs n (numbers_from 0 k)) g.taken.slots ∙ stays (numbers_from 0 (length ps));
       least = omega (arith, gone-least);
-      most = λ over. omega (arith, looks-most vacant most looked le over);
-      behind = λ moves. omega (arith, looks-behind pages vacant behind looked le moves);
+      most = λ over. omega (arith, looks-most vacant most first looked found le over);
+      behind = λ moves. omega (arith, looks-behind pages vacant behind first looked found le moves);
     }
+
+-- no slots are those of no node
+pub none-also : {N V F : Type 0} (ps : List (N × Slot V F)) → AreSlotsOf (λ (n : N). false) ps []
+none-also ps = record {
+  each = λ i c. (let lt = c.1 in absurd (omega arith));
+  all = λ i n k at is. absurd (cc);
+  apart = λ i j d less in_none. absurd (omega arith);
+}

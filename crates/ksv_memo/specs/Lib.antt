@@ -4,6 +4,7 @@ pub mod Open
 pub mod Layout
 pub mod Slotted
 pub mod Moves
+pub mod Lending
 pub mod Nodes
 pub mod Folding
 pub mod Calls

@@ -4,12 +4,13 @@ ghost use Rattle.std.specs.Prelude.{◌≡◌, ◌<◌, ◌≤◌, ◌+◌, ◌+
 ghost use Rattle.ksv_memo_links.specs.Touching.{AreWithin};
 ghost use Rattle.ksv_memo_rules.specs.Meaning.{on};
 ghost use Rattle.ksv_memo_rules.specs.Right.{IsRight, counted};
-ghost use Rattle.ksv_memo.specs.Folding.{ClosesAs, FailsToLend, Founds, IsCovered, IsCut, IsFolding, IsFree, IsLastFree, IsNext, IsWithin, LendsTo, LosesFirst, SameButWild, SameRun, viewed};
+ghost use Rattle.ksv_memo.specs.Folding.{ClosesAs, FailsToLend, Founds, IsCovered, IsCut, IsFolding, IsFree, IsLastFree, IsNext, IsWithin, LendsTo, LosesFirst, SameButWild, SameRun, lending, viewed};
 ghost use Rattle.ksv_memo.specs.Growing.{AsksGrown, Grows};
-ghost use Rattle.ksv_memo.specs.Nodes.{Asks, Closes, IsHeard, IsPut, KeepsNode, MayKeep, MayLose, MayPut, Starts, Steps, TakesFirst, is_there, nodes};
+ghost use Rattle.ksv_memo.specs.Nodes.{Asks, Closes, HasNoEntry, IsHeard, IsPut, KeepsNode, MayKeep, MayLose, MayPut, Starts, Steps, TakesFirst, is_there, nodes};
 ghost use Rattle.ksv_memo.specs.Running.{ClosesRight, HasReached, MayKeepRight};
 ghost use Rattle.ksv_memo.specs.Sweep.{Sweeps};
 
+use crate::lendings::Lendings;
 use crate::machine::turns::Turns;
 use crate::table::Table;
 use ksv_bytes::{Buffer, Change};
@@ -24,7 +25,7 @@ const BYTES: usize = 1_024;
 
 /// Nodes of which the first are kept by numbers alone.
 #[derive(Drop)]
-pub struct Run<S> {
+pub struct Run<N: Eq + Drop, S> {
     /// The nodes.
     pub nodes: S,
     /// How many are kept so.
@@ -33,8 +34,8 @@ pub struct Run<S> {
     pub wild: u32,
     /// The number from which on nodes may have slots as any others, which is no less. It only falls.
     pub far: u32,
-    /// The numbers of those that have slots too, since they were asked.
-    pub lent: Vec<u32>,
+    /// Those that have slots too, since they were asked.
+    pub lent: Lendings<N>,
     /// An edit has moved the file's end since the nodes were told.
     pub moved: bool,
 }
@@ -47,7 +48,7 @@ fn moves_end(change: Change) -> bool {
     }
 }
 
-impl<S> Run<S> {
+impl<N: Eq + Drop, S> Run<N, S> {
     /// An edit leaves the root, and so many of the first nodes.
     fn cut(&mut self, kept: u32)
         requires { kept ≤ self.old.kept }
@@ -55,14 +56,14 @@ impl<S> Run<S> {
     {
         if kept < self.kept {
             self.kept = kept;
-            self.lent.retain(|place| *place < kept);
+            self.lent.cut(kept);
         }
     }
 }
 
 /// The number of a node that is kept by it alone. One that isn't, and could be, may be open from now on.
 #[inline(always)]
-fn covered<R: Rules>(run: &mut Run<R::Fold>, node: &R::Node) -> Option<u32>
+fn covered<R: Rules>(run: &mut Run<R::Node, R::Fold>, node: &R::Node) -> Option<u32>
     requires { IsWithin R.Fold.fold run.old }
     ensures some { IfSome result (λ place. IsCovered R.Fold.fold run.new place node.now) }
     ensures none { IfNone result (IsFree R.Fold.fold run.new node.now) }
@@ -76,11 +77,26 @@ fn covered<R: Rules>(run: &mut Run<R::Fold>, node: &R::Node) -> Option<u32>
     None
 }
 
+/// Lists the node of a number as one that has a slot. Where memory is refused, it isn't.
+fn list<R: Rules>(
+    run: &mut Run<R::Node, R::Fold>,
+    alloc: Global,
+    place: u32,
+) -> Result<(), AllocError>
+    requires { place < (R.Fold.fold run.old.nodes).size }
+    ensures ok { OnOk result (SameRun run.old run.new (run.old.lent.items ++ lending (R.Fold.fold run.old.nodes) place ∷ [])) }
+    ensures err { OnErr result (SameRun run.old run.new run.old.lent.items) }
+{
+    let node = run.nodes.node(alloc, place)?;
+    run.lent.push(place, node)
+}
+
 /// Keeps the last open node, which is that of a number, in its slot, by the run's root. The one below gets its answer, if there is one;
 /// whether that could be noted. If memory is refused for the node, it isn't open any more.
 fn keep_beside<R: Rules>(
     table: &mut Table<R>,
-    run: &mut Run<R::Fold>,
+    run: &mut Run<R::Node, R::Fold>,
+    alloc: Global,
     place: u32,
     value: R::Value,
 ) -> Result<bool, AllocError>
@@ -89,27 +105,32 @@ fn keep_beside<R: Rules>(
     requires place_in { place < (R.Fold.fold run.old.nodes).size }
     ensures ok { IfOk result (λ is_heard. ClosesAs (R.Fold.fold run.old.nodes) place value is_heard table.old.opened (nodes table.old) (nodes table.new)) }
     ensures err { OnErr result (LosesFirst (nodes table.old) (nodes table.new)) }
-    ensures lent { OnOk result (SameRun run.old run.new (run.old.lent.items ++ place ∷ [])) }
+    ensures lent { OnOk result (SameRun run.old run.new (run.old.lent.items ++ lending (R.Fold.fold run.old.nodes) place ∷ [])) }
     ensures same { OnErr result (SameRun run.old run.new run.old.lent.items) }
     ensures grows { table.old.looks ≤ table.new.looks }
 {
-    match run.lent.reserve(1) {
+    match list::<R>(run, alloc, place) {
         Ok(()) => {}
         Err(refused) => {
             table.abandon();
             return Err(refused);
         }
     }
-    let is_heard = table.close_folded(&run.nodes, place, value)?;
-    run.lent.push_reserved(place);
-    Ok(is_heard)
+    match table.close_folded(&run.nodes, place, value) {
+        Ok(is_heard) => Ok(is_heard),
+        Err(refused) => {
+            run.lent.drop_last();
+            Err(refused)
+        }
+    }
 }
 
 /// Keeps the last open node, which is kept by its number alone, in its slot too. The one below gets its answer, if there is one. If memory is
 /// refused, it isn't open any more.
 fn lend<R: Rules>(
     table: &mut Table<R>,
-    run: &mut Run<R::Fold>,
+    run: &mut Run<R::Node, R::Fold>,
+    alloc: Global,
     place: u32,
     value: R::Value,
 ) -> Result<(), AllocError>
@@ -120,7 +141,7 @@ fn lend<R: Rules>(
     ensures err { OnErr result (FailsToLend R.Fold.fold place value run.old run.new (nodes table.old) (nodes table.new)) }
     ensures grows { table.old.looks ≤ table.new.looks }
 {
-    if keep_beside(table, run, place, value)? {
+    if keep_beside(table, run, alloc, place, value)? {
         Ok(())
     } else {
         Err(AllocError)
@@ -133,7 +154,7 @@ fn lend<R: Rules>(
 #[inline(never)]
 fn absorb<R: Rules>(
     table: &mut Table<R>,
-    run: &mut Run<R::Fold>,
+    run: &mut Run<R::Node, R::Fold>,
     alloc: Global,
     place: u32,
 ) -> Result<(), AllocError>
@@ -146,7 +167,7 @@ fn absorb<R: Rules>(
     ensures grows { table.old.looks ≤ table.new.looks }
 {
     let value = run.nodes.answer(alloc, place)?;
-    let is_heard = keep_beside(table, run, place, value)?;
+    let is_heard = keep_beside(table, run, alloc, place, value)?;
     run.kept = place + 1;
     run.wild = table.least_open(&run.nodes, run.far).max(run.kept);
     if is_heard { Ok(()) } else { Err(AllocError) }
@@ -157,7 +178,7 @@ fn absorb<R: Rules>(
 #[inline(never)]
 fn ask_folded<R: Rules>(
     table: &mut Table<R>,
-    run: &mut Run<R::Fold>,
+    run: &mut Run<R::Node, R::Fold>,
     alloc: Global,
     node: R::Node,
     place: u32,
@@ -175,7 +196,7 @@ fn ask_folded<R: Rules>(
     let value = run.nodes.answer(alloc, place)?;
     match table.ask(node) {
         Ok(None) => {
-            lend(table, run, place, value)?;
+            lend(table, run, alloc, place, value)?;
             Ok(None)
         }
         other => other,
@@ -186,7 +207,7 @@ fn ask_folded<R: Rules>(
 #[inline(never)]
 fn ask_beside<R: Rules>(
     table: &mut Table<R>,
-    run: &mut Run<R::Fold>,
+    run: &mut Run<R::Node, R::Fold>,
     alloc: Global,
     node: R::Node,
 ) -> Result<Option<R::Node>, AllocError>
@@ -206,7 +227,7 @@ fn ask_beside<R: Rules>(
 #[inline(never)]
 fn start_beside<R: Rules>(
     table: &mut Table<R>,
-    run: &mut Run<R::Fold>,
+    run: &mut Run<R::Node, R::Fold>,
     alloc: Global,
     rules: &R,
     node: R::Node,
@@ -230,7 +251,7 @@ fn start_beside<R: Rules>(
 #[inline(never)]
 fn grow_run<R: Rules>(
     table: &mut Table<R>,
-    run: &mut Run<R::Fold>,
+    run: &mut Run<R::Node, R::Fold>,
     rules: &R,
     bytes: &Buffer,
     node: &R::Node,
@@ -248,17 +269,20 @@ fn grow_run<R: Rules>(
     if place < run.kept {
         return;
     }
-    let count = table.foldable(rules, &run.nodes, bytes);
+    let now = run.wild.min(run.nodes.whole(place));
+    if now <= run.kept {
+        return;
+    }
+    let count = table.foldable(rules, &run.nodes, bytes, run.kept, place);
     if place >= count {
         return;
     }
-    let now = run.wild.min(place + 1);
     turns.add_all(run.nodes.calls(run.kept, now));
     run.kept = now;
 }
 
 /// The nodes are told anew over these bytes. Those that are kept by numbers alone stay as they are, and no more are kept so until `widen` has looked.
-fn retell<R: Rules>(table: &mut Table<R>, run: &mut Run<R::Fold>, bytes: &Buffer)
+fn retell<R: Rules>(table: &mut Table<R>, run: &mut Run<R::Node, R::Fold>, bytes: &Buffer)
     requires opened { table.old.opened ≡ [] }
     requires run { IsFolding R.Node.eq R.Fold.fold (Some run.old) (nodes table.old) }
     ensures run { IsFolding R.Node.eq R.Fold.fold (Some run.new) (nodes table.new) }
@@ -271,11 +295,31 @@ fn retell<R: Rules>(table: &mut Table<R>, run: &mut Run<R::Fold>, bytes: &Buffer
     run.far = run.kept;
 }
 
-/// More nodes may be kept by numbers alone: all that there are over these bytes, if the first that isn't kept so has no slot. Evaluation of each that is
-/// behind it completes it, so none of these has one either. If memory is refused, no more may be.
+/// Whether the node of a number has no slot, if there are more nodes than that.
+fn is_free<R: Rules>(
+    table: &mut Table<R>,
+    folded: &R::Fold,
+    alloc: Global,
+    place: u32,
+    count: u32,
+) -> Result<bool, AllocError>
+    requires { count ≤ (R.Fold.fold folded.now).size }
+    ensures free { IfOk result (λ is_free. is_free ≡ true → place < count → HasNoEntry R.Node.eq table.old.kept ((R.Fold.fold folded.now).entry place).node) }
+    ensures nodes { nodes table.new ≡ nodes table.old }
+    ensures grows { table.old.looks ≤ table.new.looks }
+{
+    if place >= count {
+        return Ok(true);
+    }
+    let node = folded.node(alloc, place)?;
+    Ok(!table.holds(&node))
+}
+
+/// More nodes may be kept by numbers alone: all that there are over these bytes, if neither the first that isn't kept so nor the next one has a slot. Evaluation
+/// of each that is behind them completes the first, so none of these has one either. If memory is refused, no more may be.
 fn widen<R: Rules>(
     table: &mut Table<R>,
-    run: &mut Run<R::Fold>,
+    run: &mut Run<R::Node, R::Fold>,
     alloc: Global,
     rules: &R,
     bytes: &Buffer,
@@ -287,12 +331,13 @@ fn widen<R: Rules>(
     ensures seen { nodes (viewed R.Node.eq R.Fold.fold (Some run.new) table.new) ≡ nodes (viewed R.Node.eq R.Fold.fold (Some run.old) table.old) }
     ensures grows { table.old.looks ≤ table.new.looks }
 {
-    let count = table.foldable(rules, &run.nodes, bytes);
+    let count = table.foldable(rules, &run.nodes, bytes, run.kept, u32::MAX);
     if count <= run.far {
         return Ok(());
     }
-    let first = run.nodes.node(alloc, run.kept)?;
-    if !table.holds(&first) {
+    if is_free(table, &run.nodes, alloc, run.kept, count)?
+        && is_free(table, &run.nodes, alloc, run.kept + 1, count)?
+    {
         run.far = count;
     }
     Ok(())
@@ -303,7 +348,7 @@ fn widen<R: Rules>(
 #[inline(never)]
 fn grow_anew<R: Rules>(
     table: &mut Table<R>,
-    run: &mut Run<R::Fold>,
+    run: &mut Run<R::Node, R::Fold>,
     alloc: Global,
     rules: &R,
     bytes: &Buffer,
@@ -330,7 +375,7 @@ fn grow_anew<R: Rules>(
 #[inline(always)]
 fn ask_grown<R: Rules>(
     table: &mut Table<R>,
-    run: &mut Run<R::Fold>,
+    run: &mut Run<R::Node, R::Fold>,
     alloc: Global,
     rules: &R,
     bytes: &Buffer,
@@ -352,7 +397,7 @@ fn ask_grown<R: Rules>(
 #[inline(never)]
 fn next_open<R: Rules>(
     table: &mut Table<R>,
-    run: &mut Run<R::Fold>,
+    run: &mut Run<R::Node, R::Fold>,
     rules: &R,
     bytes: &Buffer,
     answer: &Reply<R>,
@@ -373,7 +418,7 @@ fn next_open<R: Rules>(
         return None;
     }
     let place = table.last_place(&run.nodes)?;
-    let count = table.foldable(rules, &run.nodes, bytes);
+    let count = table.foldable(rules, &run.nodes, bytes, run.kept, place);
     if answer.is_ok() && place == run.kept && place < count {
         return Some(place);
     }
@@ -403,7 +448,7 @@ fn close_slotted<R: Rules>(
 #[inline(always)]
 fn close_beside<R: Rules>(
     table: &mut Table<R>,
-    run: &mut Run<R::Fold>,
+    run: &mut Run<R::Node, R::Fold>,
     alloc: Global,
     rules: &R,
     bytes: &Buffer,
@@ -431,7 +476,7 @@ fn founded<R: Rules>(
     rules: &R,
     bytes: &Buffer,
     answer: &Reply<R>,
-) -> Result<Option<Run<R::Fold>>, AllocError>
+) -> Result<Option<Run<R::Node, R::Fold>>, AllocError>
     requires { HasReached (on (R.meaning rules.now) bytes.now) table.now.kept table.now.opened (Next.Done answer.now) }
     ensures { IfOk result (λ run. Founds R.Node.eq R.Fold.fold run table.now.kept table.now.opened) }
 {
@@ -441,7 +486,7 @@ fn founded<R: Rules>(
     let Some(nodes) = table.fold(alloc, rules, value, bytes)? else {
         return Ok(None);
     };
-    let count = rules.foldable(&nodes, value, bytes);
+    let count = rules.foldable(&nodes, value, bytes, 0, u32::MAX);
     if (count as usize) < LEAST.max(bytes.len() / BYTES) {
         return Ok(None);
     }
@@ -451,7 +496,7 @@ fn founded<R: Rules>(
         kept: 0,
         wild,
         far: count,
-        lent: Vec::new(alloc),
+        lent: Lendings::new(alloc),
         moved: false,
     }))
 }
@@ -460,7 +505,7 @@ fn founded<R: Rules>(
 #[inline(always)]
 fn close_founding<R: Rules>(
     table: &mut Table<R>,
-    run: &mut Option<Run<R::Fold>>,
+    run: &mut Option<Run<R::Node, R::Fold>>,
     alloc: Global,
     rules: &R,
     bytes: &Buffer,
@@ -492,7 +537,7 @@ fn may_found<R: Rules>(rules: &R, answer: &Reply<R>) -> bool {
 #[derive(Drop)]
 pub struct Folded<R: Rules> {
     table: Table<R>,
-    run: Option<Run<R::Fold>>,
+    run: Option<Run<R::Node, R::Fold>>,
 }
 
 impl<R: Rules> Model for Folded<R> {
@@ -524,7 +569,7 @@ impl<R: Rules> Folded<R> {
     {
         match &self.run {
             None => self.table.len(),
-            Some(run) => self.table.len() - run.lent.as_slice().len() + run.kept as usize,
+            Some(run) => self.table.len() - run.lent.len() + run.kept as usize,
         }
     }
 
@@ -687,9 +732,9 @@ impl<R: Rules> Folded<R> {
             return self.table.forget(change, pages);
         };
         self.table.holds(run.nodes.root());
-        let looked = self.table.forget(change, pages);
+        let left = run.nodes.left(run.kept, change);
+        let looked = self.table.forget_lent(change, pages, &mut run.lent, left);
         if self.table.holds(run.nodes.root()) {
-            let left = run.nodes.left(run.kept, change);
             run.cut(left);
             run.moved = run.moved || moves_end(change);
             self.run = Some(run);

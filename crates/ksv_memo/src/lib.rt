@@ -20,6 +20,7 @@
 //! - `folded`: the table with nodes that are kept by numbers alone
 //! - `frames`: a frame for each open node, which holds it, with what it asked and used
 //! - `laws`: the laws of all rules
+//! - `lendings`: the nodes that are kept by numbers alone and have slots too
 //! - `machine`: one turn, what follows it, the loop, and the look-up before it
 //! - `machine/turns`: the count of turns
 //! - `slots`: the numbers of nodes and their slots, each look counted; `call`, the only caller of `next`
@@ -36,6 +37,7 @@
 //! - `Folding`: nodes that are kept by numbers alone, beside those that have slots, for private contracts
 //! - `Growing`: a table that grows before a node is looked up, for private contracts
 //! - `Layout`: how the table keeps nodes, and the lists that this means, for private contracts
+//! - `Lending`: nodes that are kept by numbers alone and have slots too, for private contracts
 //! - `Moves`: what each call of the table does to slots and frames, for private contracts
 //! - `Near`: how few looks an overwrite takes
 //! - `Nodes`: the table as the machine sees it, for private contracts
@@ -66,6 +68,7 @@
 //! - `Leasts`: the least number that an open node has among nodes that are kept by numbers alone
 //! - `Leaving`: what an edit leaves of folded nodes, and of the table beside them
 //! - `Lending`: a folded node that is kept in a slot too
+//! - `Listing`: the nodes that are kept by numbers alone and have slots too
 //! - `Moves`: what each move of the machine does to the invariants
 //! - `Once`: the members of a list, each once
 //! - `Places`: an entry among others is as one after them
@@ -87,6 +90,7 @@ mod engine;
 mod folded;
 mod frames;
 pub mod laws;
+mod lendings;
 mod machine;
 mod slots;
 mod table;

@@ -268,18 +268,21 @@ pub(crate) fn outcome_at<R: Rules>(
     }
 }
 
-/// How many nodes can be kept by numbers alone over these bytes, whose root has its answer in the slot of a number.
+/// How many nodes can be kept by numbers alone over these bytes, whose root has its answer in the slot of a number, where so many of the first are. It looks no
+/// farther than to a number.
 pub(crate) fn foldable_at<R: Rules>(
     rules: &R,
     slots: &Slots<R::Node, R::Places, R::Value, R::Fault>,
     place: usize,
     nodes: &R::Fold,
     bytes: &Buffer,
+    kept: u32,
+    sought: u32,
 ) -> u32
-    ensures { TellsFold (on (R.meaning rules.now) bytes.now) (R.Fold.fold nodes.now) (answer_at (slots_of slots.now.entries) place) result }
+    ensures { TellsFold (on (R.meaning rules.now) bytes.now) (R.Fold.fold nodes.now) (answer_at (slots_of slots.now.entries) place) kept result }
 {
     match answer_at(slots.lend(), place) {
-        Some(Ok(value)) => rules.foldable(nodes, value, bytes),
+        Some(Ok(value)) => rules.foldable(nodes, value, bytes, kept, sought),
         _ => 0,
     }
 }

@@ -1,9 +1,9 @@
 //! The table of kept and open nodes.
 ghost use Rattle.std.specs.List.{All, AllByRecursion, AllPairs, IsDistinct};
-ghost use Rattle.std.specs.Prelude.{◌≡◌, ◌≢◌, ◌<◌, ◌≤◌, ◌+◌, ◌^◌, ℕ, [], Some, length, true, false, option_map, nat_lt, IfOk, IfSome, IfNone, OnOk, OnErr};
+ghost use Rattle.std.specs.Prelude.{◌≡◌, ◌≢◌, ◌<◌, ◌≤◌, ◌+◌, ◌-◌, ◌^◌, max, ℕ, [], Some, length, true, false, option_map, nat_lt, IfOk, IfSome, IfNone, OnOk, OnErr};
 ghost use Rattle.ksv_memo_links.specs.Touching.{AreWithin};
 ghost use Rattle.ksv_memo_rules.specs.Meaning.{IsAddedTo, on};
-ghost use Rattle.ksv_memo_rules.specs.Folds.{BeginsAs, IsFold};
+ghost use Rattle.ksv_memo_rules.specs.Folds.{AreTold, BeginsAs, IsFold};
 ghost use Rattle.ksv_memo_rules.specs.Right.{counted, nodes_of};
 ghost use Rattle.ksv_memo.specs.Layout.{AreFrames, IsLaidOut};
 ghost use Rattle.ksv_memo.specs.Nodes.{Asks, Closes, HasNoEntry, KeepsNode, MayKeep, MayLose, Opens, Seeks, Starts, Steps, TakesFirst, is_there, looks_of, nodes, nodes_with};
@@ -13,10 +13,12 @@ ghost use Rattle.ksv_memo_links.specs.Shelved.{ticked};
 ghost use Rattle.ksv_memo_rules.specs.Slots.{answer_in};
 ghost use Rattle.ksv_memo.specs.Calls.{Runs};
 ghost use Rattle.ksv_memo.specs.Open.{nodes_in};
-ghost use Rattle.ksv_memo.specs.Sweep.{Sweeps};
+ghost use Rattle.ksv_memo.specs.Lending.{AreTwo, is_lent_from};
+ghost use Rattle.ksv_memo.specs.Sweep.{Sweeps, SweepsBy};
 ghost use Rattle.ksv_memo.specs.Emptying.{IsEmptied};
 
 use crate::frames::{Frames, last_frame, least_place, number, open_new, reopen};
+use crate::lendings::Lendings;
 use crate::machine::turns::Turns;
 use crate::slots::{Known, Slots, call, foldable_at, outcome_at, retell_at};
 use crate::uses::{keep_by, keep_once};
@@ -167,6 +169,24 @@ fn empty_taken<N: Eq + Drop, P: Places<N> + Drop, V: Drop, F: Drop>(
     while let Some(slot) = links.take() {
         empty(slots, slot as usize);
     }
+}
+
+/// Empties the slots that are to be taken. How many looks there were since this count; and no fewer than there are such slots.
+fn swept<N: Eq + Drop, P: Places<N> + Drop, V: Drop, F: Drop>(
+    slots: &mut Slots<N, P, V, F>,
+    links: &mut Links,
+    before: u64,
+) -> u64
+    requires inside { All (λ s. s < length slots.old.entries) links.old.waits }
+    requires apart { AllPairs (λ (a b : ℕ). a ≢ b) links.old.waits }
+    requires few { length links.old.waits < 2 ^ 32 }
+    ensures emptied { IsEmptied slots.old.entries slots.new.entries links.old links.new slots.old.looks slots.new.looks }
+    ensures looked { result ≡ max (looks_of links.new.looks slots.new.looks - before) (length links.old.waits) }
+{
+    let went = links.waiting();
+    empty_taken(slots, links);
+    let now = looks_at(slots, links);
+    now.saturating_sub(before).max(went as u64)
 }
 
 /// The nodes that are kept and those that are open.
@@ -364,14 +384,24 @@ impl<R: Rules> Table<R> {
         matches!(self.slots.find(node), Known::Kept(_))
     }
 
-    /// How many nodes can be kept by numbers alone over these bytes: none if their root isn't kept.
-    pub(crate) fn foldable(&mut self, rules: &R, folded: &R::Fold, bytes: &Buffer) -> u32
-        ensures fold { IsTold (on (R.meaning rules.now) bytes.now) R.Node.eq self.old.kept (R.Fold.fold folded.now).root → IsFold (on (R.meaning rules.now) bytes.now) (R.Fold.fold folded.now) result }
+    /// How many nodes can be kept by numbers alone over these bytes, where so many of the first are: none if their root isn't kept. It looks no farther than to
+    /// a number.
+    pub(crate) fn foldable(
+        &mut self,
+        rules: &R,
+        folded: &R::Fold,
+        bytes: &Buffer,
+        kept: u32,
+        sought: u32,
+    ) -> u32
+        ensures fold { IsTold (on (R.meaning rules.now) bytes.now) R.Node.eq self.old.kept (R.Fold.fold folded.now).root → AreTold (on (R.meaning rules.now) bytes.now) (R.Fold.fold folded.now) kept → IsFold (on (R.meaning rules.now) bytes.now) (R.Fold.fold folded.now) result }
         ensures nodes { nodes self.new ≡ nodes self.old }
         ensures grows { self.old.looks ≤ self.new.looks }
     {
         match self.slots.find(folded.root()) {
-            Known::Kept(place) => foldable_at(rules, &self.slots, place, folded, bytes),
+            Known::Kept(place) => {
+                foldable_at(rules, &self.slots, place, folded, bytes, kept, sought)
+            }
             _ => 0,
         }
     }
@@ -455,18 +485,42 @@ impl<R: Rules> Table<R> {
         requires opened { self.old.opened ≡ [] }
         requires within { AllByRecursion (λ entry. AreWithin pages entry.uses) self.old.kept }
         ensures kept { Sweeps change pages self.old.kept self.new.kept result }
-
-        // There is room for two looks more.
-        ensures room { Sweeps change pages self.old.kept self.new.kept (result + 2) }
         ensures opened { self.new.opened ≡ [] }
         ensures told { self.new.looks ≤ self.old.looks + result }
     {
         let before = looks_at(&self.slots, &self.links);
         self.frames.asked.clear();
-        self.links.forget(change, pages);
-        let went = self.links.waiting();
-        empty_taken(&mut self.slots, &mut self.links);
-        let now = looks_at(&self.slots, &self.links);
-        now.saturating_sub(before).max(went as u64)
+        self.links.forget(change, pages, &[]);
+        swept(&mut self.slots, &mut self.links, before)
+    }
+
+    /// The same, and so goes each of these nodes from one of a number on: all of them are kept, each once.
+    #[cold]
+    #[inline(never)]
+    pub(crate) fn forget_lent(
+        &mut self,
+        change: Change,
+        pages: usize,
+        lent: &mut Lendings<R::Node>,
+        left: u32,
+    ) -> u64
+        requires opened { self.old.opened ≡ [] }
+        requires within { AllByRecursion (λ entry. AreWithin pages entry.uses) self.old.kept }
+        requires lent { AllByRecursion (λ lending. KeepsNode R.Node.eq self.old.kept lending.node) lent.old.items }
+        requires apart { AllPairs (AreTwo R.Node.eq) lent.old.items }
+        ensures kept { SweepsBy (is_lent_from R.Node.eq left lent.old.items) change pages self.old.kept self.new.kept result }
+
+        // There is room for two looks more.
+        ensures room { SweepsBy (is_lent_from R.Node.eq left lent.old.items) change pages self.old.kept self.new.kept (result + 2) }
+        ensures lent { lent.new.items ≡ lent.old.items }
+        ensures opened { self.new.opened ≡ [] }
+        ensures told { self.new.looks ≤ self.old.looks + result }
+    {
+        let first = looks_at(&self.slots, &self.links);
+        self.frames.asked.clear();
+        self.links.are_numbered();
+        lent.find_from(left, &mut self.slots);
+        self.links.forget(change, pages, lent.found());
+        swept(&mut self.slots, &mut self.links, first)
     }
 }

@@ -1,17 +1,18 @@
 -- What was marked is what has to go.
 use Rattle.ksv_memo_links.proofs.Common.{◌≡◌, ◌⊎◌, inl, inr, Bool, true, false, cond, ℕ, suc, ◌+◌, ◌-◌, ◌*◌, ◌<◌, ◌≤◌, max, min, List, [], ◌∷◌}
 use Rattle.ksv_memo_links.proofs.Common.{length, map, take, get_or, Contains, refl, sym, ◌∙◌, ap, subst, arith, true≢false, sum_by, count_by, nat_lt}
-use Rattle.ksv_memo_links.proofs.Common.{sum_by-cons, cases_lt, eqb_tells, take_all, get_or_default, Change, Item, Parts, row, pages_in, ends_in}
+use Rattle.ksv_memo_links.proofs.Common.{sum_by-cons, cases_lt, eqb_tells, take_all, get_or_default, Change, Cause, Item, Parts, row, pages_in, ends_in}
 use Rattle.ksv_memo_links.proofs.Common.{lists_of_uses, end_lists, page_lists, one_if, first_page, end_page, is_kept, IsMarking, IsListed, item_at, SameLinks}
 use Rattle.ksv_memo_links.proofs.Common.{MarksMore, Why, HitsRows, Spreads, looks, sizes}
 use Rattle.std.proofs.Common.{nat_eq, nat_le, ◌||◌}
 use Rattle.std.proofs.lemmas.Bool.{cases_Bool}
 use Rattle.ksv_bytes.specs.declared.uses.Change.TheVariants.{Overwrite, Insert, Delete, Append}
 use Rattle.ksv_memo_links.specs.Links.{is_hit, IsHit, here, through, Forgets, pages_met, met_by, asks_of}
-use Rattle.ksv_memo_links.specs.Forgetting.{IsEdit, AreAllWithin, HitsBehind, HitsTouched, IsWhole, IsNear, IsBehind, linked_of, lengths}
+use Rattle.ksv_memo_links.specs.Forgetting.{IsEdit, AreAlso, AreAllWithin, HitsBehind, HitsTouched, IsWhole, IsNear, IsBehind, linked_of, lengths}
 use Rattle.ksv_memo_links.proofs.Edits.{row_there}
 use Rattle.ksv_memo_links.proofs.Turns.{row_of, few-pages, few-ends, page-item, end-item}
 use Rattle.ksv_memo_links.proofs.Mark.{stays-out}
+use Rattle.ksv_memo_links.proofs.Also.{Begins}
 use Rattle.ksv_memo_links.proofs.More.{same-trans, more-trans, shaped-more}
 use Rattle.ksv_memo_links.proofs.Touches.{uses-meet, EndsPast, insert-past, delete-past, append-ends}
 use Rattle.ksv_memo_links.proofs.Tallies.{within, tally, sizes-few, sizes-grow, sizes-up, rows-le, tally-behind, tally-ends, tally-size}
@@ -166,11 +167,11 @@ user-reached p q r s i asked l lt e same spread c =
     ap (λ n. is_kept r.marks.kept n) (sym a.2) ∙ out
 
 -- and each slot from which a marked one is reached
-all-reached : {p q r : Parts} {change : Change} {pages : ℕ} → IsWhole p → IsListed p.asks.lists p.asks.named → HitsTouched p q change pages
-    → Spreads q r (length r.marks.work) 1 → IsMarking p.marks.kept (Why p p.marks.kept change) r.marks.kept r.marks.work → (s : ℕ)
-    → is_kept p.marks.kept s ≡ true → Why p p.marks.kept change s → is_kept r.marks.kept s ≡ false
+all-reached : {p q r : Parts} {cause : Cause} {pages : ℕ} → IsWhole p → IsListed p.asks.lists p.asks.named → Begins p q cause pages
+    → Spreads q r (length r.marks.work) 1 → IsMarking p.marks.kept (Why p p.marks.kept cause) r.marks.kept r.marks.work → (s : ℕ)
+    → is_kept p.marks.kept s ≡ true → Why p p.marks.kept cause s → is_kept r.marks.kept s ≡ false
 all-reached {q} {r} w l h spread m _ k (here s hit) = stays-out _ _ _ spread.more.fewer (h.hits s hit)
-all-reached {p} {q} {r} {change} {pages} w l h spread m _ k (through s i lt why) =
+all-reached {p} {q} {r} w l h spread m _ k (through s i lt why) =
     let asked = get_or (row p.asks.named s) i 0 in
     let was = w.asked_kept s i k lt in
     user-reached p q r s i asked l lt refl h.more.same spread (m.out asked was (all-reached w l h spread m _ was why))
@@ -200,21 +201,21 @@ positive f xs lt = by (cases_sum f xs lt)
     by : (k : ℕ) × (k < length xs) × (0 < f (get_or xs k 0)) → (x : ℕ) × Contains xs x × (0 < f x)
     by (k, l, h) = (get_or xs k 0, (k, l, get_or_default _ _ _ _ l), h)
 
-module _ (p q r : Parts) (change : Change) (pages : ℕ) (w : IsWhole p) (idle : p.marks.work ≡ []) (asks : IsListed p.asks.lists p.asks.named)
-    (h : HitsTouched p q change pages) (spread : Spreads q r (length r.marks.work) 1) where
+module _ (p q r : Parts) (cause : Cause) (pages : ℕ) (w : IsWhole p) (idle : p.marks.work ≡ []) (asks : IsListed p.asks.lists p.asks.named)
+    (h : Begins p q cause pages) (spread : Spreads q r (length r.marks.work) 1) where
   same : SameLinks p r
   same = same-trans p q r h.more.same spread.more.same
 
-  to_r : MarksMore p r (IsEdit change)
+  to_r : MarksMore p r (λ first x. IsEdit cause.change first x × AreAlso cause.also first x)
   to_r = more-trans h.more spread.more (λ first x e m. tt)
 
-  marking : IsMarking p.marks.kept (Why p p.marks.kept change) r.marks.kept r.marks.work
-  marking = to_r.marking p.marks.kept change refl (marking-none _ _ _ idle)
+  marking : IsMarking p.marks.kept (Why p p.marks.kept cause) r.marks.kept r.marks.work
+  marking = to_r.marking p.marks.kept cause (refl, refl) (marking-none _ _ _ idle)
 
-  reached : (s : ℕ) → is_kept p.marks.kept s ≡ true → Why p p.marks.kept change s → is_kept r.marks.kept s ≡ false
+  reached : (s : ℕ) → is_kept p.marks.kept s ≡ true → Why p p.marks.kept cause s → is_kept r.marks.kept s ≡ false
   reached s k y = all-reached w asks h spread marking s k y
 
-  out : (s : ℕ) → Contains r.marks.work s → (is_kept p.marks.kept s ≡ true) × (is_kept r.marks.kept s ≡ false) × Why p p.marks.kept change s
+  out : (s : ℕ) → Contains r.marks.work s → (is_kept p.marks.kept s ≡ true) × (is_kept r.marks.kept s ≡ false) × Why p p.marks.kept cause s
   out s c =
       let g = marking.gone c.0 c.1 in
       rw (get_or_default r.marks.work c.0 0 s c.1 ∙ c.2) at g
@@ -224,7 +225,7 @@ module _ (p q r : Parts) (change : Change) (pages : ℕ) (w : IsWhole p) (idle :
   left s k non (inl e) = e
   left s k non (inr e) = absurd (non (marking.out s k e))
 
-  pub forgets : Forgets (linked_of p) (linked_of r) change
+  pub forgets : Forgets (linked_of p) (linked_of r) cause.change cause.also
   forgets = record {
     asked = same.asks;
     uses = same.uses;
@@ -283,10 +284,10 @@ module _ (p q r : Parts) (change : Change) (pages : ℕ) (w : IsWhole p) (idle :
         ap length idle,
       )
 
-  pub near : IsNear change p r
+  pub near : IsNear cause.change p r
   near o = omega (arith, in_all _ (h.near o))
 
-  pub behind : IsBehind change pages p r
+  pub behind : IsBehind cause.change pages p r
   behind o = omega (arith, in_all _ (h.behind o))
 
   pub rises : looks p ≤ looks r

@@ -13,7 +13,7 @@ pub use Rattle.ksv_bytes.specs.declared.uses.Change.{Change}
 pub use Rattle.ksv_bytes.specs.declared.uses.Use.{Use}
 pub use Rattle.ksv_bytes.specs.declared.uses.Use.TheVariants.{Bytes}
 pub use Rattle.ksv_memo_links.specs.Chained.{entry_at, first_at, hop, IsChain, IsListed, block_at, lists_in, named_of, IsLive, IsChained, Chained, IsFree}
-pub use Rattle.ksv_memo_links.specs.Forgetting.{SameLinks, MarksMore, Why, HitsRows, Spreads, looks, sizes, HitsRow, IsShaped, HitsUsers}
+pub use Rattle.ksv_memo_links.specs.Forgetting.{Cause, SameLinks, MarksMore, Why, HitsRows, Spreads, looks, sizes, HitsRow, IsShaped, HitsUsers}
 pub use Rattle.ksv_memo_links.specs.Linked.{one_if, item_at, naming, at}
 pub use Rattle.ksv_memo_links.specs.Links.{first_page, end_page}
 pub use Rattle.ksv_memo_links.specs.Marking.{is_kept, IsMarking}

@@ -1,6 +1,6 @@
 -- Why the marks of the code are right, one upon another.
 use Rattle.ksv_memo_links.proofs.Common.{◌≡◌, inl, inr, Bool, true, false, ℕ, suc, ◌+◌, ◌*◌, ◌<◌, ◌≤◌, max, min, List, [], ◌∷◌, length, map}
-use Rattle.ksv_memo_links.proofs.Common.{get_or, refl, sym, ◌∙◌, ap, subst, arith, eqb_tells, Use, Change, Item, Parts, row, lists_of_uses, end_lists}
+use Rattle.ksv_memo_links.proofs.Common.{get_or, refl, sym, ◌∙◌, ap, subst, arith, eqb_tells, Use, Change, Cause, Item, Parts, row, lists_of_uses, end_lists}
 use Rattle.ksv_memo_links.proofs.Common.{page_lists, at, first_page, is_kept, Chained, IsListed, item_at, SameLinks, looks, Why, MarksMore, HitsRow, HitsRows}
 use Rattle.ksv_memo_links.proofs.Common.{sizes}
 use Rattle.ksv_memo_links.specs.Placed.{Used}
@@ -26,7 +26,7 @@ listed-in rows lists l i h lt =
     by (u ∷ us) lt = omega arith
 
 -- who asked a slot that goes, goes
-pub user-why : (p : Parts) (slot i : ℕ) → IsListed p.asks.lists p.asks.named → i < length (row p.asks.lists slot) → (first : List Bool) (x : Change)
+pub user-why : (p : Parts) (slot i : ℕ) → IsListed p.asks.lists p.asks.named → i < length (row p.asks.lists slot) → (first : List Bool) (x : Cause)
     → Why p first x slot → Why p first x (item_at p.asks.lists slot i).owner
 user-why p slot i l lt first x w =
     let k = l.owners slot i lt in
@@ -36,7 +36,7 @@ user-why p slot i l lt first x w =
 pub hit-marked : (p q : Parts) (change : Change) (slot : ℕ) → MarksOne p q slot → is_hit change p.uses.rows slot ≡ true
     → looks q + 2 * length p.marks.work ≤ looks p + 2 + 2 * length q.marks.work → HitsSlot p q change slot
 hit-marked p q change slot one t few = record {
-  more = one-mark _ _ _ _ one (λ first x e k. here slot (record { was_kept = k; touched = cc }));
+  more = one-mark _ _ _ _ one (λ first x e k. here slot (inl (record { was_kept = k; touched = cc })));
   out = λ _. one-out _ _ _ one;
   looks = few;
 }
@@ -81,7 +81,7 @@ row-none p change items = record {
   looks = omega arith;
 }
 
-pub peek-more : {p q q1 : Parts} {P : List Bool → Change → Type 0} → MarksMore p q P → Peeks q q1 → MarksMore p q1 P
+pub peek-more : {p q q1 : Parts} {P : List Bool → Cause → Type 0} → MarksMore p q P → Peeks q q1 → MarksMore p q1 P
 peek-more {p} {q} {q1} {P} h k = more-trans h (no-mark _ _ (λ first x. Unit {0}) k.same k.kept k.work k.least k.rises)
     (λ first x w m. tt)
 

@@ -8,6 +8,7 @@ pub mod Clearing
 pub mod Mark
 pub mod More
 pub mod Hits
+pub mod Also
 pub mod Spreading
 pub mod Touches
 pub mod Tallies

@@ -32,7 +32,7 @@ stays-out kept now s fewer h = elim (cases_Bool (is_kept now s)) [
 marked_no : (kept : List Bool) (work : List ℕ) (s : ℕ) → is_kept kept s ≡ false → marked_work kept work s ≡ work
 marked_no kept work s e = rw e refl
 
-marked_yes : (kept : List Bool) (work : List ℕ) (s : ℕ) → is_kept kept s ≡ true → marked_work kept work s ≡ work ++ s ∷ []
+pub marked_yes : (kept : List Bool) (work : List ℕ) (s : ℕ) → is_kept kept s ≡ true → marked_work kept work s ≡ work ++ s ∷ []
 marked_yes kept work s e = rw e refl
 
 set_no : (kept : List Bool) (s : ℕ) → is_kept kept s ≡ false → set kept s false ≡ kept

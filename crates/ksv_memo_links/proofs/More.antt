@@ -1,6 +1,6 @@
 -- Marks upon marks.
 use Rattle.ksv_memo_links.proofs.Common.{◌≡◌, inl, inr, Bool, true, false, ℕ, ◌+◌, ◌<◌, ◌≤◌, List, [], ◌++◌, length, set, refl, sym, ◌∙◌, ap, subst}
-use Rattle.ksv_memo_links.proofs.Common.{arith, length-set, append-nil, eqb_tells, Change, Parts, row, is_kept, IsMarking, IsShaped, SameLinks}
+use Rattle.ksv_memo_links.proofs.Common.{arith, length-set, append-nil, eqb_tells, Cause, Parts, row, is_kept, IsMarking, IsShaped, SameLinks}
 use Rattle.ksv_memo_links.proofs.Common.{looks, Why, MarksMore}
 use Rattle.std.proofs.Common.{append_assoc}
 use Rattle.ksv_memo_links.specs.Marking.{marked_work, IsCounted}
@@ -24,16 +24,16 @@ shaped-more p q h s e = record {
 }
 
 -- the reasons are those of the parts as they were
-pub why-along : {p q : Parts} (first : List Bool) (x : Change) (P : (ℕ → Type 0) → Type 0) → SameLinks p q → P (Why p first x) → P (Why q first x)
+pub why-along : {p q : Parts} (first : List Bool) (x : Cause) (P : (ℕ → Type 0) → Type 0) → SameLinks p q → P (Why p first x) → P (Why q first x)
 why-along first x P s h =
     rw s.asks (rw s.uses h)
 
-pub why-back : (p q : Parts) (first : List Bool) (x : Change) (P : (ℕ → Type 0) → Type 0) → SameLinks p q → P (Why q first x) → P (Why p first x)
+pub why-back : (p q : Parts) (first : List Bool) (x : Cause) (P : (ℕ → Type 0) → Type 0) → SameLinks p q → P (Why q first x) → P (Why p first x)
 why-back p q first x P s h =
     rw s.asks at (rw s.uses at h)
 
-pub more-trans : {p q r : Parts} {P Q : List Bool → Change → Type 0} → MarksMore p q P → MarksMore q r Q
-    → ((first : List Bool) (x : Change) → P first x → IsMarking first (Why p first x) q.marks.kept q.marks.work → Q first x) → MarksMore p r P
+pub more-trans : {p q r : Parts} {P Q : List Bool → Cause → Type 0} → MarksMore p q P → MarksMore q r Q
+    → ((first : List Bool) (x : Cause) → P first x → IsMarking first (Why p first x) q.marks.kept q.marks.work → Q first x) → MarksMore p r P
 more-trans {p} {q} {r} h k f = record {
   same = same-trans p q r h.same k.same;
   same_length = k.same_length ∙ h.same_length;
@@ -46,6 +46,21 @@ more-trans {p} {q} {r} h k f = record {
   rises = omega arith;
 }
 
+pub mark-none : {p : Parts} {P : List Bool → Cause → Type 0} → MarksMore p p P
+mark-none {p} = record {
+  same = record { asks = refl; ask_lists = refl; uses = refl; use_lists = refl };
+  same_length = refl;
+  fewer = λ s e. e;
+  marking = λ first x w m. m;
+  grows = ([], sym (append-nil p.marks.work));
+  least = λ from c. c;
+  rises = omega arith;
+}
+
+-- the same marks, where fewer reasons are told of
+pub more-for : {p q : Parts} {P Q : List Bool → Cause → Type 0} → ((first : List Bool) (x : Cause) → Q first x → P first x) → MarksMore p q P → MarksMore p q Q
+more-for f h = more-trans mark-none h (λ first x w m. f first x w)
+
 -- what one call marks
 pub record MarksOne (p q : Parts) (s : ℕ) : Type 0 where
   pub same : SameLinks p q
@@ -54,8 +69,8 @@ pub record MarksOne (p q : Parts) (s : ℕ) : Type 0 where
   pub least : (from : ℕ) → IsCounted from p.marks → IsCounted from q.marks
   pub rises : looks p ≤ looks q
 
-pub one-mark : (p q : Parts) (P : List Bool → Change → Type 0) (s : ℕ) → MarksOne p q s
-    → ((first : List Bool) (x : Change) → P first x → is_kept first s ≡ true → Why p first x s) → MarksMore p q P
+pub one-mark : (p q : Parts) (P : List Bool → Cause → Type 0) (s : ℕ) → MarksOne p q s
+    → ((first : List Bool) (x : Cause) → P first x → is_kept first s ≡ true → Why p first x s) → MarksMore p q P
 one-mark p q P s h why = record {
   same = h.same;
   same_length = ap length h.kept ∙ length-set p.marks.kept s false;
@@ -66,7 +81,7 @@ one-mark p q P s h why = record {
   rises = h.rises;
 }
 
-pub no-mark : (p q : Parts) (P : List Bool → Change → Type 0) → SameLinks p q → q.marks.kept ≡ p.marks.kept → q.marks.work ≡ p.marks.work
+pub no-mark : (p q : Parts) (P : List Bool → Cause → Type 0) → SameLinks p q → q.marks.kept ≡ p.marks.kept → q.marks.work ≡ p.marks.work
     → ((from : ℕ) → IsCounted from p.marks → IsCounted from q.marks) → looks p ≤ looks q → MarksMore p q P
 no-mark p q P s e f least rises = record {
   same = s;
@@ -76,17 +91,6 @@ no-mark p q P s e f least rises = record {
   grows = ([], f ∙ sym (append-nil p.marks.work));
   least = least;
   rises = rises;
-}
-
-pub mark-none : {p : Parts} {P : List Bool → Change → Type 0} → MarksMore p p P
-mark-none {p} = record {
-  same = record { asks = refl; ask_lists = refl; uses = refl; use_lists = refl };
-  same_length = refl;
-  fewer = λ s e. e;
-  marking = λ first x w m. m;
-  grows = ([], sym (append-nil p.marks.work));
-  least = λ from c. c;
-  rises = omega arith;
 }
 
 pub one-out : (p q : Parts) (s : ℕ) → MarksOne p q s → is_kept q.marks.kept s ≡ false

@@ -10,7 +10,7 @@ use Rattle.ksv_memo_links.specs.Touching.{pages_in, AreWithin}
 use Rattle.ksv_memo_links.specs.Placed.{end_lists, page_lists}
 use Rattle.ksv_memo_links.specs.Linked.{item_at, at}
 use Rattle.ksv_memo_links.specs.Marking.{is_kept, IsCounted, IsMarking}
-use Rattle.ksv_memo_links.specs.Links.{Linked, is_hit, IsHit, Reaches, IsOverwrite, IsMove, first_page, pages_met, met_by, pages_behind, behind_by, ended_by, asks_of}
+use Rattle.ksv_memo_links.specs.Links.{Linked, is_hit, IsHit, GoesItself, Reaches, IsOverwrite, IsMove, first_page, pages_met, met_by, pages_behind, behind_by, ended_by, asks_of}
 
 -- each slot has a row everywhere, and no row after them asked or uses something
 pub record IsShaped (p : Parts) : Type 0 where
@@ -30,22 +30,38 @@ pub record SameLinks (p q : Parts) : Type 0 where
 abbrev pub looks : Parts → ℕ
 looks p = p.asks.looks + p.uses.looks + p.marks.looks
 
+-- what slots go for: a change, and slots that go whatever it touches
+pub record Cause : Type 0 where
+  pub change : Change
+  pub also : List ℕ
+
 -- why a slot goes
-abbrev pub Why : Parts → List Bool → Change → ℕ → Type 0
-Why p first change = Reaches p.asks.named (IsHit change first p.uses.rows)
+abbrev pub Why : Parts → List Bool → Cause → ℕ → Type 0
+Why p first cause = Reaches p.asks.named (GoesItself cause.change cause.also first p.uses.rows)
 
 -- slots were marked for a reason that P gives, and nothing else was done
-pub record MarksMore (p q : Parts) (P : List Bool → Change → Type 0) : Type 0 where
+pub record MarksMore (p q : Parts) (P : List Bool → Cause → Type 0) : Type 0 where
   pub same : SameLinks p q
   pub same_length : length q.marks.kept ≡ length p.marks.kept
   pub fewer : (s : ℕ) → is_kept q.marks.kept s ≡ true → is_kept p.marks.kept s ≡ true
-  pub marking : (first : List Bool) (x : Change) → P first x → IsMarking first (Why p first x) p.marks.kept p.marks.work → IsMarking first (Why p first x) q.marks.kept q.marks.work
+  pub marking : (first : List Bool) (x : Cause) → P first x → IsMarking first (Why p first x) p.marks.kept p.marks.work → IsMarking first (Why p first x) q.marks.kept q.marks.work
   pub grows : (more : List ℕ) × (q.marks.work ≡ p.marks.work ++ more)
   pub least : (from : ℕ) → IsCounted from p.marks → IsCounted from q.marks
   pub rises : looks p ≤ looks q
 
-abbrev pub IsEdit : Change → List Bool → Change → Type 0
-IsEdit change first x = x ≡ change
+-- slots go for this change, or for being among these
+abbrev pub IsEdit : Change → List Bool → Cause → Type 0
+IsEdit change first x = x.change ≡ change
+
+abbrev pub AreAlso : List ℕ → List Bool → Cause → Type 0
+AreAlso slots first x = x.also ≡ slots
+
+-- the first n of these slots, which were kept, were marked, and the others are kept still
+pub record MarksFirst (p q : Parts) (slots : List ℕ) (n : ℕ) : Type 0 where
+  pub more : MarksMore p q (AreAlso slots)
+  pub out : (i : ℕ) → i < n → is_kept q.marks.kept (slice_index_or slots i 0) ≡ false
+  pub left : (i : ℕ) → n ≤ i → i < length slots → is_kept q.marks.kept (slice_index_or slots i 0) ≡ true
+  pub looks : looks q + 2 * length p.marks.work ≤ looks p + 2 * length q.marks.work
 
 -- a slot has been looked at
 pub record HitsSlot (p q : Parts) (change : Change) (slot : ℕ) : Type 0 where

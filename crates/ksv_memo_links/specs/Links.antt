@@ -1,5 +1,5 @@
 -- The links between slots, as the engine sees them, and what a change reaches along them.
-use Rattle.std.specs.Prelude.{◌≡◌, ◌≢◌, ◌↔◌, ◌/◌, ◌-◌, ℕ, ◌+◌, ◌*◌, ◌<◌, ◌≤◌, max, Bool, true, false, ◌&&◌, ◌||◌, nat_eq, nat_lt, nat_le, List, [], ◌∷◌, ◌++◌, length, sum_by, count_by, slice_set, slice_index_or, Contains}
+use Rattle.std.specs.Prelude.{◌≡◌, ◌≢◌, ◌↔◌, ◌/◌, ◌-◌, ℕ, ◌+◌, ◌*◌, ◌<◌, ◌≤◌, max, ◌⊎◌, Bool, true, false, ◌&&◌, ◌||◌, nat_eq, nat_lt, nat_le, List, [], ◌∷◌, ◌++◌, length, sum_by, count_by, slice_set, slice_index_or, Contains}
 use Rattle.std.specs.List.{AllPairs, list_any}
 use Rattle.ksv_bytes.specs.declared.uses.Use.{Use}
 use Rattle.ksv_bytes.specs.declared.uses.Change.{Change}
@@ -28,21 +28,25 @@ pub record IsHit (change : Change) (kept : List Bool) (uses : List (List Use)) (
   pub was_kept : is_kept kept s ≡ true
   pub touched : is_hit change uses s ≡ true
 
--- a slot from which a hit one is reached along what was asked
-pub data Reaches (asked : List (List ℕ)) (hit : ℕ → Type 0) : ℕ → Type 0 where
-  here : (s : ℕ) → hit s → Reaches asked hit s
-  through : (s k : ℕ) → k < length (row asked s) → Reaches asked hit (slice_index_or (row asked s) k 0) → Reaches asked hit s
+-- a slot from which one that goes by itself is reached along what was asked
+pub data Reaches (asked : List (List ℕ)) (goes : ℕ → Type 0) : ℕ → Type 0 where
+  here : (s : ℕ) → goes s → Reaches asked goes s
+  through : (s k : ℕ) → k < length (row asked s) → Reaches asked goes (slice_index_or (row asked s) k 0) → Reaches asked goes s
 
--- a kept slot goes if a hit one is reached from it
-pub record Goes (old : Linked) (change : Change) (s : ℕ) : Type 0 where
+-- a slot goes by itself: it is kept and has a touched use, or is one of these
+abbrev pub GoesItself : Change → List ℕ → List Bool → List (List Use) → ℕ → Type 0
+GoesItself change also kept uses s = IsHit change kept uses s ⊎ Contains also s
+
+-- a kept slot goes if one that goes by itself is reached from it
+pub record Goes (old : Linked) (change : Change) (also : List ℕ) (s : ℕ) : Type 0 where
   pub was_kept : is_kept old.kept s ≡ true
-  pub reaches : Reaches old.asked (IsHit change old.kept old.uses) s
+  pub reaches : Reaches old.asked (GoesItself change also old.kept old.uses) s
 
 -- exactly the slots that go are to be taken, each once, and are kept no more
-pub record Forgets (old new : Linked) (change : Change) : Type 0 where
+pub record Forgets (old new : Linked) (change : Change) (also : List ℕ) : Type 0 where
   pub asked : new.asked ≡ old.asked
   pub uses : new.uses ≡ old.uses
-  pub exact : (s : ℕ) → Contains new.waits s ↔ Goes old change s
+  pub exact : (s : ℕ) → Contains new.waits s ↔ Goes old change also s
   pub apart : AllPairs (λ (a b : ℕ). a ≢ b) new.waits
   pub slots : length new.kept ≡ length old.kept
   pub went : (s : ℕ) → is_kept old.kept s ≡ true → is_kept new.kept s ≡ false → Contains new.waits s

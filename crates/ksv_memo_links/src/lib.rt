@@ -37,6 +37,7 @@
 //!
 //! Lemmas (`proofs/`):
 //!
+//! - `Also`: slots that go whatever a change touches, which are marked first
 //! - `Chaining`: what is left of a chain when an entry is taken out, and with one more before it
 //! - `Clearing`: a row that is shortened from its end
 //! - `Closing`: what is marked is what has to go

@@ -1,6 +1,6 @@
 //! The links between the kept slots of an engine.
-ghost use Rattle.std.specs.Prelude.{◌≡◌, ℕ, ◌+◌, ◌-◌, ◌*◌, ◌^◌, ◌<◌, ◌≤◌, min, [], ◌++◌, ◌∷◌, length, count_by, sum_by, OnOk, OnErr, IfSome, IfNone, true, false};
-ghost use Rattle.std.specs.List.{All};
+ghost use Rattle.std.specs.Prelude.{◌≡◌, ◌≢◌, ℕ, ◌+◌, ◌-◌, ◌*◌, ◌^◌, ◌<◌, ◌≤◌, min, [], ◌++◌, ◌∷◌, length, count_by, sum_by, OnOk, OnErr, IfSome, IfNone, true, false};
+ghost use Rattle.std.specs.List.{All, AllPairs};
 ghost use Rattle.ksv_memo_links.specs.Shelved.{row};
 ghost use Rattle.ksv_memo_links.specs.Touching.{AreWithin, pages_in};
 ghost use Rattle.ksv_memo_links.specs.Marking.{is_kept};
@@ -50,6 +50,13 @@ impl Links {
         self.parts.count()
     }
 
+    /// The number of each slot fits in 32 bits. It isn't a look.
+    pub fn are_numbered(&self)
+        ensures { length self.now.kept < 2 ^ 32 }
+    {
+        self.parts.are_numbered();
+    }
+
     /// Makes slots until there are at least this many. The new ones aren't kept.
     #[inline(always)]
     pub fn reach(&mut self, count: u32) -> Result<(), AllocError>
@@ -77,13 +84,15 @@ impl Links {
         self.parts.keep(slot, asked, uses)
     }
 
-    /// Marks the slots that go: those with a use that a change touches, and those that asked one that goes. They are no
-    /// longer kept, and `take` takes them one by one. But for an overwrite, the uses of kept slots are within this many
-    /// pages. It takes no memory.
-    pub fn forget(&mut self, change: Change, pages: usize)
+    /// Marks the slots that go: those with a use that a change touches, further ones that go also, whatever it touches, and
+    /// those that asked one that goes. They are no longer kept, and `take` takes them one by one. But for an overwrite, the
+    /// uses of kept slots are within this many pages. It takes no memory.
+    pub fn forget(&mut self, change: Change, pages: usize, also: &[u32])
         requires idle { self.old.waits ≡ [] }
         requires within { IsMove change → (s : ℕ) → is_kept self.old.kept s ≡ true → AreWithin pages (row self.old.uses s) }
-        ensures forgets { Forgets self.old self.new change }
+        requires also_kept { All (λ s. is_kept self.old.kept s ≡ true) also.now }
+        requires also_once { AllPairs (λ (a b : ℕ). a ≢ b) also.now }
+        ensures forgets { Forgets self.old self.new change also.now }
 
         // This many looks more.
         ensures most { IsOverwrite change → self.new.looks ≤ self.old.looks + pages_met change + 3 * sum_by (met_by change) self.old.uses + 1 + 4 * length self.new.waits + 2 * asks_of self.old.asked self.new.waits }
@@ -93,7 +102,7 @@ impl Links {
         ensures fits { length self.new.waits < 2 ^ 32 }
         ensures vacant { (s : ℕ) → is_kept self.old.kept s ≡ false → row self.old.uses s ≡ [] }
     {
-        self.parts.forget(change, pages);
+        self.parts.forget(change, pages, also);
         self.parts.few();
     }
 

@@ -101,7 +101,22 @@ impl Marks {
         self.count += 1;
     }
 
-    /// A slot that is kept is so no more, and waits. It takes no memory.
+    /// A slot that is kept is so no more, and waits. It takes no memory, and doesn't ask whether the slot is kept.
+    #[inline(always)]
+    pub(crate) fn mark_kept(&mut self, slot: u32)
+        requires { is_kept self.old.kept slot ≡ true }
+        ensures kept { self.new.kept ≡ slice_set self.old.kept slot false }
+        ensures work { self.new.work ≡ self.old.work ++ slot ∷ [] }
+        ensures looks { self.new.looks ≤ self.old.looks + 2 }
+        ensures grows { self.old.looks ≤ self.new.looks }
+        ensures least { (from : ℕ) → IsCounted from self.old → IsCounted from self.new }
+    {
+        self.kept.set(slot, false);
+        self.work.put(slot);
+        self.count -= 1;
+    }
+
+    /// A slot, if it is kept, is so no more, and waits. It takes no memory.
     pub(crate) fn mark(&mut self, slot: u32)
         requires { slot < length self.old.kept }
         ensures kept { self.new.kept ≡ slice_set self.old.kept slot false }
@@ -111,9 +126,7 @@ impl Marks {
         ensures least { (from : ℕ) → IsCounted from self.old → IsCounted from self.new }
     {
         if self.kept.get(slot) {
-            self.kept.set(slot, false);
-            self.work.put(slot);
-            self.count -= 1;
+            self.mark_kept(slot);
         }
     }
 

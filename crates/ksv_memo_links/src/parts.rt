@@ -1,13 +1,13 @@
 //! The parts of the links, and the steps of forgetting.
-ghost use Rattle.std.specs.Prelude.{◌≡◌, ℕ, ◌+◌, ◌-◌, ◌^◌, ◌/◌, ◌<◌, ◌≤◌, max, min, length, slice_set, count_by, [], ◌∷◌, ◌++◌, OnOk, OnErr, IfSome, IfNone, true, false};
-ghost use Rattle.std.specs.List.{All};
+ghost use Rattle.std.specs.Prelude.{◌≡◌, ◌≢◌, ℕ, ◌+◌, ◌-◌, ◌^◌, ◌/◌, ◌<◌, ◌≤◌, max, min, length, slice_set, count_by, [], ◌∷◌, ◌++◌, OnOk, OnErr, IfSome, IfNone, true, false};
+ghost use Rattle.std.specs.List.{All, AllPairs};
 ghost use Rattle.std.specs.Option.{option_to_list};
 ghost use Rattle.ksv_memo_links.specs.Shelved.{row};
 ghost use Rattle.ksv_memo_links.specs.Linked.{item_at};
 ghost use Rattle.ksv_memo_links.specs.Placed.{end_lists, page_lists};
 ghost use Rattle.ksv_memo_links.specs.Marking.{is_kept};
 ghost use Rattle.ksv_memo_links.specs.Links.{IsMove, first_page, end_page, Forgets, Keeps, IsUnchanged, Grows, Takes, IsDone};
-ghost use Rattle.ksv_memo_links.specs.Forgetting.{AreAllWithin, IsShaped, HitsSlot, HitsRow, HitsRows, HitsBehind, HitsUsers, HitsTouched, Spreads, Clears, IsWhole, IsNear, IsBehind, IsVacant, IsAsBefore, Fills, linked_of, looks};
+ghost use Rattle.ksv_memo_links.specs.Forgetting.{AreAllWithin, IsShaped, MarksFirst, HitsSlot, HitsRow, HitsRows, HitsBehind, HitsUsers, HitsTouched, Spreads, Clears, IsWhole, IsNear, IsBehind, IsVacant, IsAsBefore, Fills, linked_of, looks};
 
 use crate::chains::Chains;
 use crate::marks::Marks;
@@ -66,6 +66,13 @@ impl Parts {
         ensures { result ≡ length self.now.marks.work }
     {
         self.marks.waiting()
+    }
+
+    /// There are fewer slots than numbers of slots.
+    pub(crate) fn are_numbered(&self)
+        ensures { length self.now.marks.kept < 2 ^ 32 }
+    {
+        let _ = self.marks.slots();
     }
 
     /// There are fewer slots that wait than numbers of slots.
@@ -204,9 +211,20 @@ impl Parts {
         self.uses.clear(slot);
     }
 
+    /// Marks these slots, which are kept.
+    fn mark_all(&mut self, slots: &[u32])
+        requires kept { All (λ s. is_kept self.old.marks.kept s ≡ true) slots.now }
+        requires once { AllPairs (λ (a b : ℕ). a ≢ b) slots.now }
+        ensures { MarksFirst self.old self.new slots.now (length slots.now) }
+    {
+        for slot in slots {
+            self.marks.mark_kept(*slot);
+        }
+    }
+
     /// Marks the slots that a change touches. But for an overwrite, the uses of kept slots are within this many pages.
     fn hit_touched(&mut self, change: Change, pages: usize)
-        requires whole { IsWhole self.old }
+        requires shaped { IsShaped self.old }
         requires within { IsMove change → AreAllWithin pages self.old }
         ensures { HitsTouched self.old self.new change pages }
     {
@@ -219,13 +237,15 @@ impl Parts {
         }
     }
 
-    /// Marks each kept slot from which one is reached that a change touches. But for an overwrite, the uses of kept slots
-    /// are within this many pages. It takes no memory.
-    pub(crate) fn forget(&mut self, change: Change, pages: usize)
+    /// Marks each kept slot from which one is reached that a change touches, or that is one of these. But for an overwrite,
+    /// the uses of kept slots are within this many pages. It takes no memory.
+    pub(crate) fn forget(&mut self, change: Change, pages: usize, also: &[u32])
         requires whole { IsWhole self.old }
         requires within { IsMove change → AreAllWithin pages self.old }
         requires idle { self.old.marks.work ≡ [] }
-        ensures forgets { Forgets (linked_of self.old) (linked_of self.new) change }
+        requires also_kept { All (λ s. is_kept self.old.marks.kept s ≡ true) also.now }
+        requires also_once { AllPairs (λ (a b : ℕ). a ≢ b) also.now }
+        ensures forgets { Forgets (linked_of self.old) (linked_of self.new) change also.now }
         ensures whole { IsWhole self.new }
         ensures near { IsNear change self.old self.new }
         ensures behind { IsBehind change pages self.old self.new }
@@ -234,6 +254,7 @@ impl Parts {
         ensures vacant { (s : ℕ) → is_kept self.old.marks.kept s ≡ false → row self.old.uses.rows s ≡ [] }
     {
         self.asks.linked();
+        self.mark_all(also);
         self.hit_touched(change, pages);
         self.spread();
     }

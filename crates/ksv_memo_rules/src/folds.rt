@@ -8,12 +8,13 @@ use std::alloc::{AllocError, Global};
 /// Nodes in an order that an engine can keep by numbers alone, from 0 on, once the first of all, their *root*, has its answer: it
 /// needs no slot for each.
 ///
-/// What is kept of a node follows from its number: its answer, and the use by which an edit takes it, unless the edit takes the root.
+/// What is kept of a node follows from its number: its answer, and the use by which an edit takes it, unless the edit takes the root or the earlier node
+/// that its entry names.
 pub trait Folds<N, V, F> {
     /// The sequence of the nodes.
     ghost fold: { Self → Fold N (Result V F) };
 
-    /// Each node comes once, and is kept by the root and one use at most.
+    /// Each node comes once, and is kept by one node, the root or an earlier one, and one use at most.
     ghost laid: { (nodes : Self) → IsLaid (fold nodes) };
 
     /// The root.
@@ -36,7 +37,7 @@ pub trait Folds<N, V, F> {
         requires { 0 < (fold self.now).size → place < (fold self.now).size }
         ensures { IfOk result (λ value. ((fold self.now).entry place).answer ≡ Ok value) };
 
-    /// The use by which an edit takes the node of a number, if there is one. Where there are no nodes, any number will do.
+    /// The use by which an edit takes the node of a number, if there is one, unless it takes what its entry names. Where there are no nodes, any number will do.
     fn used(&self, place: u32) -> Option<Use>
         requires { 0 < (fold self.now).size → place < (fold self.now).size }
         ensures { ((fold self.now).entry place).uses ≡ used_of result };
@@ -45,6 +46,11 @@ pub trait Folds<N, V, F> {
     fn left(&self, kept: u32, change: Change) -> u32
         requires { kept ≤ (fold self.now).size }
         ensures { Leaves (fold self.now) change kept result };
+
+    /// How many of the first nodes evaluation of the node of a number completes. Where there are no nodes, any number will do.
+    fn whole(&self, place: u32) -> u32
+        requires { 0 < (fold self.now).size → place < (fold self.now).size }
+        ensures { result ≡ (fold self.now).whole place };
 
     /// The calls of the rules that the nodes take from one of a number on, before one of another.
     fn calls(&self, from: u32, to: u32) -> u64
@@ -66,10 +72,10 @@ pub struct NoFold<N, V> {
 }
 
 impl<N, V, F> Folds<N, V, F> for NoFold<N, V> {
-    ghost use Rattle.std.specs.Prelude.{[], ◌∷◌, Ok};
+    ghost use Rattle.std.specs.Prelude.{[], ◌∷◌, None, Ok};
     ghost use Rattle.ksv_memo_rules.specs.Unfolded.{none_laid};
 
-    ghost fold = { λ nodes. record { root = nodes.root; size = 0; entry = λ j. record { node = nodes.root; answer = Ok nodes.value; asked = nodes.root ∷ []; uses = [] }; calls = λ j. 0 } };
+    ghost fold = { λ nodes. record { root = nodes.root; size = 0; entry = λ j. record { node = nodes.root; answer = Ok nodes.value; asked = nodes.root ∷ []; uses = [] }; prior = λ j. None; whole = λ j. 0; calls = λ j. 0 } };
 
     ghost laid = { λ nodes. none_laid nodes.root (Ok nodes.value) };
 
@@ -94,6 +100,10 @@ impl<N, V, F> Folds<N, V, F> for NoFold<N, V> {
     }
 
     fn left(&self, _kept: u32, _change: Change) -> u32 {
+        0
+    }
+
+    fn whole(&self, _place: u32) -> u32 {
         0
     }
 

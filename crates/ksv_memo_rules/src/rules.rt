@@ -1,7 +1,7 @@
 //! What rules are, and the laws that they obey.
 ghost use Rattle.std.specs.Prelude.{◌≡◌, ℕ, ◌++◌, List, [], true, Result, Ok, IfOk, IfSome, OnOk, OnErr};
 ghost use Rattle.ksv_memo_rules.specs.Evaluation.{tells};
-ghost use Rattle.ksv_memo_rules.specs.Folds.{IsFold};
+ghost use Rattle.ksv_memo_rules.specs.Folds.{AreTold, IsFold};
 ghost use Rattle.ksv_memo_rules.specs.Meaning.{on};
 ghost use Rattle.ksv_memo_rules.specs.Slots.{lent};
 
@@ -96,9 +96,17 @@ pub trait Rules {
     ) -> Result<Option<Self::Fold>, AllocError>
         ensures { IfOk result (λ found. IfSome found (λ nodes. (Self.Fold.fold nodes).root ≡ root.now)) };
 
-    /// How many of such nodes there are over these bytes, if their root has this value.
-    fn foldable(&self, nodes: &Self::Fold, value: &Self::Value, bytes: &Buffer) -> u32
-        ensures { (tells (on (meaning self.now) bytes.now) [] (Self.Fold.fold nodes.now).root).outcome ≡ Outcome.Answered (Ok value.now) → IsFold (on (meaning self.now) bytes.now) (Self.Fold.fold nodes.now) result };
+    /// How many of such nodes there are over these bytes, if their root has this value, and so many of the first are kept. It may look no farther than to the
+    /// node of a number.
+    fn foldable(
+        &self,
+        nodes: &Self::Fold,
+        value: &Self::Value,
+        bytes: &Buffer,
+        kept: u32,
+        sought: u32,
+    ) -> u32
+        ensures { (tells (on (meaning self.now) bytes.now) [] (Self.Fold.fold nodes.now).root).outcome ≡ Outcome.Answered (Ok value.now) → AreTold (on (meaning self.now) bytes.now) (Self.Fold.fold nodes.now) kept → IsFold (on (meaning self.now) bytes.now) (Self.Fold.fold nodes.now) result };
 
     /// Equal nodes are the same.
     ghost exact: { (a b : Self.Node) → Self.Node.eq a b ≡ true → a ≡ b };

@@ -3,7 +3,7 @@
 ghost use Rattle.std.specs.Prelude.{◌≡◌, ◌++◌, [], Ok, IfOk, IfSome, OnOk, OnErr};
 ghost use Rattle.ksv_desc.specs.Whole.{plain_pieces};
 ghost use Rattle.ksv_memo_rules.specs.Evaluation.{tells};
-ghost use Rattle.ksv_memo_rules.specs.Folds.{IsFold};
+ghost use Rattle.ksv_memo_rules.specs.Folds.{AreTold, IsFold};
 ghost use Rattle.ksv_memo_rules.specs.Meaning.{IsAddedTo, on};
 ghost use Rattle.ksv_memo_rules.specs.declared.rules.Outcome.TheVariants.{Answered};
 ghost use Rattle.ksv_nodes.specs.Exact.{node_exact};
@@ -42,9 +42,17 @@ pub trait NodeRules {
     ) -> Result<Option<Self::Fold>, AllocError>
         ensures { IfOk result (λ found. IfSome found (λ nodes. (Self.Fold.fold nodes).root ≡ root.now)) };
 
-    /// How many of such nodes there are over these bytes, if their root has this answer.
-    fn foldable(nodes: &Self::Fold, desc: &Desc, given: &Given, bytes: &Buffer) -> u32
-        ensures { (tells (on (described (plain_pieces desc.now)) bytes.now) [] (Self.Fold.fold nodes.now).root).outcome ≡ Answered (Ok given.now) → IsFold (on (described (plain_pieces desc.now)) bytes.now) (Self.Fold.fold nodes.now) result };
+    /// How many of such nodes there are over these bytes, if their root has this answer, and so many of the first are kept. It may look no farther than to the
+    /// node of a number.
+    fn foldable(
+        nodes: &Self::Fold,
+        desc: &Desc,
+        given: &Given,
+        bytes: &Buffer,
+        kept: u32,
+        sought: u32,
+    ) -> u32
+        ensures { (tells (on (described (plain_pieces desc.now)) bytes.now) [] (Self.Fold.fold nodes.now).root).outcome ≡ Answered (Ok given.now) → AreTold (on (described (plain_pieces desc.now)) bytes.now) (Self.Fold.fold nodes.now) kept → IsFold (on (described (plain_pieces desc.now)) bytes.now) (Self.Fold.fold nodes.now) result };
 }
 
 /// The rules of a description: what each node of a file that it describes asks and answers, run by the code of `N`.
@@ -156,8 +164,15 @@ impl<N: NodeRules> Rules for Described<N> {
         N::fold(alloc, &self.desc, root, value, bytes)
     }
 
-    fn foldable(&self, nodes: &N::Fold, value: &Given, bytes: &Buffer) -> u32 {
-        N::foldable(nodes, &self.desc, value, bytes)
+    fn foldable(
+        &self,
+        nodes: &N::Fold,
+        value: &Given,
+        bytes: &Buffer,
+        kept: u32,
+        sought: u32,
+    ) -> u32 {
+        N::foldable(nodes, &self.desc, value, bytes, kept, sought)
     }
 
     ghost exact = { node_exact };

@@ -69,7 +69,14 @@ impl NodeRules for DescriptionRules {
         PlainList::of(alloc, desc, root, given, bytes)
     }
 
-    fn foldable(nodes: &PlainList, desc: &Desc, given: &Given, bytes: &Buffer) -> u32 {
+    fn foldable(
+        nodes: &PlainList,
+        desc: &Desc,
+        given: &Given,
+        bytes: &Buffer,
+        _kept: u32,
+        _sought: u32,
+    ) -> u32 {
         nodes.count(desc, given, bytes)
     }
 }

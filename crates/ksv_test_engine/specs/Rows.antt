@@ -152,7 +152,7 @@ range_get bytes place lt =
 absent : (bytes : List ℕ) (place : ℕ) → slice_get bytes place ≡ None → length bytes ≤ place
 absent bytes place e = elim (cases_lt place (length bytes)) [ inl lt ↦ (let there : slice_get bytes place ≡ Some (get_or bytes place 0) = slice_get-get_or bytes place 0 lt in absurd (cc)) | inr le ↦ le ]
 
-read_same : (bytes others : List ℕ) (place : ℕ) (o : Option ℕ) → slice_get bytes place ≡ o → AllByRecursion (AgreeOn bytes others) (read_uses place o) → slice_get others place ≡ o
+pub read_same : (bytes others : List ℕ) (place : ℕ) (o : Option ℕ) → slice_get bytes place ≡ o → AllByRecursion (AgreeOn bytes others) (read_uses place o) → slice_get others place ≡ o
 read_same bytes others place None e agree =
     let same : length others ≡ length bytes = agree.0 in
     let le : length bytes ≤ place = absent bytes place e in
@@ -188,7 +188,7 @@ uses_same bytes others [] (Some (Named place)) agree = ap (read_uses place) (rea
 uses_same bytes others (reply ∷ replies) (Some (Named place)) agree = refl
 uses_same bytes others replies (Some (Reaching place)) agree = ap (reach_uses place) (reach_same bytes others place (nat_le place (length bytes)) refl agree)
 
-read_can : (bytes : List ℕ) (place : ℕ) (o : Option ℕ) → slice_get bytes place ≡ o → AllByRecursion (CanUse bytes) (read_uses place o)
+pub read_can : (bytes : List ℕ) (place : ℕ) (o : Option ℕ) → slice_get bytes place ≡ o → AllByRecursion (CanUse bytes) (read_uses place o)
 read_can bytes place None e = (tt, tt)
 read_can bytes place (Some b) e = let lt : place < length bytes = slice_get_within bytes place b e in ((omega arith, omega arith), tt)
 

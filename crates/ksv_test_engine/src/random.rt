@@ -10,6 +10,7 @@ ghost use Rattle.ksv_memo_rules.specs.Right.{IsRight};
 ghost use Rattle.ksv_test_engine.specs.Rows.{rows_meaning};
 
 use crate::edits::{append, delete, insert, new_engine, overwrite};
+use crate::numbers::Random;
 use crate::plain::{Plain, answers, row};
 use crate::samples::row::Row;
 use crate::samples::rows::Rows;
@@ -17,28 +18,6 @@ use ksv_bytes::{Buffer, Window};
 use ksv_memo::Engine;
 use std::alloc::{AllocError, Global};
 use std::test::Fail;
-
-/// Numbers that look random, by Marsaglia's xorshift.
-#[derive(Drop)]
-struct Random {
-    state: u64,
-}
-
-impl Random {
-    fn next(&mut self) -> u64 {
-        self.state ^= self.state << 13;
-        self.state ^= self.state >> 7;
-        self.state ^= self.state << 17;
-        self.state
-    }
-
-    fn below(&mut self, bound: u8) -> u8
-        requires { 0 < bound }
-        ensures { result < bound }
-    {
-        (self.next() % u64::from(bound)) as u8
-    }
-}
 
 /// The sum of up to three rows below a number.
 fn random_sum(alloc: Global, random: &mut Random, bound: u8) -> Result<Row, AllocError>
@@ -217,9 +196,7 @@ fn random_round(alloc: Global, round: u8, random: &mut Random) -> Result<bool, F
 
 #[test]
 fn answers_random_questions_between_edits_as_from_nothing(rt: HostRuntime) -> Result<(), Fail> {
-    let mut random = Random {
-        state: 88_172_645_463_325_252,
-    };
+    let mut random = Random::new();
     for round in 0..150 {
         let is_same = random_round(rt.alloc(), round, &mut random)?;
         assert!(rt; is_same, "round {round}");
@@ -395,9 +372,7 @@ fn random_overwrites(alloc: Global, random: &mut Random) -> Result<bool, Fail> {
 
 #[test]
 fn forgets_at_random_overwrites_what_a_plain_pass_does(rt: HostRuntime) -> Result<(), Fail> {
-    let mut random = Random {
-        state: 88_172_645_463_325_252,
-    };
+    let mut random = Random::new();
     for round in 0..10_000 {
         let is_right = random_overwrites(rt.alloc(), &mut random)?;
         assert!(rt; is_right, "round {round}");

@@ -138,7 +138,14 @@ impl Rules for Leaves {
     }
 
     #[tactic(auto, using(ksv_memo::proofs::Unfolded::no_fold))]
-    fn foldable(&self, _nodes: &NoFold<Link, u32>, _value: &u32, _bytes: &Buffer) -> u32 {
+    fn foldable(
+        &self,
+        _nodes: &NoFold<Link, u32>,
+        _value: &u32,
+        _bytes: &Buffer,
+        _kept: u32,
+        _sought: u32,
+    ) -> u32 {
         0
     }
 

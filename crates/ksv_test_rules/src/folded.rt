@@ -47,6 +47,8 @@ impl NodeRules for Slotted {
         _desc: &Desc,
         _given: &Given,
         _bytes: &Buffer,
+        _kept: u32,
+        _sought: u32,
     ) -> u32 {
         0
     }

@@ -110,4 +110,4 @@ module _ (p : PlainList) where
 
 -- the sequence of a list is laid out so
 pub sequence_laid : (p : PlainList) → IsLaid (fold_of p)
-sequence_laid p = record { once = once p; apart = apart p; named = λ j. refl }
+sequence_laid p = record { once = once p; apart = apart p; named = λ j. refl; earlier = λ j low. tt; whole = λ j low. (omega arith, omega arith) }

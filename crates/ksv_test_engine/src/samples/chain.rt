@@ -16,7 +16,7 @@ use std::alloc::{AllocError, Global};
 pub struct Chain;
 
 /// The link before another than link 0.
-fn link_before(link: Link) -> Link
+pub(crate) fn link_before(link: Link) -> Link
     requires { 0 < link.number }
     ensures { result ≡ spec.link_before link }
 {
@@ -90,7 +90,14 @@ impl Rules for Chain {
     }
 
     #[tactic(auto, using(ksv_memo::proofs::Unfolded::no_fold))]
-    fn foldable(&self, _nodes: &NoFold<Link, u32>, _value: &u32, _bytes: &Buffer) -> u32 {
+    fn foldable(
+        &self,
+        _nodes: &NoFold<Link, u32>,
+        _value: &u32,
+        _bytes: &Buffer,
+        _kept: u32,
+        _sought: u32,
+    ) -> u32 {
         0
     }
 

@@ -48,7 +48,7 @@ fn summed(numbers: &[RowNumber], replies: &Replies<u32, Missing>) -> Next<RowNum
 }
 
 /// The byte at a place.
-fn byte_at(bytes: &Buffer, place: u32) -> Option<u8>
+pub(crate) fn byte_at(bytes: &Buffer, place: u32) -> Option<u8>
     ensures value { result ≡ slice_get bytes.now place }
     ensures within { IsSome result → place < file_limit }
 {
@@ -195,7 +195,14 @@ impl Rules for Rows {
     }
 
     #[tactic(auto, using(ksv_memo::proofs::Unfolded::no_fold))]
-    fn foldable(&self, _nodes: &NoFold<RowNumber, u32>, _value: &u32, _bytes: &Buffer) -> u32 {
+    fn foldable(
+        &self,
+        _nodes: &NoFold<RowNumber, u32>,
+        _value: &u32,
+        _bytes: &Buffer,
+        _kept: u32,
+        _sought: u32,
+    ) -> u32 {
         0
     }
 

@@ -18,7 +18,7 @@ returns-in_err-is_heard-clause-run g c =
     c.in_err-is_heard.ensures.err).0
 
 -- it is
-abbrev last : (g : Given.Over) (c : After-max-run g) → Run g.row.R-Fold.Denot
+abbrev last : (g : Given.Over) (c : After-max-run g) → Run g.row.R-Node.Denot g.row.R-Fold.Denot
 last g c = record {
   nodes = c.keep_beside.new.run.nodes;
   kept = c.args.place + 1;

@@ -10,7 +10,7 @@ pub grow_run-requires-clause-run : goal.grow_run-requires-clause-run
 grow_run-requires-clause-run g c =
     let eq = g.R.Node.PartialEq.eq in
     let fold = g.R.Fold.Folds.fold in
-    let Far = λ (r : Run g.row.R-Fold.Denot) (t : Nodes _ _). IsRun eq (fold r.nodes) r.kept r.far r.far r.lent.items t.kept t.opened in
+    let Far = λ (r : Run g.row.R-Node.Denot g.row.R-Fold.Denot) (t : Nodes _ _). IsRun eq (fold r.nodes) r.kept r.far r.far r.lent.items t.kept t.opened in
     elim c.if-run.branch [
       | then-run w ↦
           let none = ap (λ (t : Nodes _ _). t.opened) w.widen.ensures.seen ∙ w.retell.ensures.opened in

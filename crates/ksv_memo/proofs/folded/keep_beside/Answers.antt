@@ -1,6 +1,8 @@
-use Rattle.ksv_memo.proofs.Common.{◌∙◌, ap, refl, nodes, ◌++◌, ◌∷◌, []}
-use Rattle.ksv_memo.proofs.Lending.{loses-first}
-use Rattle.ksv_memo.proofs.Turns.{on_err_always}
+use Rattle.ksv_memo.proofs.Common.{◌∙◌, ap, sym, subst, nodes}
+use Rattle.ksv_memo.specs.Folding.{lending}
+use Rattle.ksv_memo.specs.Lending.{dropped_last}
+use Rattle.ksv_memo.specs.Nodes.{KeepsNode}
+use Rattle.ksv_memo.proofs.Lending.{drops-end, loses-first}
 use Rattle.ksv_memo.proofs.folded.keep_beside.Goals as goal
 
 -- memory is refused for its number
@@ -8,20 +10,19 @@ pub returns-in-Err-clause-err : goal.returns-in-Err-clause-err
 returns-in-Err-clause-err g c =
     loses-first c.abandon.result (nodes c.args.table.now) (nodes c.abandon.new.self) c.requires.there c.abandon.ensures.rest c.abandon.ensures.kept
 
-pub returns-in-Err-clause-same : goal.returns-in-Err-clause-same
-returns-in-Err-clause-same g c = record { nodes = refl; kept = refl; wild = refl; far = refl; lent = c.reserve.ensures.items }
+pub close_folded-requires-clause-root : goal.close_folded-requires-clause-root
+close_folded-requires-clause-root g c =
+    subst (λ ns. KeepsNode g.R.Node.PartialEq.eq c.args.table.now.kept (g.R.Fold.Folds.fold ns).root) (sym c.in-Ok.ensures.ok.nodes) c.requires.root
 
 -- it isn't kept
-pub returns-in_err-is_heard-clause-same : goal.returns-in_err-is_heard-clause-same
-returns-in_err-is_heard-clause-same g c =
-    on_err_always c.from_residual.result (record { nodes = refl; kept = refl; wild = refl; far = refl; lent = c.reserve.ensures.items })
-
--- it is
-pub returns-clause-lent : goal.returns-clause-lent
-returns-clause-lent g c = record {
-  nodes = refl;
-  kept = refl;
-  wild = refl;
-  far = refl;
-  lent = c.push_reserved.ensures.items ∙ ap (λ xs. xs ++ c.args.place ∷ []) c.reserve.ensures.items;
-}
+pub returns-in-Err-close_folded-clause-same : goal.returns-in-Err-close_folded-clause-same
+returns-in-Err-close_folded-clause-same g c =
+    let listed = c.in-Ok.ensures.ok in
+    record {
+      nodes = listed.nodes;
+      kept = listed.kept;
+      wild = listed.wild;
+      far = listed.far;
+      lent = c.drop_last.ensures ∙ ap dropped_last listed.lent
+          ∙ drops-end c.args.run.now.lent.items (lending (g.R.Fold.Folds.fold c.args.run.now.nodes) c.args.place);
+    }

@@ -1,7 +1,7 @@
 use Rattle.ksv_memo.proofs.Common.{ℕ, List, Result, sym, subst, nodes}
 use Rattle.ksv_memo.specs.Nodes.{Nodes}
 use Rattle.ksv_memo.specs.Folding.{IsRun}
-use Rattle.ksv_memo.proofs.Absorbing.{far-run, next-is, right-next, told-now}
+use Rattle.ksv_memo.proofs.Absorbing.{far-run, first-now, next-is, right-next, told-now}
 use Rattle.ksv_memo.proofs.Taking.{Asking, asking}
 use Rattle.ksv_memo.proofs.folded.next_open.Given
 use Rattle.ksv_memo.proofs.folded.next_open.Goals as goal
@@ -15,15 +15,17 @@ pub returns-then-place-count-clause-some : goal.returns-then-place-count-clause-
 returns-then-place-count-clause-some g c =
     let q = asks g c.args.rules.now c.args.bytes.now in
     let told = told-now q g.R.Fold.Folds.fold c.args.run.now (nodes c.args.table.now) c.requires.run c.args.answer.now c.requires.reached in
+    let first = first-now q g.R.Fold.Folds.fold c.args.run.now (nodes c.args.table.now) c.requires.run c.args.answer.now c.requires.reached in
     next-is q g.R.Fold.Folds.fold c.args.run.now (nodes c.args.table.now) c.requires.run c.args.answer.now c.requires.reached c.in_ok-place.place
-    c.in_ok-place.ensures.some c.foldable-count.result c.if-place-run.true c.if-run.false (c.foldable-count.ensures.fold told) c.if-place-count.true
+    c.in_ok-place.ensures.some c.foldable-count.result c.if-place-run.true c.if-run.false (c.foldable-count.ensures.fold told first) c.if-place-count.true
 
 pub returns-then-place-count-clause-right : goal.returns-then-place-count-clause-right
 returns-then-place-count-clause-right g c =
     let q = asks g c.args.rules.now c.args.bytes.now in
     let told = told-now q g.R.Fold.Folds.fold c.args.run.now (nodes c.args.table.now) c.requires.run c.args.answer.now c.requires.reached in
+    let first = first-now q g.R.Fold.Folds.fold c.args.run.now (nodes c.args.table.now) c.requires.run c.args.answer.now c.requires.reached in
     right-next q g.R.Fold.Folds.fold c.args.run.now (nodes c.args.table.now) c.requires.run c.args.answer.now c.requires.reached c.in_ok-place.place
-    c.in_ok-place.ensures.some c.foldable-count.result c.if-place-run.true c.if-run.false (c.foldable-count.ensures.fold told) c.if-place-count.true
+    c.in_ok-place.ensures.some c.foldable-count.result c.if-place-run.true c.if-run.false (c.foldable-count.ensures.fold told first) c.if-place-count.true
 
 -- it isn't, and may have a slot
 pub returns-clause-run : goal.returns-clause-run

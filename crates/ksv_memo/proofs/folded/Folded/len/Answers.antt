@@ -11,7 +11,7 @@ overflow_sub-result g c =
     let fold = g.R.Fold.Folds.fold in
     let is = subst (λ r. IsFolding eq fold r (nodes t)) c.in-Some.is c.self.invariant in
     let few = few-lent eq g.met.R.Node.Eq.laws g.met.R.Rules.exact (fold run.nodes) run.kept run.wild run.far run.lent.items t.opened t.kept is in
-    let lent = ap length c.as_slice.ensures.value in
+    let lent = c.len-in-Some-2.ensures in
     let all = c.len-in-Some.ensures.len in
     omega arith
 
@@ -31,6 +31,6 @@ returns-in-Some g c =
     let whole = view-length eq g.met.R.Node.Eq.laws g.met.R.Rules.exact (fold run.nodes) run.kept run.wild run.far run.lent.items t.opened t.kept is in
     let view = subst (λ r. (viewed eq fold r t) ≡ c.args.self.now) c.in-Some.is c.self.view_is in
     let seen = ap (λ v. length v.kept) view in
-    let lent = ap length c.as_slice.ensures.value in
+    let lent = c.len-in-Some-2.ensures in
     let all = c.len-in-Some.ensures.len in
     omega arith

@@ -8,7 +8,7 @@ use Rattle.ksv_memo.proofs.table.Table.foldable.Goals.{in-Kept, in_default}
 use Rattle.ksv_memo.proofs.table.Table.foldable.Goals as goal
 
 pub returns-clause-fold : goal.returns-clause-fold
-returns-clause-fold g c right =
+returns-clause-fold g c right first =
     let w = on (g.R.Rules.meaning c.args.rules.now) c.args.bytes.now in
     let f = g.R.Fold.Folds.fold c.args.folded.now in
     let eq = g.R.Node.PartialEq.eq in
@@ -20,7 +20,8 @@ returns-clause-fold g c right =
           let one = found eq ps c.self.inside.links c.self.inside.frames laid.kept laid.waits c.root.result.now (g.met.R.Node.Eq.laws.refl c.root.result.now)
           k.in-Kept.place k.in-Kept.ensures.knows in
           tells_fold w eq g.met.R.Rules.exact f c.args.self.now.kept right c.root.result.now one.entry
-          (subst (λ v. IsEntry eq v.kept c.root.result.now one.entry) view one.is) c.root.ensures c.match-find.result
-          (subst (λ n. TellsFold w f n c.match-find.result) one.answer (subst (TellsFold w f _) (sym k.result-is) k.foldable_at.ensures))
+          (subst (λ v. IsEntry eq v.kept c.root.result.now one.entry) view one.is) c.root.ensures c.args.kept c.match-find.result
+          (subst (λ n. TellsFold w f n c.args.kept c.match-find.result) one.answer
+          (subst (TellsFold w f _ c.args.kept) (sym k.result-is) k.foldable_at.ensures)) first
       | in_default k ↦ subst (IsFold w f) (sym k.result-is) (no_fold w f)
     ]

@@ -1,0 +1,7 @@
+use Rattle.ksv_memo_rules.specs.Meaning.{on}
+use Rattle.ksv_memo_rules.specs.Right.{IsRight}
+use Rattle.ksv_test_engine.specs.Sums.{sums_meaning}
+use Rattle.ksv_test_engine.proofs.summed.unlike.Given as goal
+
+abbrev pub invariant-loop-number : goal.invariant-loop-number
+invariant-loop-number l = (IsRight (on sums_meaning l.bytes) l.first.kept) × (IsRight (on sums_meaning l.bytes) l.second.kept)
