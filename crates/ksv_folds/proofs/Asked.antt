@@ -1,23 +1,27 @@
 -- What the nodes of a plain list ask, by their numbers: the list, or earlier ones, and among them the one before.
-use Rattle.std.proofs.Common.{◌*◌, ◌==◌, ◌≢◌, ◌≤◌, nat_le, Bool, true, false, if◌then◌else◌}
+use Rattle.std.proofs.Common.{◌==◌, ◌≢◌, ◌≤◌, nat_le, Bool, true, false, if◌then◌else◌}
 use Rattle.std.proofs.lemmas.Bool.Decides.{nat_tests}
-use Rattle.std.proofs.Math.Nat.{mul-suc, mul-zero}
+use Rattle.std.proofs.Math.Nat.{mul-zero}
 use Rattle.ksv_list_laws.proofs.Common.{◌≡◌, ◌∙◌, ℕ, zero, suc, ◌+◌, ◌-◌, ◌<◌, List, [], ◌∷◌, length, Option, Some, None, refl, sym, ap, subst, arith}
-use Rattle.ksv_list_laws.proofs.Common.{inl, inr, AllByRecursion, Description, Listing, Which, asked_by, node_at, nodes_of, IsPlain, with_first, size_at}
+use Rattle.ksv_list_laws.proofs.Common.{inl, inr, ◌⊎◌, AllByRecursion, Description, Listing, Which, asked_by, node_at, nodes_of, IsPlain, with_first, size_at}
 use Rattle.ksv_list_laws.proofs.Rising.{AnyOf}
 use Rattle.ksv_list_laws.specs.Nodes as nodes
-use Rattle.ksv_folds.specs.Lemmas.Numbers.{prior_in}
-use Rattle.ksv_folds.specs.Lemmas.Spots.{prior, index_low}
-use Rattle.ksv_folds.proofs.Laid.{fields_are}
+use Rattle.ksv_folds.specs.Lemmas.Numbers.{either, fields_some, prior_by, prior_in, index_low, head_number, head_first, next_end, next_field, before_end}
+use Rattle.ksv_folds.specs.Lemmas.Numbers.{head_end}
+use Rattle.ksv_folds.specs.Lemmas.Numbers.{end_head, value_number, last_number}
+use Rattle.ksv_folds.specs.Lemmas.Spots as spots
+use Rattle.ksv_folds.specs.Lemmas.Values as values
+use Rattle.ksv_folds.proofs.Laid.{fields_are, sized_is, sizer_is, sized}
 use Rattle.ksv_folds.proofs.Told.{which, which_of, IsTold, IsOne, IsKnown, found}
 use Rattle.ksv_folds.specs.Laws.{IsField, IsElement, Describes}
-use Rattle.ksv_folds.specs.Sequence.{index, number_of, last_asked, asks_of, rest_asks, asks_in}
+use Rattle.ksv_folds.specs.Sequence.{says_sizes, sizer, index_of, number_of, asked_before, last_asked, size_asked, asks_of, rest_asks, asks_in, spot_whole}
+use Rattle.ksv_folds.specs.Sequence.{whole_in}
 use Rattle.ksv_folds.specs.declared.part.Part.{Part}
 use Rattle.ksv_folds.specs.declared.plain_list.PlainList.{PlainList}
 use Rattle.ksv_folds.specs.declared.spot.Numbered.{Numbered}
 use Rattle.ksv_folds.specs.declared.spot.Numbered.TheVariants.{Of, Rest}
 use Rattle.ksv_folds.specs.declared.spot.Spot.{Spot}
-use Rattle.ksv_folds.specs.declared.spot.Spot.TheVariants.{ElementHead, ElementEnd, FieldHead, FieldEnd}
+use Rattle.ksv_folds.specs.declared.spot.Spot.TheVariants.{ElementHead, ElementEnd, FieldHead, FieldEnd, Value}
 
 module _ (p : PlainList) (d : Description) (bytes : List ℕ) (x : Listing) (plain : IsPlain d bytes x) (is : Describes p x) (m : ℕ) (told : IsTold p bytes x m)
   where
@@ -35,39 +39,100 @@ module _ (p : PlainList) (d : Description) (bytes : List ℕ) (x : Listing) (pla
     IsEarlier n None = Unit {0}
     IsEarlier n (Some k) = (s : Numbered) × (which_of s ≡ k) × Known s × (number_of p s < n)
 
-    -- how many fields there are
-    last_field : (i : ℕ) → i < m → (o : Option ℕ) → p.type_number ≡ o → IsElement x.layout o p.size ps
-        → AllByRecursion (IsEarlier (p.per * i + (p.per - 1))) (nodes.last_asked o i x.layout.last)
-    last_field i low None e h = (tt, tt)
-    last_field i low (Some t) e h =
-        let all = h.0 in
-        let wide = p.width in
+    -- ---- the sizes of fields
+
+    -- a field's size is known, or it is the last one, and the value says it
+    abbrev IsSaid : ℕ → Type 0
+    IsSaid f = (says_sizes p ≡ true) × (suc f ≡ length ps) × (size_at x.layout f ≡ None) × (size_asked (says_sizes p) (length ps) f ≡ 1)
+
+    abbrev HasSize : ℕ → Type 0
+    HasSize f = (n : ℕ) × (size_at x.layout f ≡ Some n) × (size_asked (says_sizes p) (length ps) f ≡ 0)
+
+    said_or_known : (f : ℕ) → f < length ps → HasSize f ⊎ IsSaid f
+    said_or_known f few = by (says_sizes p) refl
+      where
+        k : ℕ
+        k = length ps
+
+        last : says_sizes p ≡ true → (b : Bool) → (suc f == length ps) ≡ b → HasSize f ⊎ IsSaid f
+        last e true h =
+            let z = sized_is p x is e in
+            let all = z.count in
+            let end : suc f ≡ length ps = grind (arith, nat_tests) in
+            let same : f ≡ x.layout.last = omega (arith, all, end) in
+            inr (e, end, ap (size_at x.layout) same ∙ z.unsized, ap (λ b. size_asked b (length ps) f) e ∙ ap (λ b. if b then 1 else 0) h)
+        last e false h =
+            let z = sized_is p x is e in
+            let all = z.count in
+            let other : suc f ≢ length ps = grind (arith, nat_tests) in
+            let one = z.each f (omega (arith, all, other, few)) in
+            inl (IsField.bytes one, IsField.size one, ap (λ b. size_asked b (length ps) f) e ∙ ap (λ b. if b then 1 else 0) h)
+
+        by : (b : Bool) → says_sizes p ≡ b → HasSize f ⊎ IsSaid f
+        by false e =
+            let all = (fields_are p x is f few).3 in
+            let z = sized p x is e f (omega (arith, few, all)) in inl (z.0, z.1, ap (λ b. size_asked b (length ps) f) e)
+        by true e = last e (suc f == length ps) refl
+
+    -- ---- earlier ones
+
+    last_earlier : (i : ℕ) → i < m → length ps ≡ suc x.layout.last
+        → AllByRecursion (IsEarlier (index_of p (ElementEnd i))) (Some (nodes.FieldEnd i x.layout.last) ∷ (None ∷ []))
+    last_earlier i low all =
         let last : x.layout.last < length ps = omega (arith, all) in
-        ((Of (FieldEnd i x.layout.last), refl, (low, last), omega (arith, all, wide)), (tt, tt))
+        ((Of (FieldEnd i x.layout.last), refl, (low, last), before_end p i x.layout.last last), (tt, tt))
 
-    -- the sizes of fields are known, so a field asks for none
-    unsized : (i f : ℕ) → f < length ps → nodes.prior_field i f (nodes.size_asked i (size_at x.layout f)) ≡ nodes.prior_field i f []
-    unsized i f few = ap (λ o. nodes.prior_field i f (nodes.size_asked i o)) (IsField.size (fields_are p x is f few).4)
+    size_earlier : (i f : ℕ) → i < m → f < length ps → AllByRecursion (IsEarlier (index_of p (FieldHead i f))) (nodes.size_asked i (size_at x.layout f))
+    size_earlier i f low few = elim (said_or_known f few) [
+      | inl z ↦ known z
+      | inr z ↦ said z
+    ]
+      where
+        known : HasSize f → AllByRecursion (IsEarlier (index_of p (FieldHead i f))) (nodes.size_asked i (size_at x.layout f))
+        known z = subst (λ o. AllByRecursion (IsEarlier (index_of p (FieldHead i f))) (nodes.size_asked i o)) (sym z.1) tt
 
-    prior_earlier : (i f : ℕ) → i < m → f < length ps → AllByRecursion (IsEarlier (p.per * i + (2 * f + 1))) (nodes.prior_field i f [])
-    prior_earlier i zero low few = tt
-    prior_earlier i (suc f) low few = ((Of (FieldEnd i f), refl, (low, omega (arith, few)), omega arith), tt)
+        said : IsSaid f → AllByRecursion (IsEarlier (index_of p (FieldHead i f))) (nodes.size_asked i (size_at x.layout f))
+        said z =
+            let next = last_number p i f z.0 z.1 in
+            subst (λ o. AllByRecursion (IsEarlier (index_of p (FieldHead i f))) (nodes.size_asked i o)) (sym z.2)
+            ((Of (Value i), refl, (low, z.0), omega (arith, next)), tt)
 
-    spot_earlier : (s : Spot) → One s → AllByRecursion (IsEarlier (index p.per s)) (asked_by x (which s))
+    prior_earlier : (i f : ℕ) (ks : List (Option Which)) → i < m → f < length ps → AllByRecursion (IsEarlier (index_of p (FieldHead i f))) ks
+        → AllByRecursion (IsEarlier (index_of p (FieldHead i f))) (nodes.prior_field i f ks)
+    prior_earlier i zero ks low few h = h
+    prior_earlier i (suc f) ks low few h = ((Of (FieldEnd i f), refl, (low, omega (arith, few)), next_field p i f few), h)
+
+    last_field : (i : ℕ) → i < m → (o : Option ℕ) (b : Bool) → IsElement x.layout o b p.size ps
+        → AllByRecursion (IsEarlier (index_of p (ElementEnd i))) (nodes.last_asked o i x.layout.last)
+    last_field i low None b h = (tt, tt)
+    last_field i low (Some t) false h = last_earlier i low h.0
+    last_field i low (Some t) true h = last_earlier i low h.count
+
+    spot_earlier : (s : Spot) → One s → AllByRecursion (IsEarlier (index_of p s)) (asked_by x (which s))
     spot_earlier (ElementHead zero) low = (tt, tt)
     spot_earlier (ElementHead (suc i)) low =
-        let more = mul-suc p.per i in let wide = p.width in (tt, ((Of (ElementEnd i), refl, omega (arith, low), omega (arith, more, wide)), tt))
-    spot_earlier (ElementEnd i) low =
-        let wide = p.width in (
-          (Of (ElementHead i), refl, low, omega (arith, wide)),
-          subst (λ o. AllByRecursion (IsEarlier (p.per * i + (p.per - 1))) (nodes.last_asked o i x.layout.last)) (sym is.kind)
-              (last_field i low p.type_number refl is.element),
-        )
-    spot_earlier (FieldHead i f) low = (
-      (Of (ElementHead i), refl, low.0, omega arith),
-      subst (AllByRecursion (IsEarlier (p.per * i + (2 * f + 1)))) (sym (unsized i f low.1)) (prior_earlier i f low.0 low.1),
+        let less = end_head p i in (tt, ((Of (ElementEnd i), refl, omega (arith, low), omega (arith, less)), tt))
+    spot_earlier (ElementEnd i) low = (
+      (Of (ElementHead i), refl, low, head_end p i),
+      subst (λ o. AllByRecursion (IsEarlier (index_of p (ElementEnd i))) (nodes.last_asked o i x.layout.last)) (sym is.kind)
+          (last_field i low p.type_number (says_sizes p) is.element),
     )
-    spot_earlier (FieldEnd i f) low = ((Of (FieldHead i f), refl, low, omega arith), tt)
+    spot_earlier (FieldHead i f) low = (
+      (Of (ElementHead i), refl, low.0, head_first p i f),
+      prior_earlier i f (nodes.size_asked i (size_at x.layout f)) low.0 low.1 (size_earlier i f low.0 low.1),
+    )
+    spot_earlier (FieldEnd i f) low = ((Of (FieldHead i f), refl, low, next_end p i f), tt)
+    spot_earlier (Value i) low =
+        let few = (fields_some p low.1).0 in
+        let next = value_number p i low.1 in (
+          (
+            Of (FieldHead i (sizer p)),
+            ap (nodes.FieldHead i) (sym (sizer_is p x is low.1)),
+            (low.0, omega (arith, few)),
+            omega (arith, next),
+          ),
+          tt,
+        )
 
     -- a rest asks the end of its element, and the next rest
     next_earlier : (i : ℕ) → Known (Rest i) → AllByRecursion (IsEarlier (number_of p (Rest i))) (nodes.later_asked x.count i)
@@ -84,7 +149,7 @@ module _ (p : PlainList) (d : Description) (bytes : List ℕ) (x : Listing) (pla
     end_earlier i low =
         let some = low.0 in
         let full = low.1 in
-        let less = index_low (length ps) p.per p.width p.most (ElementEnd i) some in
+        let less = index_low p p.most (ElementEnd i) some in
         (Of (ElementEnd i), refl, omega (arith, some, full), omega (arith, less))
 
     rest_earlier : (i : ℕ) → Known (Rest i) → AllByRecursion (IsEarlier (number_of p (Rest i))) (asked_by x (nodes.Rest i))
@@ -108,19 +173,34 @@ module _ (p : PlainList) (d : Description) (bytes : List ℕ) (x : Listing) (pla
     spot_count : (s : Spot) → One s → length (asked_by x (which s)) ≡ asks_of p s
     spot_count (ElementHead zero) low = refl
     spot_count (ElementHead (suc i)) low = refl
-    spot_count (ElementEnd i) low = ap (λ o. suc (length (nodes.last_asked o i x.layout.last))) is.kind ∙ by p.type_number ps is.element refl
+    spot_count (ElementEnd i) low = ap (λ o. suc (length (nodes.last_asked o i x.layout.last))) is.kind ∙ by p.type_number (says_sizes p) ps is.element refl
       where
-        by : (o : Option ℕ) (qs : List Part) → IsElement x.layout o p.size ps → ps ≡ qs → suc (length (nodes.last_asked o i x.layout.last)) ≡ 1 + last_asked qs
-        by None [] h e = refl
-        by None (q ∷ qs) h e = absurd (let none = h.1 in let some = ap length e in omega (arith, none, some))
-        by (Some t) [] h e = absurd (let none = h.0 in let some = ap length e in omega (arith, none, some))
-        by (Some t) (q ∷ qs) h e = refl
-    spot_count (FieldHead i f) low = ap (λ ks. suc (length ks)) (unsized i f low.1) ∙ by f
+        by : (o : Option ℕ) (b : Bool) (qs : List Part) → IsElement x.layout o b p.size ps → ps ≡ qs
+            → suc (length (nodes.last_asked o i x.layout.last)) ≡ 1 + last_asked qs
+        by None b [] h e = refl
+        by None b (q ∷ qs) h e = absurd (let none = h.1 in let some = ap length e in omega (arith, none, some))
+        by (Some t) false [] h e = absurd (let none = h.0 in let some = ap length e in omega (arith, none, some))
+        by (Some t) true [] h e = absurd (let none = h.count in let some = ap length e in omega (arith, none, some))
+        by (Some t) b (q ∷ qs) h e = refl
+    spot_count (FieldHead i f) low = elim (said_or_known f low.1) [
+      | inl z ↦ known z
+      | inr z ↦ said z
+    ]
       where
-        by : (g : ℕ) → suc (length (nodes.prior_field i g [])) ≡ asks_of p (FieldHead i g)
-        by zero = refl
-        by (suc g) = refl
+        by : (g : ℕ) (ks : List (Option Which)) → suc (length (nodes.prior_field i g ks)) ≡ 1 + asked_before g + length ks
+        by zero ks = omega arith
+        by (suc g) ks = omega arith
+
+        known : HasSize f → length (asked_by x (nodes.FieldHead i f)) ≡ asks_of p (FieldHead i f)
+        known z =
+            ap (λ o. suc (length (nodes.prior_field i f (nodes.size_asked i o)))) z.1 ∙ by f [] ∙ ap (λ n. 1 + asked_before f + n) (sym z.2)
+
+        said : IsSaid f → length (asked_by x (nodes.FieldHead i f)) ≡ asks_of p (FieldHead i f)
+        said z =
+            ap (λ o. suc (length (nodes.prior_field i f (nodes.size_asked i o)))) z.2 ∙ by f (Some (nodes.SizeValue i) ∷ [])
+            ∙ ap (λ n. 1 + asked_before f + n) (sym z.3)
     spot_count (FieldEnd i f) low = refl
+    spot_count (Value i) low = refl
 
     later_count : (i : ℕ) → Known (Rest i) → length (nodes.later_asked x.count i) ≡ (if i + 1 == p.most then 0 else 1)
     later_count i low = by (nat_le x.count (suc i)) refl (i + 1 == p.most) refl
@@ -152,24 +232,96 @@ module _ (p : PlainList) (d : Description) (bytes : List ℕ) (x : Listing) (pla
 
     -- ---- the one before
 
+    abbrev pub Asks : Numbered → Numbered → Type 0
+    Asks t s = AnyOf (λ o. o ≡ Some (which_of t)) (asked_by x (which_of s))
+
+    -- Of the nodes before one, it asks the last, and that one completes all others; or it is a value, and asks its field's head; or it is the head of the last
+    -- field, and asks the value, and the end of the field that has it.
+    pub data IsBehind (s : Numbered) : Type 0 where
+      next : (t : Numbered) → prior_in p s ≡ t → Asks t s → ((j : ℕ) → whole_in j t ≡ suc j) → IsBehind s
+      value : (i : ℕ) → s ≡ Of (Value i) → Asks (Of (FieldHead i (sizer p))) (Of (Value i)) → IsBehind s
+      last : (i f : ℕ) → s ≡ Of (FieldHead i f) → suc f ≡ length ps → says_sizes p ≡ true → Asks (Of (FieldEnd i (sizer p))) (Of (FieldHead i f))
+          → Asks (Of (Value i)) (Of (FieldHead i f)) → IsBehind s
+
+    no_first : {X : Type 0} → 0 < index_of p (ElementHead 0) → X
+    no_first some = absurd (let none = mul-zero p.per in let at = head_number p 0 in omega (arith, none, at, some))
+
     -- an element ends behind its last field, or behind its head
-    end_asks : (i : ℕ) (o : Option ℕ) (k : ℕ) → IsElement x.layout o p.size ps → length ps ≡ k
-        → AnyOf (λ z. z ≡ Some (which (prior k (ElementEnd i)))) (Some (nodes.ElementHead i) ∷ nodes.last_asked o i x.layout.last)
+    end_asks : (i : ℕ) (o : Option ℕ) (k : ℕ) → IsElement x.layout o false p.size ps → length ps ≡ k
+        → AnyOf (λ z. z ≡ Some (which (spots.prior k (ElementEnd i)))) (Some (nodes.ElementHead i) ∷ nodes.last_asked o i x.layout.last)
     end_asks i None zero h e = inl refl
     end_asks i None (suc f) h e = absurd (let none = h.1 in omega (arith, none, e))
     end_asks i (Some t) zero h e = absurd (let none = h.0 in omega (arith, none, e))
-    end_asks i (Some t) (suc f) h e = let all = h.0 in
-        let same : x.layout.last ≡ f = omega (arith, all, e) in inr (inl (ap (λ l. Some (nodes.FieldEnd i l)) same))
+    end_asks i (Some t) (suc f) h e =
+        let all = h.0 in let same : x.layout.last ≡ f = omega (arith, all, e) in inr (inl (ap (λ l. Some (nodes.FieldEnd i l)) same))
 
-    spot_prior : (s : Spot) → One s → 0 < index p.per s → AnyOf (λ o. o ≡ Some (which (prior (length ps) s))) (asked_by x (which s))
-    spot_prior (ElementHead zero) low some = absurd (let none = mul-zero p.per in omega (arith, none, some))
-    spot_prior (ElementHead (suc i)) low some = inr (inl refl)
-    spot_prior (ElementEnd i) low some =
-        subst (λ o. AnyOf (λ z. z ≡ Some (which (prior (length ps) (ElementEnd i)))) (Some (nodes.ElementHead i) ∷ nodes.last_asked o i x.layout.last))
-        (sym is.kind) (end_asks i p.type_number (length ps) is.element refl)
-    spot_prior (FieldHead i zero) low some = inl refl
-    spot_prior (FieldHead i (suc f)) low some = inr (inl refl)
-    spot_prior (FieldEnd i f) low some = inl refl
+    -- where elements are of one size
+    plain_asks : says_sizes p ≡ false → (s : Spot) → One s → 0 < index_of p s → AnyOf (λ o. o ≡ Some (which (spots.prior (length ps) s))) (asked_by x (which s))
+    plain_asks h (ElementHead zero) low some = no_first some
+    plain_asks h (ElementHead (suc i)) low some = inr (inl refl)
+    plain_asks h (ElementEnd i) low some =
+        subst (λ o. AnyOf (λ z. z ≡ Some (which (spots.prior (length ps) (ElementEnd i)))) (Some (nodes.ElementHead i) ∷ nodes.last_asked o i x.layout.last))
+        (sym is.kind) (end_asks i p.type_number (length ps) (subst (λ b. IsElement x.layout p.type_number b p.size ps) h is.element) refl)
+    plain_asks h (FieldHead i zero) low some = inl refl
+    plain_asks h (FieldHead i (suc f)) low some = inr (inl refl)
+    plain_asks h (FieldEnd i f) low some = inl refl
+    plain_asks h (Value i) low some = absurd (let bad : false ≡ true = sym h ∙ low.1 in cc)
+
+    plain_whole : (k j : ℕ) (s : Spot) → spot_whole j (spots.prior k s) ≡ suc j
+    plain_whole k j (ElementHead zero) = refl
+    plain_whole k j (ElementHead (suc i)) = refl
+    plain_whole zero j (ElementEnd i) = refl
+    plain_whole (suc f) j (ElementEnd i) = refl
+    plain_whole k j (FieldHead i zero) = refl
+    plain_whole k j (FieldHead i (suc f)) = refl
+    plain_whole k j (FieldEnd i f) = refl
+    plain_whole k j (Value i) = refl
+
+    -- where they say sizes
+    sized_prior : says_sizes p ≡ true → (s : Spot) → prior_in p (Of s) ≡ Of (values.prior (length ps) s)
+    sized_prior e s = ap (λ b. Of (prior_by b (length ps) s)) e
+
+    sized_end : says_sizes p ≡ true → (i : ℕ) → Asks (Of (FieldEnd i (length ps - 1))) (Of (ElementEnd i))
+    sized_end e i =
+        let some = (fields_some p e).0 in
+        let z = fields_are p x is 0 (omega (arith, some)) in
+        let all = z.3 in
+        let same : x.layout.last ≡ length ps - 1 = omega (arith, all) in
+        subst (λ o. AnyOf (λ z. z ≡ Some (nodes.FieldEnd i (length ps - 1))) (Some (nodes.ElementHead i) ∷ nodes.last_asked o i x.layout.last)) (sym z.2)
+        (inr (inl (ap (λ l. Some (nodes.FieldEnd i l)) same)))
+
+    field_behind : says_sizes p ≡ true → (i f : ℕ) → i < m → suc f < length ps → IsBehind (Of (FieldHead i (suc f)))
+    field_behind e i f low few = by (suc (suc f) == length ps) refl
+      where
+        by : (b : Bool) → (suc (suc f) == length ps) ≡ b → IsBehind (Of (FieldHead i (suc f)))
+        by true h =
+            let end : suc (suc f) ≡ length ps = grind (arith, nat_tests) in
+            let z = sized_is p x is e in
+            let all = z.count in
+            let same : f ≡ sizer p = omega (arith, end) in
+            let final : suc f ≡ x.layout.last = omega (arith, all, end) in
+            last i (suc f) refl end e (inr (inl (ap (λ g. Some (nodes.FieldEnd i g)) same)))
+            (inr (inr (subst (λ o. AnyOf (λ z. z ≡ Some (nodes.SizeValue i)) (nodes.size_asked i o))
+            (sym (ap (size_at x.layout) final ∙ z.unsized)) (inl refl))))
+        by false h =
+            next (Of (FieldEnd i f)) (sized_prior e (FieldHead i (suc f)) ∙ ap (λ b. Of (if b then Value i else FieldEnd i f)) h) (inr (inl refl)) (λ j. refl)
+
+    sized_behind : says_sizes p ≡ true → (s : Spot) → One s → 0 < index_of p s → IsBehind (Of s)
+    sized_behind e (ElementHead zero) low some = no_first some
+    sized_behind e (ElementHead (suc i)) low some = next (Of (ElementEnd i)) (sized_prior e (ElementHead (suc i))) (inr (inl refl)) (λ j. refl)
+    sized_behind e (ElementEnd i) low some =
+        next (Of (FieldEnd i (length ps - 1))) (sized_prior e (ElementEnd i)) (sized_end e i) (λ j. refl)
+    sized_behind e (FieldHead i zero) low some = next (Of (ElementHead i)) (sized_prior e (FieldHead i zero)) (inl refl) (λ j. refl)
+    sized_behind e (FieldHead i (suc f)) low some = field_behind e i f low.0 low.1
+    sized_behind e (FieldEnd i f) low some = next (Of (FieldHead i f)) (sized_prior e (FieldEnd i f)) (inl refl) (λ j. refl)
+    sized_behind e (Value i) low some = value i refl (inl (ap (λ g. Some (nodes.FieldHead i g)) (sizer_is p x is e)))
+
+    spot_behind : (s : Spot) → One s → 0 < index_of p s → IsBehind (Of s)
+    spot_behind s low some = elim (either p) [
+      | inl z ↦ next (Of (spots.prior (length ps) s)) (ap (λ b. Of (prior_by b (length ps) s)) z.0)
+          (plain_asks z.0 s low some) (λ j. plain_whole (length ps) j s)
+      | inr z ↦ sized_behind z.0 s low some
+    ]
 
     -- the last rest asks the last end, and each other one the rest behind it
     rest_asks_prior : (i : ℕ) → Known (Rest i)
@@ -189,7 +341,14 @@ module _ (p : PlainList) (d : Description) (bytes : List ℕ) (x : Listing) (pla
     rest_prior zero low = inr (rest_asks_prior zero low)
     rest_prior (suc i) low = rest_asks_prior (suc i) low
 
-    -- each node but the first asks the one before, and the first asks the list
-    pub prior_asked : (s : Numbered) → Known s → 0 < number_of p s → AnyOf (λ o. o ≡ Some (which_of (prior_in p s))) (asked_by x (which_of s))
-    prior_asked (Of s) low some = spot_prior s low some
-    prior_asked (Rest i) low some = rest_prior i low
+    rest_whole : (i j : ℕ) → whole_in j (prior_in p (Rest i)) ≡ suc j
+    rest_whole i j = by (i + 1 == p.most)
+      where
+        by : (b : Bool) → whole_in j (if b then Of (ElementEnd i) else Rest (suc i)) ≡ suc j
+        by true = refl
+        by false = refl
+
+    -- so each node but the first
+    pub behind : (s : Numbered) → Known s → 0 < number_of p s → IsBehind s
+    behind (Of s) low some = spot_behind s low some
+    behind (Rest i) low some = next (prior_in p (Rest i)) refl (rest_prior i low) (rest_whole i)

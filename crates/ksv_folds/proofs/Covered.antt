@@ -3,27 +3,27 @@
 use Rattle.std.proofs.Common.{◌*◌, ◌==◌, ◌&&◌}
 use Rattle.std.proofs.Math.Nat.{mul-le-mul_left}
 use Rattle.ksv_rule_meaning.specs.Heads.{is_past}
-use Rattle.ksv_list_laws.proofs.Common.{◌≡◌, ◌∙◌, ℕ, suc, ◌+◌, ◌-◌, ◌<◌, ◌≤◌, Bool, true, false, List, length, Option, Some, None, refl, sym, ap, subst, arith}
+use Rattle.ksv_list_laws.proofs.Common.{◌≡◌, ◌∙◌, ℕ, suc, ◌+◌, ◌-◌, ◌<◌, ◌≤◌, Bool, true, false, List, Option, Some, None, refl, sym, ap, subst, arith}
 use Rattle.ksv_list_laws.proofs.Common.{nat_tests, inl, inr, cases_lt, Description, end_in, Listing, IsPlain, start}
 use Rattle.ksv_list_laws.proofs.Telling.{start_less}
 use Rattle.ksv_list_laws.specs.Nodes.{IsWhole, is_last, is_last_at}
 use Rattle.ksv_folds.proofs.Told.{IsTold, IsKnown}
 use Rattle.ksv_folds.specs.Laws.{Describes, EndsWith}
-use Rattle.ksv_folds.specs.Lemmas.Numbers.{element_at, numbered_there}
-use Rattle.ksv_folds.specs.Lemmas.Spots.{spot_in_is}
+use Rattle.ksv_folds.specs.Lemmas.Numbers.{element_at, numbered_there, spot_there}
 use Rattle.ksv_folds.specs.Sequence.{IsIn, IsThere, numbered_at, elements_size, size_of, is_closing}
 use Rattle.ksv_folds.specs.declared.plain_list.PlainList.{PlainList}
 use Rattle.ksv_folds.specs.declared.spot.Numbered.{Numbered}
 use Rattle.ksv_folds.specs.declared.spot.Numbered.TheVariants.{Of, Rest}
 use Rattle.ksv_folds.specs.declared.spot.Spot.{Spot}
-use Rattle.ksv_folds.specs.declared.spot.Spot.TheVariants.{ElementHead, ElementEnd, FieldHead, FieldEnd}
+use Rattle.ksv_folds.specs.declared.spot.Spot.TheVariants.{ElementHead, ElementEnd, FieldHead, FieldEnd, Value}
 
 -- a node of the first elements is one of more elements
-pub spot_low : (k m n : ℕ) → m ≤ n → (s : Spot) → IsIn k m s → IsIn k n s
-spot_low k m n le (ElementHead i) low = omega (arith, le, low)
-spot_low k m n le (ElementEnd i) low = omega (arith, le, low)
-spot_low k m n le (FieldHead i f) low = (let less = low.0 in omega (arith, le, less), low.1)
-spot_low k m n le (FieldEnd i f) low = (let less = low.0 in omega (arith, le, less), low.1)
+pub spot_low : (b : Bool) (k m n : ℕ) → m ≤ n → (s : Spot) → IsIn b k m s → IsIn b k n s
+spot_low b k m n le (ElementHead i) low = omega (arith, le, low)
+spot_low b k m n le (ElementEnd i) low = omega (arith, le, low)
+spot_low b k m n le (FieldHead i f) low = (let less = low.0 in omega (arith, le, less), low.1)
+spot_low b k m n le (FieldEnd i f) low = (let less = low.0 in omega (arith, le, less), low.1)
+spot_low b k m n le (Value i) low = (let less = low.0 in omega (arith, le, less), low.1)
 
 module _ (p : PlainList) (d : Description) (bytes : List ℕ) (x : Listing) (plain : IsPlain d bytes x) (is : Describes p x) where
   -- the stream goes on behind an element before the last whole one
@@ -65,7 +65,7 @@ module _ (p : PlainList) (d : Description) (bytes : List ℕ) (x : Listing) (pla
     before_known count low j less =
         let up = low_all in
         subst (IsKnown p d bytes x plain is (x.count - 1) before) (sym (element_at p j (omega (arith, low, up, less))))
-        (spot_in_is (length p.parts.items) p.per p.width (x.count - 1) j (omega (arith, low, less)))
+        (spot_there p (x.count - 1) j (omega (arith, low, less)))
 
   module _ (few : x.count ≤ p.most) (goes_on : is_last bytes x (x.count - 1) ≡ false) (unended_too : is_closing p (x.count - 1) ≡ false) where
     unlast : (i : ℕ) → i < x.count → is_last bytes x i ≡ is_closing p i
@@ -88,7 +88,7 @@ module _ (p : PlainList) (d : Description) (bytes : List ℕ) (x : Listing) (pla
     every_known count low j less =
         let up = every_low in
         subst (IsKnown p d bytes x plain is x.count every) (sym (element_at p j (omega (arith, low, up, less))))
-        (spot_in_is (length p.parts.items) p.per p.width x.count j (omega (arith, low, less)))
+        (spot_there p x.count j (omega (arith, low, less)))
 
   module _ (ends : EndsWith p bytes x) where
     last_of : (i : ℕ) → i < p.most → is_last bytes x i ≡ is_closing p i

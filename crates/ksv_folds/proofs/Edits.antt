@@ -1,5 +1,5 @@
 -- Which nodes an insert, a delete or an append takes, by their numbers.
-use Rattle.std.proofs.Common.{◌≡◌, ◌∙◌, ◌==◌, ◌&&◌, ◌||◌, ◌*◌, ℕ, suc, ◌+◌, ◌-◌, ◌<◌, ◌≤◌, nat_lt, Bool, true, false, if◌then◌else◌, [], ◌∷◌, length}
+use Rattle.std.proofs.Common.{◌≡◌, ◌∙◌, ◌==◌, ◌&&◌, ◌||◌, ◌*◌, ℕ, suc, ◌+◌, ◌-◌, ◌<◌, ◌≤◌, nat_lt, Bool, true, false, if◌then◌else◌, [], ◌∷◌}
 use Rattle.std.proofs.Common.{refl, sym, ap, inl, inr, arith}
 use Rattle.std.proofs.Math.Nat.{mul-suc}
 use Rattle.std.proofs.lemmas.Bool.{cases_lt}
@@ -8,12 +8,11 @@ use Rattle.std.specs.List.{list_any}
 use Rattle.ksv_bytes.specs.Uses.{is_use_touched}
 use Rattle.ksv_bytes.specs.declared.uses.Change.TheVariants.{Append}
 use Rattle.ksv_bytes.specs.declared.uses.Use.TheVariants.{Reach, Size}
-use Rattle.ksv_folds.specs.Lemmas.Numbers.{elements_some, element_at, rest_at, last_element}
-use Rattle.ksv_folds.specs.Lemmas.Spots.{index_is}
-use Rattle.ksv_folds.specs.Sequence.{spot_at, numbered_at, index, elements_size, reach_of, is_open, is_closing, uses_of, spot_uses, uses_in, is_read_past}
+use Rattle.ksv_folds.specs.Lemmas.Numbers.{elements_some, element_at, rest_at, last_element, width_some, end_number, index_is}
+use Rattle.ksv_folds.specs.Sequence.{spot_at, numbered_at, index_of, elements_size, reach_of, is_open, is_closing, uses_of, spot_uses, uses_in, is_read_past}
 use Rattle.ksv_folds.specs.declared.plain_list.PlainList.{PlainList}
 use Rattle.ksv_folds.specs.declared.spot.Spot.{Spot}
-use Rattle.ksv_folds.specs.declared.spot.Spot.TheVariants.{ElementHead, ElementEnd, FieldHead, FieldEnd}
+use Rattle.ksv_folds.specs.declared.spot.Spot.TheVariants.{ElementHead, ElementEnd, FieldHead, FieldEnd, Value}
 
 or_false : (b : Bool) → (b || false) ≡ b
 or_false true = refl
@@ -29,19 +28,21 @@ past_of at z = by (z == 0) refl
 module _ (p : PlainList) where
   -- ---- what nodes use, by their numbers
 
-  unsized : (is_open p && p.closed) ≡ false → (s : Spot) → spot_uses p s ≡ uses_of (reach_of p s)
-  unsized e (ElementHead i) = refl
-  unsized e (ElementEnd i) =
-      ap (λ b. if b then Size ∷ [] else uses_of (reach_of p (ElementEnd i))) (by (is_open p) p.closed (i + 1 == p.most) e)
+  unsized : (at : ℕ) → (is_open p && p.closed) ≡ false → (s : Spot) → is_read_past at (spot_uses p s) ≡ nat_lt at (reach_of p s)
+  unsized at e (ElementHead i) = past_of at (reach_of p (ElementHead i))
+  unsized at e (ElementEnd i) =
+      ap (λ b. is_read_past at (if b then Size ∷ [] else uses_of (reach_of p (ElementEnd i)))) (by (is_open p) p.closed (i + 1 == p.most) e)
+      ∙ past_of at (reach_of p (ElementEnd i))
     where
       by : (a b c : Bool) → (a && b) ≡ false → (a && (b && c)) ≡ false
       by true true c h = cc
       by true false c h = refl
       by false b c h = refl
-  unsized e (FieldHead i f) = refl
-  unsized e (FieldEnd i f) = refl
+  unsized at e (FieldHead i f) = past_of at (reach_of p (FieldHead i f))
+  unsized at e (FieldEnd i f) = past_of at (reach_of p (FieldEnd i f))
+  unsized at e (Value i) = or_false (nat_lt at (reach_of p (Value i)))
 
-  unclosed : (i : ℕ) → suc (index p.per (ElementEnd i)) < elements_size p → (is_open p && is_closing p i) ≡ false
+  unclosed : (i : ℕ) → suc (index_of p (ElementEnd i)) < elements_size p → (is_open p && is_closing p i) ≡ false
   unclosed i low = by (i + 1 == p.most) refl
     where
       two : (a b : Bool) → (a && (b && false)) ≡ false
@@ -52,24 +53,27 @@ module _ (p : PlainList) where
       by : (b : Bool) → (i + 1 == p.most) ≡ b → (is_open p && (p.closed && b)) ≡ false
       by true e =
           absurd (let last : suc i ≡ p.most = grind (arith, nat_tests) in
-          let all = ap (λ n. p.per * n) last in let more = mul-suc p.per i in let wide = p.width in omega (arith, low, all, more, wide))
+          let all = ap (λ n. p.per * n) last in let more = mul-suc p.per i in
+          let wide = (width_some p).0 in let at = end_number p i in omega (arith, low, all, more, wide, at))
       by false e = two (is_open p) p.closed
 
-  spot_before : (s : Spot) → suc (index p.per s) < elements_size p → spot_uses p s ≡ uses_of (reach_of p s)
-  spot_before (ElementHead i) low = refl
-  spot_before (ElementEnd i) low = ap (λ b. if b then Size ∷ [] else uses_of (reach_of p (ElementEnd i))) (unclosed i low)
-  spot_before (FieldHead i f) low = refl
-  spot_before (FieldEnd i f) low = refl
+  spot_before : (at : ℕ) (s : Spot) → suc (index_of p s) < elements_size p → is_read_past at (spot_uses p s) ≡ nat_lt at (reach_of p s)
+  spot_before at (ElementHead i) low = past_of at (reach_of p (ElementHead i))
+  spot_before at (ElementEnd i) low =
+      ap (λ b. is_read_past at (if b then Size ∷ [] else uses_of (reach_of p (ElementEnd i)))) (unclosed i low) ∙ past_of at (reach_of p (ElementEnd i))
+  spot_before at (FieldHead i f) low = past_of at (reach_of p (FieldHead i f))
+  spot_before at (FieldEnd i f) low = past_of at (reach_of p (FieldEnd i f))
+  spot_before at (Value i) low = or_false (nat_lt at (reach_of p (Value i)))
 
-  number : (j : ℕ) → index p.per (spot_at p j) ≡ j
-  number j = index_is (length p.parts.items) p.per p.width j
+  number : (j : ℕ) → index_of p (spot_at p j) ≡ j
+  number j = index_is p j
 
   -- before the last end
   before_end : (at j : ℕ) → suc j < elements_size p → is_read_past at (uses_in p (numbered_at p j)) ≡ nat_lt at (reach_of p (spot_at p j))
   before_end at j low =
       let same = number j in
       ap (λ s. is_read_past at (uses_in p s)) (element_at p j (omega (arith, low)))
-      ∙ ap (is_read_past at) (spot_before (spot_at p j) (omega (arith, low, same))) ∙ past_of at (reach_of p (spot_at p j))
+      ∙ spot_before at (spot_at p j) (omega (arith, low, same))
 
   -- from the last end on all use the same
   from_end : (j : ℕ) → elements_size p ≤ suc j → uses_in p (numbered_at p j) ≡ spot_uses p (ElementEnd (p.most - 1))
@@ -125,15 +129,15 @@ module _ (p : PlainList) where
   -- where they read to the last element's end
   reads : (at j : ℕ) → (is_open p && p.closed) ≡ false → j < elements_size p → past at j ≡ nat_lt at (reach_of p (spot_at p j))
   reads at j e low =
-      ap (λ s. is_read_past at (uses_in p s)) (element_at p j low) ∙ ap (is_read_past at) (unsized e (spot_at p j)) ∙ past_of at (reach_of p (spot_at p j))
+      ap (λ s. is_read_past at (uses_in p s)) (element_at p j low) ∙ unsized at e (spot_at p j)
 
-  end_number : elements_size p - 1 < elements_size p
-  end_number = let some = elements_some p in omega (arith, some)
+  last_low : elements_size p - 1 < elements_size p
+  last_low = let some = elements_some p in omega (arith, some)
 
   reads_end : (at j : ℕ) → (is_open p && p.closed) ≡ false → elements_size p ≤ j → past at j ≡ nat_lt at (reach_of p (spot_at p (elements_size p - 1)))
   reads_end at j e up =
       ap (is_read_past at) (from_end j (omega (arith, up)) ∙ sym (from_end (elements_size p - 1) (omega arith)))
-      ∙ reads at (elements_size p - 1) e end_number
+      ∙ reads at (elements_size p - 1) e last_low
 
   pub plain_stays : (at n : ℕ) → (is_open p && p.closed) ≡ false → n ≤ elements_size p → Stays at n → (j : ℕ) → j < n → past at j ≡ false
   plain_stays at n e few stays j low = reads at j e (omega (arith, few, low)) ∙ near at (reach_of p (spot_at p j)) (stays j low)
@@ -142,7 +146,7 @@ module _ (p : PlainList) where
   pub all_stays : (at : ℕ) → (is_open p && p.closed) ≡ false → Stays at (elements_size p) → (j : ℕ) → past at j ≡ false
   all_stays at e stays j = elim (cases_lt j (elements_size p)) [
     | inl low ↦ plain_stays at (elements_size p) e (omega arith) stays j low
-    | inr up ↦ reads_end at j e up ∙ near at (reach_of p (spot_at p (elements_size p - 1))) (stays (elements_size p - 1) end_number)
+    | inr up ↦ reads_end at j e up ∙ near at (reach_of p (spot_at p (elements_size p - 1))) (stays (elements_size p - 1) last_low)
   ]
 
   pub plain_goes : (at n kept : ℕ) → (is_open p && p.closed) ≡ false → n < elements_size p
@@ -150,7 +154,7 @@ module _ (p : PlainList) where
   plain_goes at n kept e some goes j up low = elim (cases_lt j (elements_size p)) [
     | inl less ↦ reads at j e less ∙ far at (reach_of p (spot_at p j)) (goes j up low less)
     | inr more ↦ reads_end at j e more
-        ∙ far at (reach_of p (spot_at p (elements_size p - 1))) (goes (elements_size p - 1) (omega (arith, some)) (omega (arith, more, low)) end_number)
+        ∙ far at (reach_of p (spot_at p (elements_size p - 1))) (goes (elements_size p - 1) (omega (arith, some)) (omega (arith, more, low)) last_low)
   ]
 
   -- ---- appends
@@ -165,11 +169,20 @@ module _ (p : PlainList) where
       by true = refl
       by false = refl
 
+  spot_unadded : (s : Spot) → suc (index_of p s) < elements_size p → list_any (is_use_touched Append) (spot_uses p s) ≡ false
+  spot_unadded (ElementHead i) low = unadded (reach_of p (ElementHead i))
+  spot_unadded (ElementEnd i) low =
+      ap (λ b. list_any (is_use_touched Append) (if b then Size ∷ [] else uses_of (reach_of p (ElementEnd i)))) (unclosed i low)
+      ∙ unadded (reach_of p (ElementEnd i))
+  spot_unadded (FieldHead i f) low = unadded (reach_of p (FieldHead i f))
+  spot_unadded (FieldEnd i f) low = unadded (reach_of p (FieldEnd i f))
+  spot_unadded (Value i) low = refl
+
   pub append_stays : (j : ℕ) → suc j < elements_size p → added j ≡ false
   append_stays j low =
       let same = number j in
       ap (λ s. list_any (is_use_touched Append) (uses_in p s)) (element_at p j (omega (arith, low)))
-      ∙ ap (list_any (is_use_touched Append)) (spot_before (spot_at p j) (omega (arith, low, same))) ∙ unadded (reach_of p (spot_at p j))
+      ∙ spot_unadded (spot_at p j) (omega (arith, low, same))
 
   pub append_goes : (is_open p && p.closed) ≡ true → (j : ℕ) → elements_size p ≤ suc j → added j ≡ true
   append_goes e j more = ap (list_any (is_use_touched Append)) (from_end j more ∙ closing_size e)

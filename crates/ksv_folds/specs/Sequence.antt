@@ -1,19 +1,21 @@
--- The sequence of a plain list whose elements are of one size. Each element has its head, the head and the end of each of its fields, and its end, in this
--- order. Behind them are the rests from the last element to the first, where the list is known to end with the last. What is kept of a node follows from the
--- numbers of the list.
-use Rattle.std.specs.Prelude.{◌≡◌, ℕ, zero, suc, ◌+◌, ◌-◌, ◌*◌, ◌/◌, ◌%◌, ◌==◌, ◌<◌, nat_lt, Bool, true, false, ◌&&◌, not, if◌then◌else◌, length, List, [], ◌∷◌, Option}
-use Rattle.std.specs.Prelude.{Some, None, Result, Ok, is_some, unwrap_or}
+-- The sequence of a plain list. Each element has its head, the head and the end of each of its fields, and its end, in this order; before the head of a last
+-- field whose size the one before says there is the value of that one. Behind all elements are the rests from the last element to the first, where the list is
+-- known to end with the last. What is kept of a node follows from the numbers of the list.
+use Rattle.std.specs.Prelude.{◌≡◌, ℕ, zero, suc, ◌+◌, ◌-◌, ◌*◌, ◌/◌, ◌%◌, ◌==◌, ◌<◌, nat_lt, Bool, true, false, ◌&&◌, not, if◌then◌else◌, length, List, []}
+use Rattle.std.specs.Prelude.{◌∷◌, Option}
+use Rattle.std.specs.Prelude.{Some, None, Result, Ok, is_some, unwrap_or, pos}
 use Rattle.std.specs.List.{list_any}
 use Rattle.std.specs.Option.{option_map, option_and_then}
 use Rattle.ksv_bytes.specs.Uses.{is_use_touched}
 use Rattle.ksv_bytes.specs.declared.uses.Change.TheVariants.{Insert}
 use Rattle.ksv_bytes.specs.declared.uses.Use.{Use}
-use Rattle.ksv_bytes.specs.declared.uses.Use.TheVariants.{Reach, Size}
+use Rattle.ksv_bytes.specs.declared.uses.Use.TheVariants.{Bytes, Reach, Size}
 use Rattle.ksv_expr_value.specs.Places.{at_byte}
 use Rattle.ksv_expr_value.specs.Trail.{Trail, child}
 use Rattle.ksv_expr_value.specs.declared.fault.Fault.{Fault}
 use Rattle.ksv_expr_value.specs.declared.step.Step.{Step}
 use Rattle.ksv_expr_value.specs.declared.step.Step.TheVariants.{Name, Index}
+use Rattle.ksv_expr_value.specs.declared.value.Value.TheVariants as values
 use Rattle.ksv_memo_rules.specs.Entry.{Entry}
 use Rattle.ksv_nodes.specs.declared.given.Given.{Given}
 use Rattle.ksv_nodes.specs.declared.given.Given.TheVariants as givens
@@ -22,15 +24,20 @@ use Rattle.ksv_nodes.specs.declared.given.ObjectEnd.TheVariants.{ByFields}
 use Rattle.ksv_nodes.specs.declared.given.Origin.{Origin}
 use Rattle.ksv_nodes.specs.declared.node.Node.{Node}
 use Rattle.ksv_nodes.specs.declared.node.NodeKind.{NodeKind}
-use Rattle.ksv_nodes.specs.declared.node.NodeKind.TheVariants.{Head, End, Value, Rest}
+use Rattle.ksv_nodes.specs.declared.node.NodeKind.TheVariants.{Head, End, Rest}
+use Rattle.ksv_nodes.specs.declared.node.NodeKind.TheVariants as kinds
 use Rattle.ksv_folds.specs.declared.plain_list.PlainList.{PlainList}
 use Rattle.ksv_folds.specs.declared.spot.Numbered.{Numbered}
 use Rattle.ksv_folds.specs.declared.spot.Numbered.TheVariants as numbered
 use Rattle.ksv_folds.specs.declared.spot.Spot.{Spot}
-use Rattle.ksv_folds.specs.declared.spot.Spot.TheVariants.{ElementHead, ElementEnd, FieldHead, FieldEnd}
+use Rattle.ksv_folds.specs.declared.spot.Spot.TheVariants.{ElementHead, ElementEnd, FieldHead, FieldEnd, Value}
 use Rattle.ksv_memo_rules.specs.Folds.{Fold}
-use Rattle.ksv_folds.specs.Parts.{part, edge}
+use Rattle.ksv_folds.specs.Parts.{part, edge, start_in}
 use Rattle.ksv_folds.specs.declared.part.Part.{Part}
+
+-- each element says the size of its last field
+abbrev pub says_sizes : PlainList → Bool
+says_sizes p = is_some p.starts
 
 -- ---- which node
 
@@ -40,11 +47,19 @@ field_spot i f zero = FieldHead i f
 field_spot i f (suc half) = FieldEnd i f
 
 -- the node r of the element i, where each element has so many
-abbrev pub spot_in : ℕ → ℕ → ℕ → Spot
-spot_in per i r = if r == 0 then ElementHead i else if r + 1 == per then ElementEnd i else field_spot i ((r - 1) / 2) ((r - 1) % 2)
+abbrev pub plain_spot : ℕ → ℕ → ℕ → Spot
+plain_spot per i r = if r == 0 then ElementHead i else if r + 1 == per then ElementEnd i else field_spot i ((r - 1) / 2) ((r - 1) % 2)
+
+-- where it says a size, three nodes are behind the value
+abbrev pub sized_spot : ℕ → ℕ → ℕ → Spot
+sized_spot per i r = if r == per - 4 then Value i else plain_spot (per - 1) i (if nat_lt r (per - 4) then r else r - 1)
+
+abbrev pub spot_in : Bool → ℕ → ℕ → ℕ → Spot
+spot_in false per i r = plain_spot per i r
+spot_in true per i r = sized_spot per i r
 
 abbrev pub spot_at : PlainList → ℕ → Spot
-spot_at p j = spot_in p.per (j / p.per) (j % p.per)
+spot_at p j = spot_in (says_sizes p) p.per (j / p.per) (j % p.per)
 
 -- how many nodes all elements have, and so many rests are behind them; and the node of a number
 abbrev pub elements_size : PlainList → ℕ
@@ -59,18 +74,26 @@ size_of p = elements_size p + rests_size p
 abbrev pub numbered_at : PlainList → ℕ → Numbered
 numbered_at p j = if nat_lt j (elements_size p) then numbered.Of (spot_at p j) else numbered.Rest (elements_size p + (p.most - 1) - j)
 
--- it is of one of the first elements, and of one of its fields
-abbrev pub IsIn : ℕ → ℕ → Spot → Type 0
-IsIn k n (ElementHead i) = i < n
-IsIn k n (ElementEnd i) = i < n
-IsIn k n (FieldHead i f) = (i < n) × (f < k)
-IsIn k n (FieldEnd i f) = (i < n) × (f < k)
+-- it is of one of the first elements, and of one of its fields; and there are values where elements say sizes
+abbrev pub IsIn : Bool → ℕ → ℕ → Spot → Type 0
+IsIn says k n (ElementHead i) = i < n
+IsIn says k n (ElementEnd i) = i < n
+IsIn says k n (FieldHead i f) = (i < n) × (f < k)
+IsIn says k n (FieldEnd i f) = (i < n) × (f < k)
+IsIn says k n (Value i) = (i < n) × (says ≡ true)
+
+abbrev pub IsOne : PlainList → Spot → Type 0
+IsOne p s = IsIn (says_sizes p) (length p.parts.items) p.most s
 
 abbrev pub IsThere : PlainList → Numbered → Type 0
-IsThere p (numbered.Of s) = IsIn (length p.parts.items) p.most s
+IsThere p (numbered.Of s) = IsOne p s
 IsThere p (numbered.Rest i) = (p.closed ≡ true) × (i < p.most)
 
 -- ---- the nodes
+
+-- the field that says the size of the last one, and is before it
+abbrev pub sizer : PlainList → ℕ
+sizer p = length p.parts.items - 2
 
 abbrev pub field_path : PlainList → ℕ → ℕ → Option Trail
 field_path p i f = option_and_then (λ q. child q (Name (part p.parts.items f).name)) (child p.root.path (Index i))
@@ -80,12 +103,14 @@ path_of p (ElementHead i) = child p.root.path (Index i)
 path_of p (ElementEnd i) = child p.root.path (Index i)
 path_of p (FieldHead i f) = field_path p i f
 path_of p (FieldEnd i f) = field_path p i f
+path_of p (Value i) = field_path p i (sizer p)
 
 abbrev pub kind_of : Spot → NodeKind
 kind_of (ElementHead i) = Head
 kind_of (ElementEnd i) = End
 kind_of (FieldHead i f) = Head
 kind_of (FieldEnd i f) = End
+kind_of (Value i) = kinds.Value
 
 -- what there is no path to is the list's head
 abbrev pub node_of : PlainList → Spot → Node
@@ -104,10 +129,11 @@ steps_of p (ElementHead i) = Index i ∷ p.root.path.upward
 steps_of p (ElementEnd i) = Index i ∷ p.root.path.upward
 steps_of p (FieldHead i f) = Name (part p.parts.items f).name ∷ (Index i ∷ p.root.path.upward)
 steps_of p (FieldEnd i f) = Name (part p.parts.items f).name ∷ (Index i ∷ p.root.path.upward)
+steps_of p (Value i) = Name (part p.parts.items (sizer p)).name ∷ (Index i ∷ p.root.path.upward)
 
 -- a node is of one of the elements that have numbers, and is this one, by its kind and its steps
 pub record IsAt (p : PlainList) (n : Node) (s : Spot) : Type 0 where
-  pub there : IsIn (length p.parts.items) p.most s
+  pub there : IsOne p s
   pub kind : n.kind ≡ kind_of s
   pub steps : n.path.upward ≡ steps_of p s
 
@@ -120,38 +146,66 @@ abbrev pub IsNumbered : PlainList → Node → Numbered → Type 0
 IsNumbered p n (numbered.Of s) = IsAt p n s
 IsNumbered p n (numbered.Rest i) = IsRest p n i
 
--- heads and ends have numbers
+-- heads and ends have numbers, and the value that says a size
 abbrev pub element_spot : NodeKind → ℕ → Option Spot
 element_spot Head i = Some (ElementHead i)
 element_spot End i = Some (ElementEnd i)
-element_spot Value i = None
+element_spot kinds.Value i = None
 element_spot Rest i = None
 
-abbrev pub member_spot : NodeKind → ℕ → ℕ → Option Spot
-member_spot Head i f = Some (FieldHead i f)
-member_spot End i f = Some (FieldEnd i f)
-member_spot Value i f = None
-member_spot Rest i f = None
+abbrev pub member_spot : PlainList → NodeKind → ℕ → ℕ → Option Spot
+member_spot p Head i f = Some (FieldHead i f)
+member_spot p End i f = Some (FieldEnd i f)
+member_spot p kinds.Value i f = if says_sizes p && f == sizer p then Some (Value i) else None
+member_spot p Rest i f = None
 
 -- the number of a node, where each element has so many
-abbrev pub index : ℕ → Spot → ℕ
-index per (ElementHead i) = per * i
-index per (ElementEnd i) = per * i + (per - 1)
-index per (FieldHead i f) = per * i + (2 * f + 1)
-index per (FieldEnd i f) = per * i + (2 * f + 2)
+abbrev pub plain_index : ℕ → Spot → ℕ
+plain_index per (ElementHead i) = per * i
+plain_index per (ElementEnd i) = per * i + (per - 1)
+plain_index per (FieldHead i f) = per * i + (2 * f + 1)
+plain_index per (FieldEnd i f) = per * i + (2 * f + 2)
+plain_index per (Value i) = per * i
+
+-- one for the value, before the last field
+abbrev pub past_value : ℕ → ℕ → ℕ
+past_value per f = if 2 * f + 5 == per then 1 else 0
+
+abbrev pub sized_index : ℕ → Spot → ℕ
+sized_index per (ElementHead i) = per * i
+sized_index per (ElementEnd i) = per * i + (per - 1)
+sized_index per (FieldHead i f) = per * i + (2 * f + 1 + past_value per f)
+sized_index per (FieldEnd i f) = per * i + (2 * f + 2 + past_value per f)
+sized_index per (Value i) = per * i + (per - 4)
+
+abbrev pub index : Bool → ℕ → Spot → ℕ
+index false per s = plain_index per s
+index true per s = sized_index per s
+
+abbrev pub index_of : PlainList → Spot → ℕ
+index_of p s = index (says_sizes p) p.per s
 
 abbrev pub number_of : PlainList → Numbered → ℕ
-number_of p (numbered.Of s) = index p.per s
+number_of p (numbered.Of s) = index_of p s
 number_of p (numbered.Rest i) = elements_size p + (p.most - 1 - i)
 
 -- ---- what they answer
 
 -- where an element begins, and where a field of it does
 abbrev pub start_of : PlainList → ℕ → ℕ
-start_of p i = p.first + p.size * i
+start_of p i = start_in p.starts p.first p.size i
+
+-- the last field ends with its element, where its size is said
+abbrev pub edge_in : Bool → PlainList → ℕ → ℕ → ℕ
+edge_in false p i f = start_of p i + edge p.parts.items f
+edge_in true p i f = if f == length p.parts.items then start_of p (suc i) else start_of p i + edge p.parts.items f
 
 abbrev pub edge_of : PlainList → ℕ → ℕ → ℕ
-edge_of p i f = start_of p i + edge p.parts.items f
+edge_of p i f = edge_in (says_sizes p) p i f
+
+-- the size that an element says
+abbrev pub says_of : PlainList → ℕ → ℕ
+says_of p i = start_of p (suc i) - start_of p i - p.size
 
 -- the bytes from one to another
 abbrev pub leaf : Origin → ℕ → ℕ → Given
@@ -178,6 +232,7 @@ answer_of p (ElementHead i) = element_answer p p.type_number i
 answer_of p (ElementEnd i) = givens.End (at_byte (start_of p (suc i))) (is_closing p i)
 answer_of p (FieldHead i f) = leaf (field_origin p f) (edge_of p i f) (edge_of p i (suc f))
 answer_of p (FieldEnd i f) = givens.End (at_byte (edge_of p i (suc f))) false
+answer_of p (Value i) = givens.Value (values.Int (pos (says_of p i)))
 
 abbrev pub answer_in : PlainList → Numbered → Given
 answer_in p (numbered.Of s) = answer_of p s
@@ -208,6 +263,7 @@ reach_of p (ElementHead i) = head_reach p p.parts.items i
 reach_of p (ElementEnd i) = end_reach p (start_of p (suc i))
 reach_of p (FieldHead i f) = edge_of p i (suc f)
 reach_of p (FieldEnd i f) = edge_of p i (suc f)
+reach_of p (Value i) = edge_of p i (suc (sizer p))
 
 abbrev pub uses_of : ℕ → List Use
 uses_of z = if z == 0 then [] else Reach z ∷ []
@@ -215,6 +271,7 @@ uses_of z = if z == 0 then [] else Reach z ∷ []
 -- where a list that goes on to the file's end ends is known by the file's size
 abbrev pub spot_uses : PlainList → Spot → List Use
 spot_uses p (ElementEnd i) = if is_open p && is_closing p i then Size ∷ [] else uses_of (end_reach p (start_of p (suc i)))
+spot_uses p (Value i) = Bytes (edge_of p i (sizer p)) (edge_of p i (suc (sizer p))) ∷ []
 spot_uses p s = uses_of (reach_of p s)
 
 -- rests use what the last end does
@@ -226,10 +283,36 @@ uses_in p (numbered.Rest i) = spot_uses p (ElementEnd (p.most - 1))
 abbrev pub is_read_past : ℕ → List Use → Bool
 is_read_past at us = list_any (is_use_touched (Insert at 0)) us
 
+-- ---- what they name
+
+-- the value of the element before, if there is one
+abbrev pub value_before : PlainList → ℕ → Option ℕ
+value_before p zero = None
+value_before p (suc i) = Some (index_of p (Value i))
+
+-- where elements say sizes, a node's entry names the last value before it, or else the list; and that of a value its field's head
+abbrev pub spot_guard : PlainList → Spot → Option ℕ
+spot_guard p (ElementHead i) = value_before p i
+spot_guard p (ElementEnd i) = value_before p (suc i)
+spot_guard p (FieldHead i f) = value_before p (if suc f == length p.parts.items then suc i else i)
+spot_guard p (FieldEnd i f) = value_before p (if suc f == length p.parts.items then suc i else i)
+spot_guard p (Value i) = Some (index_of p (FieldHead i (sizer p)))
+
+abbrev pub guard_in : PlainList → Numbered → Option ℕ
+guard_in p (numbered.Of s) = spot_guard p s
+guard_in p (numbered.Rest i) = value_before p p.most
+
+abbrev pub guard_of : PlainList → Numbered → Option ℕ
+guard_of p s = if says_sizes p then guard_in p s else None
+
+abbrev pub guard_node : PlainList → Option ℕ → Node
+guard_node p None = p.root
+guard_node p (Some j) = node_in p (numbered_at p j)
+
 -- ---- what they take
 
--- the nodes that are asked: the list and the end of the element before; of a field's head the element and the end of the field before; of a field's end
--- its head; and of an element's end its head, the list, and its last field
+-- the nodes that are asked: the list and the end of the element before; of a field's head the element and the end of the field before, and the value that says
+-- its size; of a field's end its head; of a value its field's head; and of an element's end its head, the list, and its last field
 abbrev pub asked_before : ℕ → ℕ
 asked_before zero = 0
 asked_before (suc i) = 1
@@ -238,11 +321,16 @@ abbrev pub last_asked : List Part → ℕ
 last_asked [] = 1
 last_asked (_ ∷ _) = 2
 
+abbrev pub size_asked : Bool → ℕ → ℕ → ℕ
+size_asked false k f = 0
+size_asked true k f = if suc f == k then 1 else 0
+
 abbrev pub asks_of : PlainList → Spot → ℕ
 asks_of p (ElementHead i) = 1 + asked_before i
 asks_of p (ElementEnd i) = 1 + last_asked p.parts.items
-asks_of p (FieldHead i f) = 1 + asked_before f
+asks_of p (FieldHead i f) = 1 + asked_before f + size_asked (says_sizes p) (length p.parts.items) f
 asks_of p (FieldEnd i f) = 1
+asks_of p (Value i) = 1
 
 -- of a rest the end of its element, the rest from the next one on, and of the first one the list
 abbrev pub rest_asks : ℕ → ℕ → ℕ
@@ -253,11 +341,26 @@ asks_in p (numbered.Of s) = asks_of p s
 asks_in p (numbered.Rest i) = rest_asks p.most i
 
 -- the calls of all nodes before one, where each element has so many fields
-abbrev pub calls_before : ℕ → Spot → ℕ
-calls_before k (ElementHead i) = (5 * k + 6) * i - asked_before i
-calls_before k (ElementEnd i) = (5 * k + 6) * i + (2 + (5 * k - asked_before k))
-calls_before k (FieldHead i f) = (5 * k + 6) * i + (2 + (5 * f - asked_before f))
-calls_before k (FieldEnd i f) = (5 * k + 6) * i + (4 + 5 * f)
+abbrev pub plain_calls : ℕ → Spot → ℕ
+plain_calls k (ElementHead i) = (5 * k + 6) * i - asked_before i
+plain_calls k (ElementEnd i) = (5 * k + 6) * i + (2 + (5 * k - asked_before k))
+plain_calls k (FieldHead i f) = (5 * k + 6) * i + (2 + (5 * f - asked_before f))
+plain_calls k (FieldEnd i f) = (5 * k + 6) * i + (4 + 5 * f)
+plain_calls k (Value i) = 0
+
+abbrev pub sized_calls : ℕ → Spot → ℕ
+sized_calls k (ElementHead i) = (5 * k + 9) * i - asked_before i
+sized_calls k (ElementEnd i) = (5 * k + 9) * i + (5 * k + 4)
+sized_calls k (FieldHead i f) = (5 * k + 9) * i + (2 + (5 * f - asked_before f) + (if suc f == k then 2 else 0))
+sized_calls k (FieldEnd i f) = (5 * k + 9) * i + (4 + 5 * f + (if suc f == k then 3 else 0))
+sized_calls k (Value i) = (5 * k + 9) * i + (5 * k - 4)
+
+abbrev pub calls_before : Bool → ℕ → Spot → ℕ
+calls_before false k s = plain_calls k s
+calls_before true k s = sized_calls k s
+
+abbrev pub spot_calls : PlainList → Spot → ℕ
+spot_calls p s = calls_before (says_sizes p) (length p.parts.items) s
 
 -- the calls of the last rests, of so many in all
 abbrev pub rest_calls : ℕ → ℕ → ℕ
@@ -266,27 +369,35 @@ rest_calls most (suc n) = 3 * n + (if suc n == most then 3 else 2)
 
 abbrev pub calls_to : PlainList → ℕ → ℕ
 calls_to p j =
-    if nat_lt j (elements_size p) then calls_before (length p.parts.items) (spot_at p j)
-    else calls_before (length p.parts.items) (ElementHead p.most) + rest_calls p.most (j - elements_size p)
+    if nat_lt j (elements_size p) then spot_calls p (spot_at p j) else spot_calls p (ElementHead p.most) + rest_calls p.most (j - elements_size p)
 
 -- ---- the sequence
 
 abbrev pub entry_of : PlainList → Numbered → Entry Node (Result Given Fault)
-entry_of p s = record { node = node_in p s; answer = Ok (answer_in p s); asked = p.root ∷ []; uses = uses_in p s }
+entry_of p s = record { node = node_in p s; answer = Ok (answer_in p s); asked = guard_node p (guard_of p s) ∷ []; uses = uses_in p s }
+
+-- how many of the first nodes evaluation of the node of a number completes: of a value those up to its field's head, but not that field's end
+abbrev pub spot_whole : ℕ → Spot → ℕ
+spot_whole j (Value i) = j - 1
+spot_whole j s = suc j
+
+abbrev pub whole_in : ℕ → Numbered → ℕ
+whole_in j (numbered.Of s) = spot_whole j s
+whole_in j (numbered.Rest i) = suc j
 
 abbrev pub fold_of : PlainList → Fold Node (Result Given Fault)
 fold_of p = record {
   root = p.root;
   size = size_of p;
   entry = λ j. entry_of p (numbered_at p j);
-  prior = λ j. None;
-  whole = suc;
+  prior = λ j. guard_of p (numbered_at p j);
+  whole = λ j. whole_in j (numbered_at p j);
   calls = λ j. asks_in p (numbered_at p j) + 1;
 }
 
 -- ---- told anew
 
--- another tells of the same list, and differs only in how many elements have numbers, and in whether these are all
+-- another tells of the same list, and differs only in how many elements have numbers, where these begin, and in whether they are all
 pub record IsAlike (p q : PlainList) : Type 0 where
   pub root : q.root ≡ p.root
   pub list : q.list ≡ p.list
@@ -296,3 +407,4 @@ pub record IsAlike (p q : PlainList) : Type 0 where
   pub size : q.size ≡ p.size
   pub parts : q.parts.items ≡ p.parts.items
   pub per : q.per ≡ p.per
+  pub says : says_sizes q ≡ says_sizes p

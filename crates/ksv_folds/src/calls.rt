@@ -1,8 +1,8 @@
 //! The calls that nodes take.
 #![tactic(auto)]
 
-ghost use Rattle.std.specs.Prelude.{◌≡◌, ◌+◌, ◌-◌, ◌*◌, ◌^◌, ◌<◌, ◌≤◌, length};
-ghost use Rattle.ksv_folds.specs.Sequence.{IsIn, asked_before, calls_before, rest_calls, calls_to, size_of};
+ghost use Rattle.std.specs.Prelude.{◌≡◌, ◌+◌, ◌-◌, ◌*◌, ◌^◌, ◌<◌, ◌≤◌, ◌==◌, ◌⊎◌, suc, true, false, length, if◌then◌else◌};
+ghost use Rattle.ksv_folds.specs.Sequence.{IsIn, says_sizes, asked_before, plain_calls, sized_calls, spot_calls, rest_calls, calls_to, size_of};
 
 use crate::plain_list::PlainList;
 use crate::spot::Spot;
@@ -16,33 +16,84 @@ fn field_calls(fields: u64) -> u64
 }
 
 impl PlainList {
-    /// The calls of so many elements, as if there was one before the first.
+    /// The calls of so many elements, as if there was one before the first; so many are there for an element besides five of each field.
     #[tactic(auto, using(crate::proofs::Adding::calls_room))]
-    fn element_calls(&self, elements: u32) -> u64
-        requires { elements ≤ self.now.most }
-        ensures value { result ≡ (5 * length self.now.parts.items + 6) * elements }
+    fn element_calls(&self, others: u64, elements: u32) -> u64
+        requires others { others ≤ 9 }
+        requires plain { others ≤ 6 ⊎ (says_sizes self.now ≡ true) }
+        requires few { elements ≤ self.now.most }
+        ensures value { result ≡ (5 * length self.now.parts.items + others) * elements }
         ensures small { result ≤ 3 * 2 ^ 32 }
     {
-        (5 * self.parts.len() as u64 + 6) * u64::from(elements)
+        (5 * self.parts.len() as u64 + others) * u64::from(elements)
     }
 
-    /// The calls of all nodes before one of an element.
-    fn calls_before(&self, spot: Spot) -> u64
-        requires { IsIn (length self.now.parts.items) (self.now.most + 1) spot }
-        ensures { result ≡ calls_before (length self.now.parts.items) spot }
+    /// The calls of all nodes before one of an element, where there are no values.
+    fn plain_calls(&self, spot: Spot) -> u64
+        requires { IsIn false (length self.now.parts.items) (self.now.most + 1) spot }
+        ensures { result ≡ plain_calls (length self.now.parts.items) spot }
     {
         match spot {
             Spot::ElementHead(0) => 0,
-            Spot::ElementHead(element) => self.element_calls(element).saturating_sub(1),
+            Spot::ElementHead(element) => self.element_calls(6, element).saturating_sub(1),
             Spot::ElementEnd(element) => {
-                self.element_calls(element) + 2 + field_calls(self.parts.len() as u64)
+                self.element_calls(6, element) + 2 + field_calls(self.parts.len() as u64)
             }
             Spot::FieldHead(element, field) => {
-                self.element_calls(element) + 2 + field_calls(u64::from(field))
+                self.element_calls(6, element) + 2 + field_calls(u64::from(field))
             }
-            Spot::FieldEnd(element, field) => self.element_calls(element)
+            Spot::FieldEnd(element, field) => self.element_calls(6, element)
                 + 4
                 + 5 * u64::from(field),
+            Spot::Value(_) => 0,
+        }
+    }
+
+    /// So many, if a field is the last.
+    fn if_last(&self, field: u32, calls: u64) -> u64
+        requires { field < length self.now.parts.items }
+        ensures { result ≡ (if suc field == length self.now.parts.items then calls else 0) }
+    {
+        if field as usize + 1 == self.parts.len() {
+            calls
+        } else {
+            0
+        }
+    }
+
+    /// The calls of all nodes before one of an element, where each says the size of its last field.
+    #[tactic(auto, using(crate::specs::Lemmas::Numbers::fields_some))]
+    fn sized_calls(&self, spot: Spot) -> u64
+        requires says { says_sizes self.now ≡ true }
+        requires low { IsIn true (length self.now.parts.items) (self.now.most + 1) spot }
+        ensures { result ≡ sized_calls (length self.now.parts.items) spot }
+    {
+        let fields = self.parts.len() as u64;
+        match spot {
+            Spot::ElementHead(0) => 0,
+            Spot::ElementHead(element) => self.element_calls(9, element).saturating_sub(1),
+            Spot::ElementEnd(element) => self.element_calls(9, element) + (5 * fields + 4),
+            Spot::FieldHead(element, field) => {
+                let before = 2 + field_calls(u64::from(field));
+                self.element_calls(9, element) + (before + self.if_last(field, 2))
+            }
+            Spot::FieldEnd(element, field) => {
+                let before = 4 + 5 * u64::from(field);
+                self.element_calls(9, element) + (before + self.if_last(field, 3))
+            }
+            Spot::Value(element) => self.element_calls(9, element) + (5 * fields - 4),
+        }
+    }
+
+    /// The calls of all nodes before one of an element.
+    fn spot_calls(&self, spot: Spot) -> u64
+        requires { IsIn (says_sizes self.now) (length self.now.parts.items) (self.now.most + 1) spot }
+        ensures { result ≡ spot_calls self.now spot }
+    {
+        if self.says_sizes() {
+            self.sized_calls(spot)
+        } else {
+            self.plain_calls(spot)
         }
     }
 
@@ -69,8 +120,8 @@ impl PlainList {
     {
         let elements = self.elements_size();
         if place < elements {
-            return self.calls_before(self.spot(place));
+            return self.spot_calls(self.spot(place));
         }
-        self.calls_before(Spot::ElementHead(self.most)) + self.rest_calls(place - elements)
+        self.spot_calls(Spot::ElementHead(self.most)) + self.rest_calls(place - elements)
     }
 }

@@ -1,7 +1,7 @@
 //! How many nodes the sequence has over some bytes.
 #![tactic(auto)]
 
-ghost use Rattle.std.specs.Prelude.{◌≡◌, ◌-◌, ◌<◌, ◌≤◌, true, [], Ok, IfSome};
+ghost use Rattle.std.specs.Prelude.{◌≡◌, ◌-◌, ◌<◌, ◌≤◌, ℕ, suc, true, false, [], Ok, IfSome, length};
 ghost use Rattle.ksv_desc.specs.Whole.{plain_pieces};
 ghost use Rattle.ksv_memo_rules.specs.Evaluation.{tells};
 ghost use Rattle.ksv_memo_rules.specs.Meaning.{on};
@@ -10,20 +10,24 @@ ghost use Rattle.ksv_nodes.specs.Reading.{end_in};
 ghost use Rattle.ksv_nodes.specs.declared.given.Given.TheVariants as givens;
 ghost use Rattle.ksv_nodes.specs.declared.given.Head.TheVariants as heads;
 ghost use Rattle.ksv_rule_meaning.specs.Described.{described};
-ghost use Rattle.ksv_memo_rules.specs.Folds.{IsFold};
+ghost use Rattle.ksv_memo_rules.specs.Folds.{AreTold, IsFold};
 ghost use Rattle.ksv_list_laws.specs.Nodes.{is_last_at};
-ghost use Rattle.ksv_folds.specs.Layouts.{IsOf, AreWhole};
-ghost use Rattle.ksv_folds.specs.Sequence.{fold_of, start_of, size_of};
+ghost use Rattle.ksv_folds.specs.declared.spot.Spot.{Spot};
+ghost use Rattle.ksv_folds.specs.Layouts.{IsOf, AreWhole, WritesSize, AreSaidTo};
+ghost use Rattle.ksv_folds.specs.Sequence.{says_sizes, index_of, fold_of, start_of, size_of};
 
+use crate::integer::integer_value;
+use crate::part::Format;
 use crate::plain_list::PlainList;
 use crate::same::{is_head, same_list, same_object};
-use ksv_bytes::Buffer;
+use crate::spot::Spot;
+use ksv_bytes::{Buffer, Window};
 use ksv_desc::Desc;
-use ksv_expr_value::{Place, StreamEnd};
+use ksv_expr_value::{Parts, Place, StreamEnd};
 use ksv_nodes::{Given, Head, List};
 
 /// The number of the byte where a stream ends.
-fn end_of(to: StreamEnd, bytes: &Buffer) -> usize
+pub(crate) fn end_of(to: StreamEnd, bytes: &Buffer) -> usize
     ensures { result ≡ end_in bytes.now to }
 {
     match to.get() {
@@ -55,8 +59,9 @@ impl PlainList {
         }
     }
 
-    /// How many elements are whole.
+    /// How many elements are whole, where they are of one size.
     pub(crate) fn whole_elements(&self, list: &List, bytes: &Buffer) -> u32
+        requires { says_sizes self.now ≡ false }
         ensures { AreWhole self.now list.now bytes.now result }
     {
         let length = bytes.len();
@@ -71,6 +76,84 @@ impl PlainList {
             room as u32
         } else {
             most
+        }
+    }
+
+    /// Whether the bytes of a field write the size that its element says.
+    fn writes_size(&self, bytes: &Buffer, element: u32) -> bool
+        requires says { says_sizes self.now ≡ true }
+        requires few { element < self.now.most }
+        requires within { start_of self.now (suc element) ≤ length bytes.now }
+        ensures { result ≡ true → WritesSize self.now bytes.now element }
+    {
+        let field = self.sizer();
+        let from = self.edge_at(element, field) as usize;
+        let to = self.edge_at(element, field + 1) as usize;
+        if from + 8 < to {
+            return false;
+        }
+        let (front, back) = bytes.parts(Window { from, to });
+        let Format { is_signed, order } = self.format;
+        integer_value(is_signed, order, Parts { front, back }) == i128::from(self.says(element))
+    }
+
+    /// How many of the first elements have a value among the first nodes.
+    pub(crate) fn told_elements(&self, kept: u32) -> u32
+        requires { says_sizes self.now ≡ true }
+        ensures told { (i : ℕ) → i < result → index_of self.now (Spot.Value i) < kept }
+        ensures all { (i : ℕ) → index_of self.now (Spot.Value i) < kept → i < result }
+    {
+        let whole = kept / self.per;
+        if kept % self.per > self.per - 4 {
+            whole + 1
+        } else {
+            whole
+        }
+    }
+
+    /// How many of the first elements are looked at, so that the node of a number has been.
+    fn sought_elements(&self, list: &List, sought: u32) -> u32
+        ensures most { result ≤ self.now.most }
+        ensures counted { IfSome list.now.count (λ all. result ≤ all) }
+    {
+        let most = self.at_most(list);
+        if sought < self.elements_size() {
+            most.min(sought / self.per + 2)
+        } else {
+            most
+        }
+    }
+
+    /// How many of the first elements are whole and say their sizes, of those with a value among the first nodes, and those that are looked at.
+    fn said_elements(&self, list: &List, bytes: &Buffer, kept: u32, sought: u32) -> u32
+        requires { says_sizes self.now ≡ true }
+        ensures whole { AreWhole self.now list.now bytes.now result }
+        ensures said { AreSaidTo self.now bytes.now kept result }
+    {
+        let end = end_of(list.stream.to, bytes);
+        let most = self.sought_elements(list, sought);
+        let mut whole = self.told_elements(kept).min(most);
+        if bytes.len() < end || self.start(whole) as usize > end {
+            return 0;
+        }
+        while whole < most
+            && self.start(whole + 1) as usize <= end
+            && self.writes_size(bytes, whole)
+        {
+            whole += 1;
+        }
+        whole
+    }
+
+    /// How many of the first elements are whole, and say their sizes where they do.
+    fn elements(&self, list: &List, bytes: &Buffer, kept: u32, sought: u32) -> u32
+        ensures whole { AreWhole self.now list.now bytes.now result }
+        ensures said { AreSaidTo self.now bytes.now kept result }
+    {
+        if self.says_sizes() {
+            self.said_elements(list, bytes, kept, sought)
+        } else {
+            self.whole_elements(list, bytes)
         }
     }
 
@@ -94,14 +177,15 @@ impl PlainList {
         self.elements_size() + self.most
     }
 
-    /// How many nodes the sequence has over these bytes, where the list's head still gives this list.
-    fn count_in(&self, desc: &Desc, list: &List, bytes: &Buffer) -> u32
-        ensures { (tells (on (described (plain_pieces desc.now)) bytes.now) [] (fold_of self.now).root).outcome ≡ Answered (Ok (givens.Head (heads.List list.now))) → IsFold (on (described (plain_pieces desc.now)) bytes.now) (fold_of self.now) result }
+    /// How many nodes the sequence has over these bytes, where the list's head still gives this list, and so many of the first nodes are kept. It looks no farther
+    /// than to the node of a number.
+    fn count_in(&self, desc: &Desc, list: &List, bytes: &Buffer, kept: u32, sought: u32) -> u32
+        ensures { (tells (on (described (plain_pieces desc.now)) bytes.now) [] (fold_of self.now).root).outcome ≡ Answered (Ok (givens.Head (heads.List list.now))) → AreTold (on (described (plain_pieces desc.now)) bytes.now) (fold_of self.now) kept → IsFold (on (described (plain_pieces desc.now)) bytes.now) (fold_of self.now) result }
     {
         if !self.is_of(list) || !self.has_layout(desc, list) {
             return 0;
         }
-        let whole = self.whole_elements(list, bytes);
+        let whole = self.elements(list, bytes, kept, sought);
         if whole == 0 {
             return 0;
         }
@@ -112,12 +196,13 @@ impl PlainList {
         if ends { self.size() } else { self.per * whole }
     }
 
-    /// How many nodes the sequence has over these bytes, where the list's head still gives this.
-    pub fn count(&self, desc: &Desc, given: &Given, bytes: &Buffer) -> u32
-        ensures { (tells (on (described (plain_pieces desc.now)) bytes.now) [] (fold_of self.now).root).outcome ≡ Answered (Ok given.now) → IsFold (on (described (plain_pieces desc.now)) bytes.now) (fold_of self.now) result }
+    /// How many nodes the sequence has over these bytes, where the list's head still gives this, and so many of the first nodes are kept. It looks no farther than
+    /// to the node of a number.
+    pub fn count(&self, desc: &Desc, given: &Given, bytes: &Buffer, kept: u32, sought: u32) -> u32
+        ensures { (tells (on (described (plain_pieces desc.now)) bytes.now) [] (fold_of self.now).root).outcome ≡ Answered (Ok given.now) → AreTold (on (described (plain_pieces desc.now)) bytes.now) (fold_of self.now) kept → IsFold (on (described (plain_pieces desc.now)) bytes.now) (fold_of self.now) result }
     {
         match given {
-            Given::Head(Head::List(list)) => self.count_in(desc, list, bytes),
+            Given::Head(Head::List(list)) => self.count_in(desc, list, bytes, kept, sought),
             _ => 0,
         }
     }

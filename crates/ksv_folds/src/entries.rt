@@ -4,12 +4,12 @@
 ghost use Rattle.std.specs.Prelude.{◌≡◌, ◌+◌, ◌<◌, ◌≤◌, suc, length};
 ghost use Rattle.ksv_expr_value.specs.Places.{end_limit};
 ghost use Rattle.ksv_memo_rules.specs.Folds.{used_of};
-ghost use Rattle.ksv_folds.specs.Sequence.{IsIn, IsThere, leaf, element_answer, field_origin, answer_of, answer_in, is_closing, is_open, start_of, end_reach, prior_reach, head_reach, reach_of, spot_uses, uses_in};
+ghost use Rattle.ksv_folds.specs.Sequence.{IsOne, IsThere, leaf, element_answer, field_origin, answer_of, answer_in, is_closing, is_open, start_of, end_reach, prior_reach, head_reach, reach_of, spot_uses, uses_in};
 
 use crate::plain_list::PlainList;
 use crate::spot::{Numbered, Spot};
 use ksv_bytes::Use;
-use ksv_expr_value::Place;
+use ksv_expr_value::{Integer, Place, Value};
 use ksv_nodes::{CaseNumber, Given, Head, Leaf, MemberRef, Object, ObjectEnd, Origin};
 
 /// The bytes from one to another.
@@ -88,7 +88,7 @@ impl PlainList {
 
     /// What a node of an element answers.
     fn answer_of(&self, spot: Spot) -> Given
-        requires { IsIn (length self.now.parts.items) self.now.most spot }
+        requires { IsOne self.now spot }
         ensures { result ≡ answer_of self.now spot }
     {
         let (to, last) = match spot {
@@ -96,6 +96,9 @@ impl PlainList {
             Spot::FieldHead(element, field) => return self.field_answer(element, field),
             Spot::ElementEnd(element) => (self.start(element + 1), self.is_closing(element)),
             Spot::FieldEnd(element, field) => (self.edge_at(element, field + 1), false),
+            Spot::Value(element) => {
+                return Given::Value(Value::Int(Integer::from(u64::from(self.says(element)))));
+            }
         };
         Given::End {
             place: Place::at_byte(to),
@@ -160,7 +163,7 @@ impl PlainList {
 
     /// The farthest place to which a node reads; 0 if to none.
     pub(crate) fn reach_of(&self, spot: Spot) -> u32
-        requires { IsIn (length self.now.parts.items) self.now.most spot }
+        requires { IsOne self.now spot }
         ensures { result ≡ reach_of self.now spot }
     {
         match spot {
@@ -169,17 +172,30 @@ impl PlainList {
             Spot::FieldHead(element, field) | Spot::FieldEnd(element, field) => {
                 self.edge_at(element, field + 1)
             }
+            Spot::Value(element) => self.edge_at(element, self.sizer() + 1),
         }
+    }
+
+    /// What a value uses: the bytes of its field.
+    fn value_used(&self, element: u32) -> Option<Use>
+        requires { IsOne self.now (Spot.Value element) }
+        ensures { spot_uses self.now (Spot.Value element) ≡ used_of result }
+    {
+        let field = self.sizer();
+        let from = self.edge_at(element, field);
+        let to = self.edge_at(element, field + 1);
+        Some(Use::Bytes(from, to))
     }
 
     /// What a node of an element uses.
     fn spot_used(&self, spot: Spot) -> Option<Use>
-        requires { IsIn (length self.now.parts.items) self.now.most spot }
+        requires { IsOne self.now spot }
         ensures { spot_uses self.now spot ≡ used_of result }
     {
         let is_sized = match spot {
             Spot::ElementEnd(element) => self.is_open() && self.is_closing(element),
             Spot::ElementHead(_) | Spot::FieldHead(_, _) | Spot::FieldEnd(_, _) => false,
+            Spot::Value(element) => return self.value_used(element),
         };
         if is_sized {
             return Some(Use::Size);

@@ -3,7 +3,7 @@
 
 ghost use Rattle.std.specs.Prelude.{◌≡◌, ◌<◌, ℕ, length, IfSome, IfNone};
 ghost use Rattle.ksv_folds.specs.Parts.{part};
-ghost use Rattle.ksv_folds.specs.Sequence.{IsIn, IsAt, IsRest, IsThere, IsNumbered, element_spot, member_spot, index, number_of, elements_size, size_of};
+ghost use Rattle.ksv_folds.specs.Sequence.{IsOne, IsAt, IsRest, IsThere, IsNumbered, element_spot, member_spot, past_value, index_of, number_of, elements_size, size_of};
 ghost use Rattle.ksv_folds.specs.declared.spot.Numbered.{Numbered};
 ghost use Rattle.ksv_folds.specs.declared.spot.Spot.{Spot};
 
@@ -23,18 +23,25 @@ fn element_spot(kind: NodeKind, element: u32) -> Option<Spot>
     }
 }
 
-/// The head or the end of a field.
-fn member_spot(kind: NodeKind, element: u32, field: u32) -> Option<Spot>
-    ensures { result ≡ member_spot kind element field }
-{
-    match kind {
-        NodeKind::Head => Some(Spot::FieldHead(element, field)),
-        NodeKind::End => Some(Spot::FieldEnd(element, field)),
-        NodeKind::Value | NodeKind::Rest => None,
-    }
-}
-
 impl PlainList {
+    /// The head or the end of a field, or the value that says a size.
+    fn member_spot(&self, kind: NodeKind, element: u32, field: u32) -> Option<Spot>
+        ensures { result ≡ member_spot self.now kind element field }
+    {
+        match kind {
+            NodeKind::Head => Some(Spot::FieldHead(element, field)),
+            NodeKind::End => Some(Spot::FieldEnd(element, field)),
+            NodeKind::Value => {
+                if self.says_sizes() && field == self.sizer() {
+                    Some(Spot::Value(element))
+                } else {
+                    None
+                }
+            }
+            NodeKind::Rest => None,
+        }
+    }
+
     /// The number of the first field of a name.
     fn field_named(&self, name: u32) -> Option<u32>
         ensures some { IfSome result (λ f. (f < length self.now.parts.items) × ((part self.now.parts.items f).name ≡ name)) }
@@ -68,7 +75,7 @@ impl PlainList {
                     return None;
                 }
                 let field = self.field_named(name)?;
-                member_spot(node.kind, element, field)
+                self.member_spot(node.kind, element, field)
             }
         }
     }
@@ -107,17 +114,31 @@ impl PlainList {
         }
     }
 
+    /// One for the value, before the last field.
+    fn past_value(&self, field: u32) -> u32
+        requires { field < length self.now.parts.items }
+        ensures { result ≡ past_value self.now.per field }
+    {
+        if 2 * field + 5 == self.per { 1 } else { 0 }
+    }
+
     /// The number of a node of an element.
+    #[tactic(auto, using(crate::specs::Lemmas::Numbers::index_low))]
     fn index(&self, spot: Spot) -> u32
-        requires { IsIn (length self.now.parts.items) self.now.most spot }
-        ensures value { result ≡ index self.now.per spot }
+        requires { IsOne self.now spot }
+        ensures value { result ≡ index_of self.now spot }
         ensures small { result < elements_size self.now }
     {
         match spot {
             Spot::ElementHead(element) => self.per * element,
             Spot::ElementEnd(element) => self.per * element + (self.per - 1),
-            Spot::FieldHead(element, field) => self.per * element + (2 * field + 1),
-            Spot::FieldEnd(element, field) => self.per * element + (2 * field + 2),
+            Spot::FieldHead(element, field) => {
+                self.per * element + (2 * field + 1 + self.past_value(field))
+            }
+            Spot::FieldEnd(element, field) => {
+                self.per * element + (2 * field + 2 + self.past_value(field))
+            }
+            Spot::Value(element) => self.per * element + (self.per - 4),
         }
     }
 

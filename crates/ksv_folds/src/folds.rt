@@ -2,6 +2,7 @@
 #![tactic(auto)]
 
 use crate::plain_list::PlainList;
+use crate::spot::{Numbered, Spot};
 use ksv_bytes::{Buffer, Change, Use};
 use ksv_expr_value::Fault;
 use ksv_memo_rules::Folds;
@@ -46,12 +47,19 @@ impl Folds<Node, Given, Fault> for PlainList {
         match change {
             Change::Insert { at, .. } | Change::Delete { at, .. } => self.left_at(kept, at),
             Change::Append => self.left_behind(kept),
-            Change::Overwrite { .. } => kept,
+            Change::Overwrite { at, n } => self.left_over(kept, at, n),
         }
     }
 
+    #[tactic(auto, using(crate::proofs::Most::size_some, crate::specs::Lemmas::Numbers::unvalued))]
     fn whole(&self, place: u32) -> u32 {
-        place + 1
+        if self.starts.is_none() {
+            return place + 1;
+        }
+        match self.numbered(place) {
+            Numbered::Of(Spot::Value(_)) => place.saturating_sub(1),
+            _ => place + 1,
+        }
     }
 
     #[tactic(auto, using(crate::proofs::Adding::calls_between))]

@@ -1,16 +1,18 @@
 //! How elements are laid out: whether the description says what a list's numbers say.
 #![tactic(auto)]
 
-ghost use Rattle.std.specs.Prelude.{◌≡◌, ◌+◌, ◌<◌, true, map, option_map, length};
+ghost use Rattle.std.specs.Prelude.{◌≡◌, ◌+◌, ◌<◌, true, map, option_map, length, Some};
 ghost use Rattle.ksv_desc.specs.Pieces.{plain_content, plain_choice, plain_extent, plain_repeat, plain_field, plain_member};
 ghost use Rattle.ksv_desc.specs.Whole.{plain_pieces};
 ghost use Rattle.ksv_list_laws.specs.Lists.{content_size, choice_size, repeats};
-ghost use Rattle.ksv_folds.specs.Layouts.{IsRead, IsPart, AreParts, IsType, HasObjects, HasBytes, HasContent, HasLayout};
+ghost use Rattle.ksv_folds.specs.Layouts.{IsRead, IsPart, AreParts, IsType, IsSaidBy, IsLast, IsInteger, IsSizer, IsSizedType, AreFields, HasObjects, HasBytes, HasContent, HasLayout};
+ghost use Rattle.ksv_folds.specs.Sequence.{says_sizes};
 
-use crate::part::Part;
+use crate::part::{Format, Part};
 use crate::plain_list::PlainList;
-use crate::same::same_number;
+use crate::same::{same_number, same_order};
 use ksv_desc::{Choice, Content, Desc, Extent, Field, MemberDesc, MemberKind, Repeat};
+use ksv_expr_tree::Expr;
 use ksv_nodes::List;
 use ksv_rule_meaning::{find_member, last_attribute, members_of};
 
@@ -99,9 +101,74 @@ fn repeats(repeat: &Repeat, count: Option<u32>) -> bool
     }
 }
 
+/// Whether a field is bytes, as many as a name says.
+fn is_said_by(field: &Field, name: u32) -> bool
+    ensures { result ≡ true → IsSaidBy (plain_field field.now) name }
+{
+    if field.condition.is_some() {
+        return false;
+    }
+    let Repeat::Once = field.repeat else {
+        return false;
+    };
+    let Choice::Always(Content::Bytes) = &field.choice else {
+        return false;
+    };
+    match &field.extent {
+        Extent::Sized(Expr::Name(said)) => same_number(said.number, Some(name)),
+        _ => false,
+    }
+}
+
+/// Whether the attribute of a name, behind the one of another name, is this last field, whose size that one says.
+fn is_last(members: &[MemberDesc], before: u32, name: u32, part: Part) -> bool
+    ensures { result ≡ true → IsLast (map plain_member members.now) (Some before) name part before }
+{
+    let Ok(Some(sought)) = find_member(members, name) else {
+        return false;
+    };
+    let MemberKind::Attribute(field) = sought.kind else {
+        return false;
+    };
+    sought.member == part.member
+        && part.name == name
+        && same_number(sought.before, Some(before))
+        && is_said_by(field, before)
+}
+
+/// Whether an integer is written so, and is no member of an enum.
+fn is_written(choice: &Choice, format: Format) -> bool
+    ensures { result ≡ true → IsInteger (plain_choice choice.now) format }
+{
+    match choice {
+        Choice::Always(
+            Content::Number {
+                is_signed,
+                order,
+                enumeration: None,
+                ..
+            },
+        ) => *is_signed == format.is_signed && same_order(*order, format.order),
+        _ => false,
+    }
+}
+
+/// Whether the attribute of a name is an integer that is written so, and may have any value.
+fn is_sizer(members: &[MemberDesc], name: u32, format: Format) -> bool
+    ensures { result ≡ true → IsSizer (map plain_member members.now) name format }
+{
+    let Ok(Some(sought)) = find_member(members, name) else {
+        return false;
+    };
+    let MemberKind::Attribute(field) = sought.kind else {
+        return false;
+    };
+    field.valid.is_none() && is_written(&field.choice, format)
+}
+
 impl PlainList {
-    /// Whether the attributes of a type are the fields.
-    fn has_type(&self, desc: &Desc, type_number: u32) -> bool
+    /// Whether the attributes of a type are the fields, where none says a size.
+    fn has_plain_type(&self, desc: &Desc, type_number: u32) -> bool
         ensures { result ≡ true → IsType (plain_pieces desc.now) type_number self.now.size self.now.parts.items }
     {
         let names = desc.fields(type_number);
@@ -113,6 +180,43 @@ impl PlainList {
             && part.to == self.size
             && same_number(last_attribute(members), Some(name))
             && are_parts(members, names, &self.parts)
+    }
+
+    /// Whether they are, where the one before the last says the size of that one.
+    fn has_sized_type(&self, desc: &Desc, type_number: u32) -> bool
+        ensures { result ≡ true → IsSizedType self.now (plain_pieces desc.now) type_number }
+    {
+        let names = desc.fields(type_number);
+        let members = members_of(desc, type_number);
+        let count = self.parts.len();
+        if count < 2 || names.len() != count {
+            return false;
+        }
+        let (sizer, name) = (names[count - 2], names[count - 1]);
+        if self.parts[count - 2].to != self.size {
+            return false;
+        }
+        if !same_number(last_attribute(members), Some(name)) {
+            return false;
+        }
+        if !is_last(members, sizer, name, self.parts[count - 1]) {
+            return false;
+        }
+        if !is_sizer(members, sizer, self.format) {
+            return false;
+        }
+        are_parts(members, names, &self.parts[..count - 1])
+    }
+
+    /// Whether the attributes of a type are the fields.
+    fn has_type(&self, desc: &Desc, type_number: u32) -> bool
+        ensures { result ≡ true → AreFields (says_sizes self.now) self.now (plain_pieces desc.now) type_number }
+    {
+        if self.says_sizes() {
+            self.has_sized_type(desc, type_number)
+        } else {
+            self.has_plain_type(desc, type_number)
+        }
     }
 
     /// Whether elements are objects of the list's type, which end with their fields.

@@ -1,4 +1,4 @@
-//! The nodes of a plain list by numbers alone, where its elements are of one size.
+//! The nodes of a plain list by numbers alone, where its elements are of one size, or all but the last field of each are.
 //!
 //! A [`PlainList`] holds a few numbers of a list: where it begins, the size of an element, and the fields. From these follow the
 //! nodes of all elements in order, and what each of them answers, uses and takes. So an engine could hold how many of them it
@@ -34,6 +34,7 @@
 //! - `entries`: what a node answers, and how far it reads
 //! - `finding`: which node of an element a node is, and its number
 //! - `folds`: the nodes, for an engine that keeps them by numbers alone
+//! - `integer`: integers, as the bytes of a file hold them
 //! - `laws`: the law, as a contract
 //! - `layout`: whether the description says what a list's numbers say
 //! - `leaving`: which nodes an edit leaves
@@ -43,6 +44,7 @@
 //! - `part`: the fields of an element
 //! - `plain_list`: the numbers of a list
 //! - `same`: whether two lists are the same
+//! - `scanning`: finds where elements begin that say the size of their last field
 //! - `spot`: which node of an element
 //! - `tail`: paths of elements and of their members
 //!
@@ -63,14 +65,19 @@
 //! - `Covered`: of which elements the nodes are told
 //! - `Laid`: where elements and fields are, by the numbers of the list
 //! - `Edits`: which nodes an insert, a delete or an append takes
+//! - `Overwrites`: which nodes an overwrite takes, where elements say sizes
 //! - `Most`: how many elements may have numbers
 //! - `Plain`: what the code found is a plain list's layout
 //! - `Reaches`: nodes read farther and farther
 //! - `Retold`: the nodes before both last ends stay where a list is told anew
 //! - `Right`: the sequence of a plain list is as it says
 //! - `Rooms`: where elements and fields are in the file
+//! - `Scanned`: places that are added behind others
+//! - `Sized`: what the code found of a type whose last field has a size that is said
 //! - `Steps`: equal steps are the same, and what the steps behind those of a list say
+//! - `Tests`: tests that are true
 //! - `Told`: what the nodes of a plain list are, answer and use, by the numbers of the list
+//! - `Written`: which elements say their sizes
 #![tactic(auto)]
 
 mod calls;
@@ -78,6 +85,7 @@ mod counting;
 mod entries;
 mod finding;
 mod folds;
+mod integer;
 mod laws;
 mod layout;
 mod leaving;
@@ -87,6 +95,7 @@ mod numbers;
 mod part;
 mod plain_list;
 mod same;
+mod scanning;
 mod spot;
 mod tail;
 

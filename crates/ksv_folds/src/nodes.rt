@@ -3,7 +3,7 @@
 
 ghost use Rattle.std.specs.Prelude.{◌≡◌, IfOk, unwrap_or};
 ghost use Rattle.std.specs.Option.{option_map};
-ghost use Rattle.ksv_folds.specs.Sequence.{field_path, node_of, node_in};
+ghost use Rattle.ksv_folds.specs.Sequence.{IsOne, IsThere, field_path, node_of, node_in};
 
 use crate::plain_list::PlainList;
 use crate::spot::{Numbered, Spot};
@@ -39,6 +39,7 @@ impl PlainList {
 
     /// A node of an element.
     fn node_of(&self, alloc: Global, spot: Spot) -> Result<Node, AllocError>
+        requires { IsOne self.now spot }
         ensures { IfOk result (λ node. node ≡ node_of self.now spot) }
     {
         match spot {
@@ -58,11 +59,16 @@ impl PlainList {
                 let path = self.field_path(alloc, element, field)?;
                 self.node_at(alloc, NodeKind::End, path)
             }
+            Spot::Value(element) => {
+                let path = self.field_path(alloc, element, self.sizer())?;
+                self.node_at(alloc, NodeKind::Value, path)
+            }
         }
     }
 
     /// A node.
     pub(crate) fn node_in(&self, alloc: Global, numbered: Numbered) -> Result<Node, AllocError>
+        requires { IsThere self.now numbered }
         ensures { IfOk result (λ node. node ≡ node_in self.now numbered) }
     {
         match numbered {

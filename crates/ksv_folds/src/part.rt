@@ -1,5 +1,7 @@
 //! The fields of an element.
 
+use ksv_desc::ByteOrder;
+
 /// A field of an element, by numbers.
 #[derive(Clone, Copy)]
 pub(crate) struct Part {
@@ -9,4 +11,13 @@ pub(crate) struct Part {
     pub member: u32,
     /// How many bytes of the element there are up to its end.
     pub to: u32,
+}
+
+/// How bytes write an integer.
+#[derive(Clone, Copy)]
+pub(crate) struct Format {
+    /// Whether it has a sign.
+    pub is_signed: bool,
+    /// The order of its bytes.
+    pub order: ByteOrder,
 }

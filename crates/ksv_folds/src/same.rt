@@ -4,6 +4,7 @@
 ghost use Rattle.std.specs.Prelude.{◌≡◌, true, None, Some};
 ghost use Rattle.ksv_nodes.specs.declared.node.NodeKind.TheVariants.{Head};
 
+use ksv_desc::ByteOrder;
 use ksv_expr_value::Stream;
 use ksv_nodes::{List, NodeKind, ObjectOrigin, Origin};
 
@@ -14,6 +15,16 @@ pub(crate) fn same_number(one: Option<u32>, other: Option<u32>) -> bool
     match (one, other) {
         (None, None) => true,
         (Some(one), Some(other)) => one == other,
+        _ => false,
+    }
+}
+
+/// Whether two orders of bytes are the same.
+pub(crate) fn same_order(one: ByteOrder, other: ByteOrder) -> bool
+    ensures { result ≡ true → one ≡ other }
+{
+    match (one, other) {
+        (ByteOrder::Little, ByteOrder::Little) | (ByteOrder::Big, ByteOrder::Big) => true,
         _ => false,
     }
 }

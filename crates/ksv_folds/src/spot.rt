@@ -11,6 +11,8 @@ pub(crate) enum Spot {
     FieldHead(u32, u32),
     /// Its end.
     FieldEnd(u32, u32),
+    /// The value of the field of the element that says how many bytes its last field takes.
+    Value(u32),
 }
 
 /// A node that has a number.

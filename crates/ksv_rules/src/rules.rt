@@ -74,9 +74,9 @@ impl NodeRules for DescriptionRules {
         desc: &Desc,
         given: &Given,
         bytes: &Buffer,
-        _kept: u32,
-        _sought: u32,
+        kept: u32,
+        sought: u32,
     ) -> u32 {
-        nodes.count(desc, given, bytes)
+        nodes.count(desc, given, bytes, kept, sought)
     }
 }

@@ -7,18 +7,19 @@ use Rattle.ksv_list_laws.proofs.Paths.{element_is, field_is}
 use Rattle.ksv_nodes.specs.declared.node.Node.{Node}
 use Rattle.ksv_nodes.specs.declared.node.NodeKind.TheVariants as kinds
 use Rattle.ksv_folds.specs.Lemmas.Parts.{name_small}
-use Rattle.ksv_folds.specs.Lemmas.Numbers.{numbered_is, numbered_there}
+use Rattle.ksv_folds.specs.Lemmas.Numbers.{fields_some, numbered_is, numbered_there}
 use Rattle.ksv_folds.specs.Parts.{part}
-use Rattle.ksv_folds.specs.Sequence.{IsIn, IsAt, IsThere, IsRest, IsNumbered, path_of, kind_of, node_of, rest_node, node_in, steps_of, number_of, size_of, numbered_at}
+use Rattle.ksv_folds.specs.Sequence.{sizer, IsOne, IsAt, IsThere, IsRest, IsNumbered, path_of, kind_of, node_of, rest_node, node_in, steps_of, number_of}
+use Rattle.ksv_folds.specs.Sequence.{size_of, numbered_at}
 use Rattle.ksv_folds.specs.declared.plain_list.PlainList.{PlainList}
 use Rattle.ksv_folds.specs.declared.spot.Numbered.{Numbered}
 use Rattle.ksv_folds.specs.declared.spot.Numbered.TheVariants.{Of, Rest}
 use Rattle.ksv_folds.specs.declared.spot.Spot.{Spot}
-use Rattle.ksv_folds.specs.declared.spot.Spot.TheVariants.{ElementHead, ElementEnd, FieldHead, FieldEnd}
+use Rattle.ksv_folds.specs.declared.spot.Spot.TheVariants.{ElementHead, ElementEnd, FieldHead, FieldEnd, Value}
 
 module _ (p : PlainList) where
   abbrev Is : Spot → Type 0
-  Is s = IsIn (length p.parts.items) p.most s
+  Is s = IsOne p s
 
   -- there is a path, of these steps
   abbrev Leads : Spot → Type 0
@@ -40,14 +41,15 @@ module _ (p : PlainList) where
         sym (trail_of-steps (Name name ∷ q.0.upward) r.0 r.1) ∙ ap (λ u. Name name ∷ u) q.2,
       )
 
-  leads : (s : Spot) → Is s → Leads s
+  pub leads : (s : Spot) → Is s → Leads s
   leads (ElementHead i) low = element_leads i low
   leads (ElementEnd i) low = element_leads i low
   leads (FieldHead i f) low = field_leads i f low.0 low.1
   leads (FieldEnd i f) low = field_leads i f low.0 low.1
+  leads (Value i) low = let some = (fields_some p low.1).0 in field_leads i (sizer p) low.0 (omega (arith, some))
 
   -- the node of a path
-  node_is : (s : Spot) (q : Trail) → path_of p s ≡ Some q → node_of p s ≡ record { kind = kind_of s; path = q }
+  pub node_is : (s : Spot) (q : Trail) → path_of p s ≡ Some q → node_of p s ≡ record { kind = kind_of s; path = q }
   node_is s q e = ap (λ o. unwrap_or (option_map (λ t. record { kind = kind_of s; path = t }) o) p.root) e
 
   -- a node that has these steps is this one
