@@ -16,7 +16,6 @@ ghost use Rattle.ksv_folds.specs.declared.spot.Spot.{Spot};
 ghost use Rattle.ksv_folds.specs.Layouts.{IsOf, AreWhole, WritesSize, AreSaidTo};
 ghost use Rattle.ksv_folds.specs.Sequence.{says_sizes, index_of, fold_of, start_of, size_of};
 
-use crate::integer::integer_value;
 use crate::part::Format;
 use crate::plain_list::PlainList;
 use crate::same::{is_head, same_list, same_object};
@@ -25,6 +24,7 @@ use ksv_bytes::{Buffer, Window};
 use ksv_desc::Desc;
 use ksv_expr_value::{Parts, Place, StreamEnd};
 use ksv_nodes::{Given, Head, List};
+use ksv_rule_meaning::integer_value;
 
 /// The number of the byte where a stream ends.
 pub(crate) fn end_of(to: StreamEnd, bytes: &Buffer) -> usize

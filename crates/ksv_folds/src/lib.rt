@@ -34,7 +34,6 @@
 //! - `entries`: what a node answers, and how far it reads
 //! - `finding`: which node of an element a node is, and its number
 //! - `folds`: the nodes, for an engine that keeps them by numbers alone
-//! - `integer`: integers, as the bytes of a file hold them
 //! - `laws`: the law, as a contract
 //! - `layout`: whether the description says what a list's numbers say
 //! - `leaving`: which nodes an edit leaves
@@ -85,7 +84,6 @@ mod counting;
 mod entries;
 mod finding;
 mod folds;
-mod integer;
 mod laws;
 mod layout;
 mod leaving;

@@ -5,10 +5,10 @@ ghost use Rattle.std.specs.Prelude.{◌≡◌, ◌+◌, ◌-◌, ◌<◌, ◌≤
 ghost use Rattle.ksv_expr_value.specs.Places.{end_limit};
 ghost use Rattle.ksv_folds.specs.Parts.{are_apart, nth};
 
-use crate::integer::integer_value;
 use crate::part::Format;
 use ksv_bytes::{Buffer, Window};
 use ksv_expr_value::Parts;
+use ksv_rule_meaning::integer_value;
 
 /// The last place of a file.
 pub(crate) const LAST_BYTE: u32 = 16_777_216;

@@ -17,6 +17,7 @@
 //! Modules:
 //!
 //! - `described`: `NodeRules` and `Described`: the rules as an engine sees them
+//! - `integer`: the integer that bytes say, as code
 //! - `laws`: laws of evaluation and of what is kept: the engine's are the direct ones; how many nodes a rule asks
 //! - `members`: the members of a type, as code
 //!
@@ -48,10 +49,12 @@
 #![tactic(auto)]
 
 mod described;
+mod integer;
 mod laws;
 mod members;
 
 pub use described::{Described, NodeRules};
+pub use integer::integer_value;
 pub use laws::{
     completion_is_direct, cost_is_direct, evaluation_is_direct, next_meets_truth,
     rules_are_bounded, touch_is_direct,

@@ -20,7 +20,6 @@
 //! - `evaluation`: the value of an expression in a rule, whose wants the turn answers
 //! - `fields`: the members of types
 //! - `heads`: what is at a path, and where
-//! - `integer`: integers of the file's bytes
 //! - `lent`: bytes that are lent in two slices
 //! - `parts`: where a member or an element ends, and the list that has it
 //! - `rules`: the rule of a node, and `DescriptionRules`, the code of all rules
@@ -53,7 +52,6 @@ mod ends;
 mod evaluation;
 mod fields;
 mod heads;
-mod integer;
 mod lent;
 mod parts;
 mod rules;

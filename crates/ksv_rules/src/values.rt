@@ -16,11 +16,11 @@ use crate::calculated::calculated;
 use crate::checks::value_checked;
 use crate::choosing::content_of;
 use crate::fields::field_of;
-use crate::integer::integer_value;
 use crate::lent::{are, cut, len_of};
 use ksv_desc::{ByteOrder, Content, Desc, Extent, Field, Terminator, is_truth};
 use ksv_expr_value::{Encoding, FaultKind, Integer, Parts, Path, Text, Value};
 use ksv_nodes::{Halt, Head, Leaf, Turn, first_in_parts};
+use ksv_rule_meaning::integer_value;
 
 /// The bytes from one of a number on and before another.
 fn peeked<'a>(turn: &mut Turn<'a>, from: u32, to: u32) -> Result<Parts<'a>, Halt>

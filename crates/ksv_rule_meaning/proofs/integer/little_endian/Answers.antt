@@ -1,6 +1,6 @@
 use Rattle.std.proofs.Common.{◌<◌, ◌-◌, length, arith}
 use Rattle.ksv_rule_meaning.proofs.Integers.{back_more, room_for_byte, small_more}
-use Rattle.ksv_folds.proofs.integer.little_endian.Goals as goal
+use Rattle.ksv_rule_meaning.proofs.integer.little_endian.Goals as goal
 
 pub overflow_mul-value : goal.overflow_mul-value
 overflow_mul-value c = omega (arith, room_for_byte c.loop-index.value c.loop-index.index c.loop-index.invariant.1 (omega arith))

@@ -1,6 +1,6 @@
 use Rattle.std.proofs.Common.{◌<◌, ◌+◌, ◌*◌, ◌%◌, ◌^◌}
 use Rattle.ksv_rule_meaning.proofs.Integers.{sum_fits, byte_unit}
-use Rattle.ksv_folds.proofs.integer.with_above.Goals as goal
+use Rattle.ksv_rule_meaning.proofs.integer.with_above.Goals as goal
 
 pub overflow_cast-result : goal.overflow_cast-result
 overflow_cast-result c =

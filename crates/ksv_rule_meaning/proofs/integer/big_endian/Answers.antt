@@ -1,6 +1,6 @@
 use Rattle.std.proofs.Common.{◌<◌, arith}
 use Rattle.ksv_rule_meaning.proofs.Integers.{front_more, room_for_byte, small_more}
-use Rattle.ksv_rules.proofs.integer.big_endian.Goals as goal
+use Rattle.ksv_rule_meaning.proofs.integer.big_endian.Goals as goal
 
 pub overflow_mul-value : goal.overflow_mul-value
 overflow_mul-value c = omega (arith, room_for_byte c.loop-byte.value c.loop-byte.byte-index c.loop-byte.invariant.1 (omega arith))

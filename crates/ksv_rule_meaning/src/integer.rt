@@ -4,7 +4,6 @@ ghost use Rattle.std.specs.Prelude.{◌≡◌, ◌<◌, ◌≤◌, ◌+◌, ◌-
 ghost use Rattle.ksv_expr_value.specs.Bytes.{content};
 ghost use Rattle.ksv_rule_meaning.specs.Integers.{integer_value, unsigned_value, sum_of_bytes};
 
-use crate::lent::len_of;
 use ksv_desc::ByteOrder;
 use ksv_expr_value::Parts;
 
@@ -35,7 +34,7 @@ fn little_endian(bytes: &[u8]) -> u64
 }
 
 /// A number of some bytes, with another above it; both together have at most 8 bytes.
-#[tactic(auto, using(ksv_rule_meaning::proofs::Integers::sum_fits, ksv_rule_meaning::proofs::Integers::byte_unit, ksv_rule_meaning::proofs::Integers::power_small))]
+#[tactic(auto, using(crate::proofs::Integers::sum_fits, crate::proofs::Integers::byte_unit, crate::proofs::Integers::power_small))]
 fn with_above(low: u64, count: usize, high: u64) -> u64
     requires count { count ≤ 8 }
     requires low { low < 256 ^ count }
@@ -47,7 +46,7 @@ fn with_above(low: u64, count: usize, high: u64) -> u64
 }
 
 /// The number that at most 8 bytes write.
-#[tactic(auto, using(ksv_rule_meaning::proofs::Integers::sum_append, ksv_rule_meaning::proofs::Integers::reverse_sum, ksv_rule_meaning::proofs::Integers::fits_above))]
+#[tactic(auto, using(crate::proofs::Integers::sum_append, crate::proofs::Integers::reverse_sum, crate::proofs::Integers::fits_above))]
 fn unsigned_value(order: ByteOrder, parts: Parts) -> u64
     requires { length (content parts) ≤ 8 }
     ensures { result ≡ unsigned_value order (content parts.entry) }
@@ -60,7 +59,7 @@ fn unsigned_value(order: ByteOrder, parts: Parts) -> u64
 }
 
 /// How many values an integer of a number of bytes can have.
-#[tactic(auto, using(ksv_rule_meaning::proofs::Integers::byte_unit, ksv_expr_value::proofs::Binary::byte_power, ksv_rule_meaning::proofs::Integers::power_small))]
+#[tactic(auto, using(crate::proofs::Integers::byte_unit, ksv_expr_value::proofs::Binary::byte_power, crate::proofs::Integers::power_small))]
 fn value_count(count: usize) -> i128
     requires { count ≤ 8 }
     ensures value { result ≡ pos (2 ^ (8 * count)) }
@@ -70,14 +69,14 @@ fn value_count(count: usize) -> i128
     values as i128
 }
 
-/// The integer that at most 8 bytes say.
-#[tactic(auto, unfolding(ksv_rule_meaning::specs::Integers::integer_value))]
-pub(crate) fn integer_value(is_signed: bool, order: ByteOrder, parts: Parts) -> i128
+/// The integer that at most 8 bytes say: unsigned, or in two's complement (User Guide, "Fixed-size structures"), in this order.
+#[tactic(auto, unfolding(crate::specs::Integers::integer_value))]
+pub fn integer_value(is_signed: bool, order: ByteOrder, parts: Parts) -> i128
     requires { length (content parts) ≤ 8 }
     ensures { result ≡ integer_value is_signed order (content parts.entry) }
 {
     let unsigned = i128::from(unsigned_value(order, parts));
-    let values = value_count(len_of(parts));
+    let values = value_count(parts.front.len() + parts.back.len());
     if is_signed && unsigned >= values / 2 {
         unsigned - values
     } else {

@@ -1,6 +1,6 @@
 use Rattle.std.proofs.Common.{length, arith, length-append}
 use Rattle.ksv_rule_meaning.proofs.Integers.{fits_above}
-use Rattle.ksv_rules.proofs.integer.unsigned_value.Goals as goal
+use Rattle.ksv_rule_meaning.proofs.integer.unsigned_value.Goals as goal
 
 pub with_above-requires-clause-high : goal.with_above-requires-clause-high
 with_above-requires-clause-high c = fits_above c.little_endian-in-Little.result (length c.args.parts.back.now) (length c.args.parts.front.now)
