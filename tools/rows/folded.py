@@ -1,4 +1,4 @@
-"""The table of what is kept of lists of many elements of one size: questions at random elements, random edits, and `stats` behind each.
+"""The table of what is kept of lists of many elements of one size, or that say it: questions at random elements, random edits, and `stats` behind each.
 
 An engine may keep the nodes of such lists without slots, where there are 1,024 at least. The replies are those of tools/second, which keeps nothing: it
 evaluates each question from nothing and counts by the definitions."""
@@ -7,7 +7,7 @@ import bits
 from session import Session, describe
 
 SEED = 770
-ROWS = 12
+ROWS = 18
 ROUNDS = 7
 
 # What each description is called, its lines, the bytes of its file as words, and the paths that are asked.
@@ -24,6 +24,12 @@ LISTS = (
     ("a list in a window", ["meta: {id: t, endian: be}", "seq: [{id: n, type: u1}, {id: body, size: n * 64, type: inner}, {id: tail, type: u1}]", "types:",
                             "  inner: {seq: [{id: xs, type: u2, repeat: eos}]}"], "11 544*0102 03 04", ["/body/xs/{}", "/tail"]),
     ("two lists", ["meta: {id: t}", "seq: [{id: xs, type: u1, repeat: expr, repeat-expr: 520}, {id: ys, type: u1, repeat: eos}]"], "1040*05", ["/xs/{}", "/ys/{}"]),
+    ("items to the end", ["meta: {id: t}", "seq: [{id: n, type: u1}, {id: pad, size: n}, {id: xs, type: item, repeat: eos}]", "types:", "  item:",
+                          "    seq: [{id: len, type: u1}, {id: body, size: len}]"], "01 aa 110*000103", ["/xs/{}/len", "/xs/{}/body", "/xs/{}", "/xs"]),
+    ("items by a count", ["meta: {id: t, endian: be}", "seq:", "  - {id: n, type: u1}", "  - {id: xs, type: item, repeat: expr, repeat-expr: 'n * 4'}",
+                          "  - {id: last, type: u1}", "types:", "  item:", "    seq: [{id: kind, type: u1}, {id: len, type: s2}, {id: body, size: len}]"],
+     "2a 90*0100000200010b 09 0a", ["/xs/{}/kind", "/xs/{}/body", "/xs/{}/len", "/last"]),
+    ("bytes, and elements far behind them", ["meta: {id: t}", "seq: [{id: n, type: u1}, {id: xs, type: u1, repeat: eos}]"], "02 03 04 05", ["/xs/{}", "/xs/1{}", "/n"]),
 )
 
 
@@ -66,7 +72,7 @@ def row(dice, number):
 def table():
     """The table."""
     dice = bits.Dice(SEED)
-    yield "# What is kept of lists of many elements of one size, behind questions and edits."
+    yield "# What is kept of lists of many elements of one size, or that say it, behind questions and edits."
     yield "# Values: by tools/second, an interpreter of its own, which keeps nothing; lines made by tools/rows/folded.py."
     for number in range(ROWS):
         yield from row(dice, number)

@@ -34,7 +34,7 @@ use Rattle.ksv_session.specs.Session.{Standing, begun}
 use Rattle.ksv_examples.specs.Descriptions.{description}
 use Rattle.ksv_examples.specs.Depth.{answer_at, outcome_to, session_to}
 use Rattle.ksv_examples.specs.Dialogues.{Dialogue, left_by, typed, GoesSo, Goes, edited_size, later_bytes, circle, up_to_a_comma, terminators, elements, conditional, streams, parents, faults, too_deep, line_ends, places, first, bitmap, picture, instances, windows, parameters, chosen, led_back, invalid, packed, around, FairlyGo, AreUnfair}
-use Rattle.ksv_examples.specs.Stats.{Tells, TellsSo, checked_against, halves, circle_told, deleted_around, list_grows, long_list, told_to, written_behind}
+use Rattle.ksv_examples.specs.Stats.{Tells, TellsSo, checked_against, halves, circle_told, deleted_around, list_grows, long_list, long_sized_list, told_to, written_behind}
 use Rattle.ksv_examples.specs.Walks.{walk_at}
 use Rattle.ksv_examples.proofs.Stating.{text_states}
 use Rattle.ksv_examples.proofs.Sessions.{session_is}
@@ -181,6 +181,10 @@ list_grows_tells = tells list_grows refl
 pub long_list_tells : Tells long_list
 unfolding told
 long_list_tells = tells long_list refl
+
+pub long_sized_list_tells : Tells long_sized_list
+unfolding told
+long_sized_list_tells = tells long_sized_list refl
 
 pub deleted_around_tells : Tells deleted_around
 unfolding told

@@ -120,6 +120,58 @@ long_list = record {
   ended = false;
 }
 
+-- a list of 150 elements that say the size of their last field, which is long enough too: elements are asked between a size that is written over, so that a
+-- body takes two bytes more, a byte that is inserted in that body, and the list's first byte that is deleted
+abbrev pub long_sized_list : Dialogue
+long_sized_list = record {
+  lines =
+      codes "meta: {id: a}" ∷
+      codes "seq: [{id: xs, type: item, repeat: eos}]" ∷
+      codes "types: {item: {seq: [{id: len, type: u1}, {id: body, size: len}]}}" ∷
+      [];
+  file = replicate 150 0x00;
+  input = text_of_lines (
+      codes "get /xs/2/body" ∷
+      codes "stats" ∷
+      codes "set 1 02" ∷
+      codes "stats" ∷
+      codes "get /xs/1/body" ∷
+      codes "stats" ∷
+      codes "get /xs/2/len" ∷
+      codes "stats" ∷
+      codes "ins 3 01" ∷
+      codes "stats" ∷
+      codes "get /xs/1/body" ∷
+      codes "get /xs/2/body" ∷
+      codes "stats" ∷
+      codes "del 0 1" ∷
+      codes "stats" ∷
+      codes "get /xs/0/body" ∷
+      codes "stats" ∷
+      []);
+  output = text_of_lines (
+      codes "hex " ∷
+      codes "kept 22 turns 55" ∷
+      codes "ok 150" ∷
+      codes "kept 12 turns 55" ∷
+      codes "hex 0000" ∷
+      codes "kept 15 turns 8" ∷
+      codes "0" ∷
+      codes "kept 20 turns 13" ∷
+      codes "ok 151" ∷
+      codes "kept 13 turns 13" ∷
+      codes "hex 0001" ∷
+      codes "hex " ∷
+      codes "kept 23 turns 21" ∷
+      codes "ok 150" ∷
+      codes "kept 1 turns 21" ∷
+      codes "hex 0001" ∷
+      codes "kept 8 turns 16" ∷
+      []);
+  left = 0x02 ∷ 0x00 ∷ 0x01 ∷ replicate 147 0x00;
+  ended = false;
+}
+
 -- an empty field stays where a byte after it is deleted, and goes with a byte before it
 abbrev pub deleted_around : Dialogue
 deleted_around = record {

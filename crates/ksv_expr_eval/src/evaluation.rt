@@ -67,9 +67,7 @@ fn unary_expr<By, A: Answers<By>>(
     ensures { Runs (A.handler ctx.now) (bind (meaning ctx.now operand.now) (λ v. given (unary_of operator v))) (λ v. v) answers.old answers.new result }
 {
     let operand = value(answers, ctx, operand)?;
-    let result = operators::unary(operator, &operand);
-    drop(operand);
-    given(answers, ctx, result)
+    given(answers, ctx, operators::unary(operator, &operand))
 }
 
 /// The left operand, the right operand, and then the operator.
@@ -86,10 +84,7 @@ fn binary_expr<By, A: Answers<By>>(
 {
     let left = value(answers, ctx, left)?;
     let right = value(answers, ctx, right)?;
-    let result = forms::binary(answers, ctx, operator, &left, &right);
-    drop(left);
-    drop(right);
-    result
+    forms::binary(answers, ctx, operator, &left, &right)
 }
 
 /// The truth value that an expression gives.
@@ -103,9 +98,7 @@ fn truth_of<By, A: Answers<By>>(
     ensures { Runs (A.handler ctx.now) (bind (meaning ctx.now expr.now) in_truth_value) (λ b. b) answers.old answers.new result }
 {
     let value = value(answers, ctx, expr)?;
-    let truth = forms::in_truth_value(answers, ctx, &value);
-    drop(value);
-    truth
+    forms::in_truth_value(answers, ctx, &value)
 }
 
 /// The result that the left operand decides, or the right operand's.
@@ -125,9 +118,7 @@ fn logical_expr<By, A: Answers<By>>(
         return Ok(Value::Bool(left));
     }
     let right = value(answers, ctx, right)?;
-    let result = forms::truth_value(answers, ctx, &right);
-    drop(right);
-    result
+    forms::truth_value(answers, ctx, &right)
 }
 
 /// The result of one of two expressions, as a truth value says.
@@ -161,9 +152,7 @@ fn field_expr<By, A: Answers<By>>(
 {
     let own = is_own_stream(object);
     let object = value(answers, ctx, object)?;
-    let result = forms::field(answers, ctx, own, &object, name);
-    drop(object);
-    result
+    forms::field(answers, ctx, own, &object, name)
 }
 
 #[cycle(value)]
@@ -177,9 +166,7 @@ fn special_field_expr<By, A: Answers<By>>(
     ensures { Runs (A.handler ctx.now) (bind (meaning ctx.now object.now) (λ v. special_of v name)) (λ v. v) answers.old answers.new result }
 {
     let object = value(answers, ctx, object)?;
-    let result = forms::special_field(answers, ctx, &object, name);
-    drop(object);
-    result
+    forms::special_field(answers, ctx, &object, name)
 }
 
 /// The value before a method, its one argument, and then the method.
@@ -196,10 +183,7 @@ fn call_with_one<By, A: Answers<By>>(
 {
     let object = value(answers, ctx, object)?;
     let argument = value(answers, ctx, argument)?;
-    let result = forms::call_one(answers, ctx, &object, method_of_name(method), &argument);
-    drop(object);
-    drop(argument);
-    result
+    forms::call_one(answers, ctx, &object, method_of_name(method), &argument)
 }
 
 /// Two arguments, and then the method.
@@ -217,11 +201,14 @@ fn call_behind<By, A: Answers<By>>(
 {
     let first = value(answers, ctx, first)?;
     let second = value(answers, ctx, second)?;
-    let method = method_of_name(method);
-    let result = forms::call_two(answers, ctx, object, method, &first, &second);
-    drop(first);
-    drop(second);
-    result
+    forms::call_two(
+        answers,
+        ctx,
+        object,
+        method_of_name(method),
+        &first,
+        &second,
+    )
 }
 
 /// The value before a method, its two arguments, and then the method.
@@ -238,9 +225,7 @@ fn call_with_two<By, A: Answers<By>>(
     ensures { Runs (A.handler ctx.now) (bind (meaning ctx.now object.now) (λ v. bind (meaning ctx.now first.now) (λ w. bind (meaning ctx.now second.now) (λ u. call_two v (method_named method.now) w u)))) (λ v. v) answers.old answers.new result }
 {
     let object = value(answers, ctx, object)?;
-    let result = call_behind(answers, ctx, &object, method, first, second);
-    drop(object);
-    result
+    call_behind(answers, ctx, &object, method, first, second)
 }
 
 /// The list, the index, and then the item there.
@@ -256,10 +241,7 @@ fn index_expr<By, A: Answers<By>>(
 {
     let list = value(answers, ctx, list)?;
     let place = value(answers, ctx, place)?;
-    let result = forms::item_at(answers, ctx, &list, &place);
-    drop(list);
-    drop(place);
-    result
+    forms::item_at(answers, ctx, &list, &place)
 }
 
 #[cycle(value)]
@@ -273,9 +255,7 @@ fn cast_expr<By, A: Answers<By>>(
     ensures { Runs (A.handler ctx.now) (bind (meaning ctx.now object.now) (λ v. cast_to v type_name.now.number)) (λ v. v) answers.old answers.new result }
 {
     let object = value(answers, ctx, object)?;
-    let result = forms::cast_to(answers, ctx, &object, type_name.number);
-    drop(object);
-    result
+    forms::cast_to(answers, ctx, &object, type_name.number)
 }
 
 #[cycle(value)]

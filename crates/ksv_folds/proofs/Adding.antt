@@ -4,12 +4,14 @@ use Rattle.std.proofs.Common.{length, ◌⊎◌, inl, inr, refl, sym, ap, subst,
 use Rattle.std.proofs.lemmas.Bool.{cases_lt}
 use Rattle.std.proofs.lemmas.Bool.Decides.{nat_tests}
 use Rattle.std.proofs.Math.Nat.{mul-suc, mul-zero, mul_assoc, mul-le-mul_left, mul-le-mul_right}
-use Rattle.ksv_folds.specs.Lemmas.Numbers.{either, fields_some, width_some, prior_by, prior_is, spot_there, spot_is, index_is, head_number, behind}
-use Rattle.ksv_folds.specs.Lemmas.Numbers.{element_at, rest_at}
+use Rattle.ksv_folds.specs.Lemmas.Numbers.{either, fields_some, width_some, prior_by, prior_is, spot_there, spot_is, index_is, head_number, behind, IsPast}
+use Rattle.ksv_folds.specs.Lemmas.Missing.{each_missing}
+use Rattle.ksv_folds.specs.Lemmas.Numbers.{element_at, past_elements}
 use Rattle.ksv_folds.specs.Lemmas.Spots as plain
 use Rattle.ksv_memo_rules.specs.Folds.{calls_from}
 use Rattle.ksv_folds.specs.Sequence.{says_sizes, IsIn, index, asked_before, last_asked, size_asked, asks_of, rest_asks, asks_in, plain_calls, sized_calls}
-use Rattle.ksv_folds.specs.Sequence.{calls_before, spot_calls, rest_calls, calls_to, elements_size, size_of, spot_at, fold_of}
+use Rattle.ksv_folds.specs.Sequence.{calls_before, spot_calls, rest_calls, missing_at, missing_calls, behind_at, behind_calls, behind_size}
+use Rattle.ksv_folds.specs.Sequence.{calls_to, elements_size, size_of, spot_at, fold_of}
 use Rattle.ksv_folds.specs.declared.part.Part.{Part}
 use Rattle.ksv_folds.specs.declared.plain_list.PlainList.{PlainList}
 use Rattle.ksv_folds.specs.declared.spot.Spot.{Spot}
@@ -151,12 +153,16 @@ module _ (p : PlainList) where
   calls_at : (j : ℕ) → j < elements_size p → calls_to p j ≡ spot_calls p (spot_at p j)
   calls_at j low =
       let e : nat_lt j (elements_size p) ≡ true = grind (arith, nat_tests) in
-      ap (λ b. if b then spot_calls p (spot_at p j) else spot_calls p (ElementHead p.most) + rest_calls p.most (j - elements_size p)) e
+      ap (λ b. if b then spot_calls p (spot_at p j) else spot_calls p (ElementHead p.most) + behind_calls p.missing p.most (j - elements_size p)) e
 
-  calls_behind : (j : ℕ) → elements_size p ≤ j → calls_to p j ≡ spot_calls p (ElementHead p.most) + rest_calls p.most (j - elements_size p)
+  calls_behind : (j : ℕ) → elements_size p ≤ j → calls_to p j ≡ spot_calls p (ElementHead p.most) + behind_calls p.missing p.most (j - elements_size p)
   calls_behind j up =
       let e : nat_lt j (elements_size p) ≡ false = grind (arith, nat_tests) in
-      ap (λ b. if b then spot_calls p (spot_at p j) else spot_calls p (ElementHead p.most) + rest_calls p.most (j - elements_size p)) e
+      ap (λ b. if b then spot_calls p (spot_at p j) else spot_calls p (ElementHead p.most) + behind_calls p.missing p.most (j - elements_size p)) e
+
+  none_behind : (m : Bool) → behind_calls m p.most 0 ≡ 0
+  none_behind false = refl
+  none_behind true = omega arith
 
   -- behind all elements there is the head of one more
   last_spot : spot_at p (elements_size p) ≡ ElementHead p.most
@@ -166,7 +172,8 @@ module _ (p : PlainList) where
   end_calls j e =
       let none : suc j - elements_size p ≡ 0 = omega (arith, e) in
       let start : spot_calls p (ElementHead p.most) + 0 ≡ spot_calls p (ElementHead p.most) = omega arith in
-      calls_behind (suc j) (omega (arith, e)) ∙ ap (λ r. spot_calls p (ElementHead p.most) + rest_calls p.most r) none ∙ start
+      calls_behind (suc j) (omega (arith, e)) ∙ ap (λ r. spot_calls p (ElementHead p.most) + behind_calls p.missing p.most r) none
+      ∙ ap (λ n. spot_calls p (ElementHead p.most) + n) (none_behind p.missing) ∙ start
       ∙ ap (spot_calls p) (sym last_spot) ∙ ap (λ n. spot_calls p (spot_at p n)) (sym e)
 
   -- of so many elements, the rest behind so many others
@@ -190,15 +197,22 @@ module _ (p : PlainList) where
       by true e true f = let z = before r low in omega (arith, z)
       by false e false f = let z = before r low in omega (arith, z)
 
-  rest_next : (j : ℕ) → elements_size p ≤ j → j < elements_size p + p.most → calls_to p (suc j) ≡ calls_to p j + (fold_of p).calls j
-  rest_next j up low =
+  -- or the next node of an element that isn't there
+  next_missing : (r : ℕ) → missing_calls (suc r) ≡ missing_calls r + (asks_in p (missing_at r) + 1)
+  next_missing r = each_missing (λ n s. missing_calls (suc n) ≡ missing_calls n + (asks_in p s + 1)) (λ k. omega arith) (λ k. omega arith) r
+
+  next_behind : (m : Bool) (r : ℕ) → IsPast p m r → behind_calls m p.most (suc r) ≡ behind_calls m p.most r + (asks_in p (behind_at m p.most r) + 1)
+  next_behind false r low = next_rest p.most r low
+  next_behind true r low = next_missing r
+
+  past_next : (j : ℕ) → elements_size p ≤ j → j < size_of p → calls_to p (suc j) ≡ calls_to p j + (fold_of p).calls j
+  past_next j up low =
       let r = j - elements_size p in
       let one : suc j - elements_size p ≡ suc r = omega (arith, up) in
-      let index : elements_size p + (p.most - 1) - j ≡ p.most - 1 - r = omega (arith, up) in
-      let sum = next_rest p.most r (omega (arith, up, low)) in
-      let asks = ap (asks_in p) (rest_at p j up) ∙ ap (rest_asks p.most) index in
+      let sum = next_behind p.missing r (behind p j up low).1 in
+      let asks = ap (asks_in p) (past_elements p j up) in
       let now = calls_behind j up in
-      let next = calls_behind (suc j) (omega (arith, up)) ∙ ap (λ n. spot_calls p (ElementHead p.most) + rest_calls p.most n) one in
+      let next = calls_behind (suc j) (omega (arith, up)) ∙ ap (λ n. spot_calls p (ElementHead p.most) + behind_calls p.missing p.most n) one in
       omega (arith, sum, asks, now, next)
 
   up_to : (j : ℕ) → j < elements_size p → calls_to p (suc j) ≡ spot_calls p (spot_at p (suc j))
@@ -209,7 +223,7 @@ module _ (p : PlainList) where
 
   next_calls : (j : ℕ) → suc j ≤ size_of p → calls_to p (suc j) ≡ calls_to p j + (fold_of p).calls j
   next_calls j low = elim (cases_lt j (elements_size p)) [
-    | inr up ↦ rest_next j up (behind p j up (omega (arith, low))).1
+    | inr up ↦ past_next j up (omega (arith, low))
     | inl less ↦ (
         let next = next_spot j (omega (arith, less)) in
         let now = calls_at j less in
@@ -235,9 +249,9 @@ calls_between p from to le low =
     ap (calls_to p) (sym same) ∙ calls_up p (to - from) from (omega (arith, le, low))
 
 -- behind the elements there are no more rests than elements
-pub rests_few : (p : PlainList) (j : ℕ) → j ≤ size_of p → j - elements_size p ≤ p.most
-rests_few p j low = by p.closed low
+pub rests_few : (p : PlainList) (j : ℕ) → j ≤ size_of p → p.missing ≡ false → j - elements_size p ≤ p.most
+rests_few p j low e = by p.closed (subst (λ m. j ≤ elements_size p + behind_size p.closed m p.most) e low)
   where
-    by : (c : Bool) → j ≤ elements_size p + (if c then p.most else 0) → j - elements_size p ≤ p.most
+    by : (c : Bool) → j ≤ elements_size p + behind_size c false p.most → j - elements_size p ≤ p.most
     by true h = omega (arith, h)
     by false h = omega (arith, h)

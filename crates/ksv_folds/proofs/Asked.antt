@@ -19,7 +19,7 @@ use Rattle.ksv_folds.specs.Sequence.{whole_in}
 use Rattle.ksv_folds.specs.declared.part.Part.{Part}
 use Rattle.ksv_folds.specs.declared.plain_list.PlainList.{PlainList}
 use Rattle.ksv_folds.specs.declared.spot.Numbered.{Numbered}
-use Rattle.ksv_folds.specs.declared.spot.Numbered.TheVariants.{Of, Rest}
+use Rattle.ksv_folds.specs.declared.spot.Numbered.TheVariants.{Of, Rest, MissingHead, MissingEnd}
 use Rattle.ksv_folds.specs.declared.spot.Spot.{Spot}
 use Rattle.ksv_folds.specs.declared.spot.Spot.TheVariants.{ElementHead, ElementEnd, FieldHead, FieldEnd, Value}
 
@@ -143,11 +143,12 @@ module _ (p : PlainList) (d : Description) (bytes : List ℕ) (x : Listing) (pla
         by true e = tt
         by false e =
             let more : suc i < x.count = grind (arith, nat_tests) in
-            let all = (low.2).all in ((Rest (suc i), refl, (omega (arith, more, all), low.1, low.2), omega (arith, more, all)), tt)
+            let all = (low.2).all in
+            ((Rest (suc i), refl, ((low.0.0, low.0.1, omega (arith, more, all)), low.1, low.2), omega (arith, more, all)), tt)
 
     end_earlier : (i : ℕ) → Known (Rest i) → IsEarlier (number_of p (Rest i)) (Some (nodes.ElementEnd i))
     end_earlier i low =
-        let some = low.0 in
+        let some = low.0.2 in
         let full = low.1 in
         let less = index_low p p.most (ElementEnd i) some in
         (Of (ElementEnd i), refl, omega (arith, some, full), omega (arith, less))
@@ -156,9 +157,22 @@ module _ (p : PlainList) (d : Description) (bytes : List ℕ) (x : Listing) (pla
     rest_earlier zero low = (tt, (end_earlier zero low, next_earlier zero low))
     rest_earlier (suc i) low = (end_earlier (suc i) low, next_earlier (suc i) low)
 
+    -- of an element that isn't there the head asks the end of the one before
+    missing_earlier : (k : ℕ) → Known (MissingHead k) → AllByRecursion (IsEarlier (number_of p (MissingHead k))) (asked_by x (nodes.MissingHead k))
+    missing_earlier zero low =
+        let all = (low.2).all in
+        let full = low.1 in
+        let any = p.any in
+        let less = index_low p p.most (ElementEnd (x.count - 1)) (omega (arith, all, any)) in
+        (tt, ((Of (ElementEnd (x.count - 1)), refl, omega (arith, all, full, any), omega (arith, less)), tt))
+    missing_earlier (suc k) low =
+        let few = low.0.2 in (tt, ((MissingEnd k, refl, ((low.0.0, low.0.1, omega (arith, few)), low.1, low.2), omega arith), tt))
+
     pub asked_earlier : (s : Numbered) → Known s → AllByRecursion (IsEarlier (number_of p s)) (asked_by x (which_of s))
     asked_earlier (Of s) low = spot_earlier s low
     asked_earlier (Rest i) low = rest_earlier i low
+    asked_earlier (MissingHead k) low = missing_earlier k low
+    asked_earlier (MissingEnd k) low = ((MissingHead k, refl, low, omega arith), tt)
 
     -- ---- how many
 
@@ -211,7 +225,7 @@ module _ (p : PlainList) (d : Description) (bytes : List ℕ) (x : Listing) (pla
         by false e false f = refl
         by true e false f =
             absurd (let le : x.count ≤ suc i = grind (arith, nat_tests) in let other : i + 1 ≢ p.most = grind (arith, nat_tests) in
-            let all = (low.2).all in let some = low.0 in omega (arith, le, other, all, some))
+            let all = (low.2).all in let some = low.0.2 in omega (arith, le, other, all, some))
         by false e true f =
             absurd (let less : suc i < x.count = grind (arith, nat_tests) in let same : i + 1 ≡ p.most = grind (arith, nat_tests) in
             let all = (low.2).all in omega (arith, less, same, all))
@@ -226,6 +240,8 @@ module _ (p : PlainList) (d : Description) (bytes : List ℕ) (x : Listing) (pla
     count_is : (s : Numbered) → Known s → length (asked_by x (which_of s)) ≡ asks_in p s
     count_is (Of s) low = spot_count s low
     count_is (Rest i) low = rest_count i low
+    count_is (MissingHead k) low = refl
+    count_is (MissingEnd k) low = refl
 
     pub asks_are : (s : Numbered) → Known s → length (nodes_of x (asked_by x (which_of s))) ≡ asks_in p s
     asks_are s low = all_found (number_of p s) (asked_by x (which_of s)) (asked_earlier s low) ∙ count_is s low
@@ -335,7 +351,7 @@ module _ (p : PlainList) (d : Description) (bytes : List ℕ) (x : Listing) (pla
         by false e false f = inr (inl refl)
         by false e true f =
             absurd (let le : x.count ≤ suc i = grind (arith, nat_tests) in let other : i + 1 ≢ p.most = grind (arith, nat_tests) in
-            let all = (low.2).all in let some = low.0 in omega (arith, le, other, all, some))
+            let all = (low.2).all in let some = low.0.2 in omega (arith, le, other, all, some))
 
     rest_prior : (i : ℕ) → Known (Rest i) → AnyOf (λ o. o ≡ Some (which_of (prior_in p (Rest i)))) (asked_by x (nodes.Rest i))
     rest_prior zero low = inr (rest_asks_prior zero low)
@@ -352,3 +368,9 @@ module _ (p : PlainList) (d : Description) (bytes : List ℕ) (x : Listing) (pla
     pub behind : (s : Numbered) → Known s → 0 < number_of p s → IsBehind s
     behind (Of s) low some = spot_behind s low some
     behind (Rest i) low some = next (prior_in p (Rest i)) refl (rest_prior i low) (rest_whole i)
+    behind (MissingHead zero) low some =
+        let all = (low.2).all in
+        let same : x.count - 1 ≡ p.most - 1 = omega (arith, all) in
+        next (Of (ElementEnd (p.most - 1))) refl (inr (inl (ap (λ i. Some (nodes.ElementEnd i)) same))) (λ j. refl)
+    behind (MissingHead (suc k)) low some = next (MissingEnd k) refl (inr (inl refl)) (λ j. refl)
+    behind (MissingEnd k) low some = next (MissingHead k) refl (inl refl) (λ j. refl)

@@ -13,7 +13,7 @@ use Rattle.ksv_folds.specs.Lemmas.Numbers.{element_at, numbered_there, spot_ther
 use Rattle.ksv_folds.specs.Sequence.{IsIn, IsThere, numbered_at, elements_size, size_of, is_closing}
 use Rattle.ksv_folds.specs.declared.plain_list.PlainList.{PlainList}
 use Rattle.ksv_folds.specs.declared.spot.Numbered.{Numbered}
-use Rattle.ksv_folds.specs.declared.spot.Numbered.TheVariants.{Of, Rest}
+use Rattle.ksv_folds.specs.declared.spot.Numbered.TheVariants.{Of, Rest, MissingHead, MissingEnd}
 use Rattle.ksv_folds.specs.declared.spot.Spot.{Spot}
 use Rattle.ksv_folds.specs.declared.spot.Spot.TheVariants.{ElementHead, ElementEnd, FieldHead, FieldEnd, Value}
 
@@ -109,4 +109,6 @@ module _ (p : PlainList) (d : Description) (bytes : List ℕ) (x : Listing) (pla
       where
         by : (s : Numbered) → IsThere p s → IsKnown p d bytes x plain is p.most all s
         by (Of s) there = there
-        by (Rest i) there = (there.1, refl, ends)
+        by (Rest i) there = (there, refl, ends)
+        by (MissingHead k) there = (there, refl, ends)
+        by (MissingEnd k) there = (there, refl, ends)

@@ -1,15 +1,19 @@
 -- Which nodes an insert, a delete or an append takes, by their numbers.
-use Rattle.std.proofs.Common.{◌≡◌, ◌∙◌, ◌==◌, ◌&&◌, ◌||◌, ◌*◌, ℕ, suc, ◌+◌, ◌-◌, ◌<◌, ◌≤◌, nat_lt, Bool, true, false, if◌then◌else◌, [], ◌∷◌}
+use Rattle.std.proofs.Common.{◌≡◌, ◌∙◌, ◌==◌, ◌&&◌, ◌||◌, ◌*◌, ◌/◌, ◌%◌, ℕ, suc, ◌+◌, ◌-◌, ◌<◌, ◌≤◌, nat_lt, Bool, true, false, if◌then◌else◌, [], ◌∷◌}
 use Rattle.std.proofs.Common.{refl, sym, ap, inl, inr, arith}
 use Rattle.std.proofs.Math.Nat.{mul-suc}
 use Rattle.std.proofs.lemmas.Bool.{cases_lt}
 use Rattle.std.proofs.lemmas.Bool.Decides.{nat_tests}
 use Rattle.std.specs.List.{list_any}
 use Rattle.ksv_bytes.specs.Uses.{is_use_touched}
-use Rattle.ksv_bytes.specs.declared.uses.Change.TheVariants.{Append}
+use Rattle.ksv_bytes.specs.declared.uses.Change.{Change}
+use Rattle.ksv_bytes.specs.declared.uses.Change.TheVariants.{Append, Insert, Delete}
 use Rattle.ksv_bytes.specs.declared.uses.Use.TheVariants.{Reach, Size}
-use Rattle.ksv_folds.specs.Lemmas.Numbers.{elements_some, element_at, rest_at, last_element, width_some, end_number, index_is}
+use Rattle.ksv_folds.specs.Lemmas.Numbers.{elements_some, element_at, past_elements, last_element, width_some, end_number, index_is}
 use Rattle.ksv_folds.specs.Sequence.{spot_at, numbered_at, index_of, elements_size, reach_of, is_open, is_closing, uses_of, spot_uses, uses_in, is_read_past}
+use Rattle.ksv_folds.specs.Sequence.{behind_at, guard_of, fold_of}
+use Rattle.ksv_memo_rules.specs.Folds.{Leaves, is_from}
+use Rattle.ksv_folds.specs.declared.spot.Numbered.TheVariants.{MissingHead, MissingEnd}
 use Rattle.ksv_folds.specs.declared.plain_list.PlainList.{PlainList}
 use Rattle.ksv_folds.specs.declared.spot.Spot.{Spot}
 use Rattle.ksv_folds.specs.declared.spot.Spot.TheVariants.{ElementHead, ElementEnd, FieldHead, FieldEnd, Value}
@@ -75,6 +79,14 @@ module _ (p : PlainList) where
       ap (λ s. is_read_past at (uses_in p s)) (element_at p j (omega (arith, low)))
       ∙ spot_before at (spot_at p j) (omega (arith, low, same))
 
+  past_uses : (m : Bool) (r : ℕ) → uses_in p (behind_at m p.most r) ≡ spot_uses p (ElementEnd (p.most - 1))
+  past_uses false r = refl
+  past_uses true r = by (r % 2 == 0)
+    where
+      by : (b : Bool) → uses_in p (if b then MissingHead (r / 2) else MissingEnd (r / 2)) ≡ spot_uses p (ElementEnd (p.most - 1))
+      by true = refl
+      by false = refl
+
   -- from the last end on all use the same
   from_end : (j : ℕ) → elements_size p ≤ suc j → uses_in p (numbered_at p j) ≡ spot_uses p (ElementEnd (p.most - 1))
   from_end j up = elim (cases_lt j (elements_size p)) [
@@ -83,7 +95,7 @@ module _ (p : PlainList) where
         let same : j ≡ elements_size p - 1 = omega (arith, up, low) in
         ap (uses_in p) (element_at p j low) ∙ ap (λ i. spot_uses p (spot_at p i)) same
         ∙ ap (spot_uses p) (last_element p (p.most - 1) (omega (arith, any))))
-    | inr more ↦ ap (uses_in p) (rest_at p j more)
+    | inr more ↦ ap (uses_in p) (past_elements p j more) ∙ past_uses p.missing (j - elements_size p)
   ]
 
   closing_size : (is_open p && p.closed) ≡ true → spot_uses p (ElementEnd (p.most - 1)) ≡ Size ∷ []
@@ -186,3 +198,21 @@ module _ (p : PlainList) where
 
   pub append_goes : (is_open p && p.closed) ≡ true → (j : ℕ) → elements_size p ≤ suc j → added j ≡ true
   append_goes e j more = ap (list_any (is_use_touched Append)) (from_end j more ∙ closing_size e)
+
+-- what nodes read past a place, an insert or a delete there takes
+left_by : (p : PlainList) (change : Change) (kept left : ℕ) → left ≤ kept
+    → ((j : ℕ) → j < left → list_any (is_use_touched change) (uses_in p (numbered_at p j)) ≡ false)
+    → ((j : ℕ) → left ≤ j → j < kept → list_any (is_use_touched change) (uses_in p (numbered_at p j)) ≡ true) → Leaves (fold_of p) change kept left
+left_by p change kept left within stays goes = record {
+  within = within;
+  stays = stays;
+  goes = λ j up low. ap (λ b. b || is_from left (guard_of p (numbered_at p j))) (goes j up low);
+}
+
+pub insert_leaves : (p : PlainList) (at n kept left : ℕ) → left ≤ kept → ((j : ℕ) → j < left → is_read_past at (uses_in p (numbered_at p j)) ≡ false)
+    → ((j : ℕ) → left ≤ j → j < kept → is_read_past at (uses_in p (numbered_at p j)) ≡ true) → Leaves (fold_of p) (Insert at n) kept left
+insert_leaves p at n kept left within stays goes = left_by p (Insert at n) kept left within stays goes
+
+pub delete_leaves : (p : PlainList) (at n kept left : ℕ) → left ≤ kept → ((j : ℕ) → j < left → is_read_past at (uses_in p (numbered_at p j)) ≡ false)
+    → ((j : ℕ) → left ≤ j → j < kept → is_read_past at (uses_in p (numbered_at p j)) ≡ true) → Leaves (fold_of p) (Delete at n) kept left
+delete_leaves p at n kept left within stays goes = left_by p (Delete at n) kept left within stays goes

@@ -17,7 +17,7 @@ use Rattle.ksv_folds.specs.Sequence.{is_closing}
 use Rattle.ksv_folds.specs.Sequence.{reach_of, uses_of, spot_uses, uses_in, value_before, spot_guard, guard_in, guard_of, fold_of}
 use Rattle.ksv_folds.specs.declared.plain_list.PlainList.{PlainList}
 use Rattle.ksv_folds.specs.declared.spot.Numbered.{Numbered}
-use Rattle.ksv_folds.specs.declared.spot.Numbered.TheVariants.{Of, Rest}
+use Rattle.ksv_folds.specs.declared.spot.Numbered.TheVariants.{Of, Rest, MissingHead, MissingEnd}
 use Rattle.ksv_folds.specs.declared.spot.Spot.{Spot}
 use Rattle.ksv_folds.specs.declared.spot.Spot.TheVariants.{ElementHead, ElementEnd, FieldHead, FieldEnd, Value}
 
@@ -69,6 +69,8 @@ module _ (p : PlainList) where
     untouched (Of (FieldEnd i f)) h = unread (reach_of p (FieldEnd i f))
     untouched (Of (Value i)) h = or_false (meets i) ∙ h i refl
     untouched (Rest i) h = end_unread (p.most - 1)
+    untouched (MissingHead k) h = end_unread (p.most - 1)
+    untouched (MissingEnd k) h = end_unread (p.most - 1)
 
     near : (i : ℕ) → edge_of p i (suc (sizer p)) ≤ at → meets i ≡ false
     unfolding meets
@@ -170,6 +172,8 @@ module _ (p : PlainList) where
             let le = later i (Value i) (omega arith, e) up in let same : i ≡ m = omega (arith, le, more) in ap (λ j. Of (Value j)) same)
       ]
       goes (Rest i) there up = inr (named p.most low)
+      goes (MissingHead k) there up = inr (named p.most low)
+      goes (MissingEnd k) there up = inr (named p.most low)
 
       -- so from its first value on the change takes all
       pub takes : (kept left : ℕ) → kept ≤ size_of p → ((i : ℕ) → i < m → edge_of p i (suc (sizer p)) ≤ at)

@@ -9,6 +9,8 @@ use Rattle.ksv_list_laws.proofs.Common.{◌≡◌, ◌∙◌, ℕ, zero, suc, �
 use Rattle.ksv_list_laws.proofs.Common.{Ok, inl, inr, ◌⊎◌, refl, sym, ap, subst, arith, nat_tests, cases_lt, AllByRecursion, flat_map, Use, Fault, Description}
 use Rattle.ksv_list_laws.proofs.Common.{is_among, Standing, on, with_first, node_number, head_node, Given, Node, described, Listing, Which, node_at, nodes_of}
 use Rattle.ksv_list_laws.proofs.Common.{asked_by, uses_at, IsPlain}
+use Rattle.ksv_nodes.specs.declared.given.Given.TheVariants as givens
+use Rattle.ksv_nodes.specs.declared.given.Head.TheVariants as heads
 use Rattle.ksv_list_laws.proofs.Entries.{Known, known, entries_are_right}
 use Rattle.ksv_folds.proofs.Laid.{sizer_is}
 use Rattle.ksv_list_laws.proofs.Folding.{folded_stand_in}
@@ -34,7 +36,7 @@ use Rattle.ksv_folds.specs.Sequence.{number_of, numbered_at, node_in, answer_in,
 use Rattle.ksv_folds.specs.Sequence as sequence
 use Rattle.ksv_folds.specs.declared.plain_list.PlainList.{PlainList}
 use Rattle.ksv_folds.specs.declared.spot.Numbered.{Numbered}
-use Rattle.ksv_folds.specs.declared.spot.Numbered.TheVariants.{Of, Rest}
+use Rattle.ksv_folds.specs.declared.spot.Numbered.TheVariants.{Of, Rest, MissingHead, MissingEnd}
 use Rattle.ksv_folds.specs.declared.spot.Spot.TheVariants.{ElementHead, ElementEnd, FieldHead, FieldEnd, Value}
 
 -- ---- the first entries
@@ -66,6 +68,8 @@ folded_or_value (Of (FieldHead i f)) = inl refl
 folded_or_value (Of (FieldEnd i f)) = inl refl
 folded_or_value (Of (Value i)) = inr (i, refl)
 folded_or_value (Rest i) = inl refl
+folded_or_value (MissingHead k) = inl refl
+folded_or_value (MissingEnd k) = inl refl
 
 -- the first nodes of a sequence, which are all told
 module _ (p : PlainList) (d : Description) (bytes : List ℕ) (x : Listing) (plain : IsPlain d bytes x) (is : Describes p x) (m : ℕ) (told : IsTold p bytes x m)
@@ -91,12 +95,12 @@ module _ (p : PlainList) (d : Description) (bytes : List ℕ) (x : Listing) (pla
     abbrev among : List Node → Node → Bool
     among ms n = is_among node_number (flat_map (tree w) ms) n
 
-    has_itself : (n : Node) (g : Given) (ns : List Node) (us : List Use) → Known d bytes n g ns us → has n n ≡ true
+    has_itself : (n : Node) (g : Result Given Fault) (ns : List Node) (us : List Use) → Known d bytes n g ns us → has n n ≡ true
     has_itself n g ns us h =
         ap (λ ms. is_among node_number ms n) h.whole ∙ is_among-append node_number (flat_map (tree w) ns) (n ∷ []) n
         ∙ or_true (among ns n) (is_among node_number (n ∷ []) n) (inr (itself n))
 
-    has_asked : (n : Node) (g : Given) (ns : List Node) (us : List Use) → Known d bytes n g ns us → (q : Node) → among ns q ≡ true → has n q ≡ true
+    has_asked : (n : Node) (g : Result Given Fault) (ns : List Node) (us : List Use) → Known d bytes n g ns us → (q : Node) → among ns q ≡ true → has n q ≡ true
     has_asked n g ns us h q e =
         ap (λ ms. is_among node_number ms q) h.whole ∙ is_among-append node_number (flat_map (tree w) ns) (n ∷ []) q
         ∙ or_true (among ns q) (is_among node_number (n ∷ []) q) (inl e)
@@ -119,7 +123,9 @@ module _ (p : PlainList) (d : Description) (bytes : List ℕ) (x : Listing) (pla
     -- a known node has a number
     known_there : (s : Numbered) → One s → sequence.IsThere p s
     known_there (Of s) low = spot_low (says_sizes p) (length p.parts.items) m p.most told.few s low
-    known_there (Rest i) low = ((low.2).closed, low.0)
+    known_there (Rest i) low = low.0
+    known_there (MissingHead k) low = low.0
+    known_there (MissingEnd k) low = low.0
 
     -- what a node completes, one that asks it does
     lifts : (t s : Numbered) → One t → One s → Asks p d bytes x plain is m told t s → (q : Node) → has (node_in p t) q ≡ true → has (node_in p s) q ≡ true
@@ -181,6 +187,8 @@ module _ (p : PlainList) (d : Description) (bytes : List ℕ) (x : Listing) (pla
           whole_most k (Of (FieldEnd i f)) = omega arith
           whole_most k (Of (Value i)) = omega arith
           whole_most k (Rest i) = omega arith
+          whole_most k (MissingHead i) = omega arith
+          whole_most k (MissingEnd i) = omega arith
 
       by_next : (t : Numbered) → prior_in p (numbered_at p (suc j)) ≡ t → Asks p d bytes x plain is m told t (numbered_at p (suc j))
           → ((g : ℕ) → whole_in g t ≡ suc g) → Covers (suc j)
@@ -252,6 +260,8 @@ module _ (p : PlainList) (d : Description) (bytes : List ℕ) (x : Listing) (pla
             by (Of (FieldEnd i f)) = omega arith
             by (Of (Value i)) = omega arith
             by (Rest i) = omega arith
+            by (MissingHead k) = omega arith
+            by (MissingEnd k) = omega arith
     covers (suc n) (suc j) few low = step j low (λ g le. covers n g (omega (arith, few, le)) (omega (arith, le, low)))
 
     -- the first node is the head of the first element
@@ -261,7 +271,8 @@ module _ (p : PlainList) (d : Description) (bytes : List ℕ) (x : Listing) (pla
     first_root : 0 < count → has (node_in p (numbered_at p 0)) p.root ≡ true
     first_root low =
         let root_is : has p.root p.root ≡ true = subst (λ n. has n n ≡ true) (sym is.root)
-        (has_itself (head_node x.path) _ _ _ (known d bytes (head_node x.path) _ _ _ (record { answer = plain.listed; asked = refl; used = refl }))) in
+        (has_itself (head_node x.path) _ _ _ (known d bytes (head_node x.path) (Ok (givens.Head (heads.List x.list))) _ _
+        (record { answer = plain.listed; asked = refl; used = refl }))) in
         subst (λ s. has (node_in p s) p.root ≡ true) (sym first_at)
         (has_asked (node_in p (Of (ElementHead 0))) _ _ _ (own (Of (ElementHead 0)) (subst One first_at (at 0 low))) p.root
         (among_first p.root (head_node x.path) [] (inl (subst (λ n. has n p.root ≡ true) is.root root_is))))
@@ -355,9 +366,9 @@ module _ (p : PlainList) (d : Description) (bytes : List ℕ) (x : Listing) (pla
         let one = at j low in
         let n = node_in p s in
         let g = guard_node p (guard_of p s) in
-        subst (λ us. StandsIn w (kept j) (record { node = n; answer = Ok (answer_in p s); asked = g ∷ []; uses = us }))
+        subst (λ us. StandsIn w (kept j) (record { node = n; answer = answer_in p s; asked = g ∷ []; uses = us }))
         (reach_is p d bytes x plain is m told s one folded)
-        (subst (λ a. StandsIn w (kept j) (record { node = n; answer = Ok a; asked = g ∷ []; uses = nodes.reach_of bytes x (which_of s) }))
+        (subst (λ a. StandsIn w (kept j) (record { node = n; answer = a; asked = g ∷ []; uses = nodes.reach_of bytes x (which_of s) }))
         (answer_is p d bytes x plain is m told s one)
         (folded_stand_in d bytes x plain (which_of s) (there p d bytes x plain is m told s one) folded n g (found p d bytes x plain is m told s one)
         (guard_is p d bytes x plain is m told s one folded) (kept j) (all_kept j low) (guard_kept j low)))
@@ -380,12 +391,12 @@ module _ (p : PlainList) (d : Description) (bytes : List ℕ) (x : Listing) (pla
         let tells = telling.tells d bytes x plain (nodes.SizeValue i) (there p d bytes x plain is m told s one) n (found p d bytes x plain is m told s one) in
         let all = subst (λ t. AllByRecursion (λ o. is_among node_number (kept j) o ≡ true) (nodes_of x (asked_by x (which_of t)))) e (all_kept j low) in
         subst (λ t. StandsIn w (kept j) (entry_of p t)) (sym e)
-        (subst (λ ns. StandsIn w (kept j) (record { node = n; answer = Ok (answer_in p s); asked = ns; uses = uses_in p s })) (value_guard i one)
-        (subst (λ us. StandsIn w (kept j) (record { node = n; answer = Ok (answer_in p s); asked = nodes_of x (asked_by x (nodes.SizeValue i)); uses = us }))
+        (subst (λ ns. StandsIn w (kept j) (record { node = n; answer = answer_in p s; asked = ns; uses = uses_in p s })) (value_guard i one)
+        (subst (λ us. StandsIn w (kept j) (record { node = n; answer = answer_in p s; asked = nodes_of x (asked_by x (nodes.SizeValue i)); uses = us }))
         (value_uses p d bytes x plain is m told i one)
         (subst (λ a. StandsIn w (kept j) (record {
           node = n;
-          answer = Ok a;
+          answer = a;
           asked = nodes_of x (asked_by x (nodes.SizeValue i));
           uses = uses_at bytes x (nodes.SizeValue i);
         }))

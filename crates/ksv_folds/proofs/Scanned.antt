@@ -5,6 +5,7 @@ use Rattle.std.proofs.Math.Nat.{mul-le-mul_left}
 use Rattle.std.proofs.lemmas.Bool.{and_parts}
 use Rattle.std.proofs.lemmas.Bool.Decides.{nat_tests}
 use Rattle.std.proofs.Common.{length-append, get_or, set}
+use Rattle.ksv_expr_value.specs.Trail.{element_limit}
 use Rattle.ksv_expr_value.specs.Places.{end_limit}
 use Rattle.ksv_folds.proofs.Tests.{both}
 use Rattle.std.proofs.Common.{nat_lt, nat_eq, Some, ◌⊎◌, inl, inr}
@@ -52,7 +53,7 @@ take_more [] (suc n) z low = absurd (omega (arith, low))
 take_more (a ∷ ss) (suc n) z low = ap (λ r. a ∷ r) (take_more ss n z (omega (arith, low)))
 
 -- fewer elements than may have numbers
-pub fewer : (per a b : ℕ) → (per + 1) * b < 2 ^ 32 → a ≤ b → (per + 1) * a < 2 ^ 32
+pub fewer : (per a b : ℕ) → (per + 1) * b + 2 * element_limit < 2 ^ 32 → a ≤ b → (per + 1) * a + 2 * element_limit < 2 ^ 32
 fewer per a b room low = let up = mul-le-mul_left (per + 1) low in omega (arith, up, room)
 
 pub one_apart : (size a : ℕ) → are_apart size 0 (a ∷ []) ≡ true
@@ -135,6 +136,7 @@ starts_room p s e i low =
     let count = count_is s p.first p.size p.most (length p.parts.items) h in
     subst (λ o. start_in o p.first p.size i ≤ end_limit) e (start_room p i (omega (arith, low, count)))
 
-pub fewer_of : (per a b n : ℕ) → (per + 1) * a < 2 ^ 32 → (per + 1) * b < 2 ^ 32 → (n ≤ a) ⊎ (n ≤ b) → (per + 1) * n < 2 ^ 32
+pub fewer_of : (per a b n : ℕ) → (per + 1) * a + 2 * element_limit < 2 ^ 32 → (per + 1) * b + 2 * element_limit < 2 ^ 32 → (n ≤ a) ⊎ (n ≤ b)
+    → (per + 1) * n + 2 * element_limit < 2 ^ 32
 fewer_of per a b n h g (inl low) = fewer per n a h low
 fewer_of per a b n h g (inr low) = fewer per n b g low

@@ -2,6 +2,7 @@
 use Rattle.std.proofs.Common.{◌==◌, ◌≢◌, ◌&&◌, not, option_map}
 use Rattle.std.specs.Prelude.{pos}
 use Rattle.ksv_bytes.specs.declared.uses.Use.TheVariants.{Bytes, Reach, Size}
+use Rattle.ksv_expr_value.specs.declared.fault.FaultKind.TheVariants as faults
 use Rattle.ksv_expr_value.specs.declared.value.Value.TheVariants as values
 use Rattle.ksv_expr_value.specs.declared.step.Step.TheVariants as steps
 use Rattle.ksv_nodes.specs.declared.given.Given.TheVariants as givens
@@ -13,7 +14,8 @@ use Rattle.ksv_nodes.specs.declared.node.NodeKind.TheVariants as kinds
 use Rattle.ksv_rule_meaning.specs.Heads.{origin_of}
 use Rattle.ksv_list_laws.proofs.Common.{◌≡◌, ◌∙◌, ℕ, zero, suc, ◌+◌, ◌-◌, ◌<◌, ◌≤◌, nat_le, nat_lt, Bool, true, false, if◌then◌else◌}
 use Rattle.ksv_list_laws.proofs.Common.{List, [], ◌∷◌}
-use Rattle.ksv_list_laws.proofs.Common.{length, Option, Some, None, is_some, unwrap_or, option_and_then, refl, sym, ap, subst, arith, nat_tests, Use}
+use Rattle.ksv_list_laws.proofs.Common.{length, Option, Some, None, Ok, Err, Fault, is_some, unwrap_or, option_and_then}
+use Rattle.ksv_list_laws.proofs.Common.{refl, sym, ap, subst, arith, nat_tests, Use}
 use Rattle.ksv_list_laws.proofs.Common.{at_byte, Trail, child, Description, Given, Node, Layout, Listing, start}
 use Rattle.ksv_list_laws.proofs.Common.{Which, node_at, guard_of, prior_guard, IsPlain, IsThere}
 use Rattle.ksv_list_laws.proofs.Telling.{node_is}
@@ -33,7 +35,7 @@ use Rattle.ksv_folds.specs.Sequence.{head_reach, uses_of, spot_uses, uses_in, is
 use Rattle.ksv_folds.specs.declared.part.Part.{Part}
 use Rattle.ksv_folds.specs.declared.plain_list.PlainList.{PlainList}
 use Rattle.ksv_folds.specs.declared.spot.Numbered.{Numbered}
-use Rattle.ksv_folds.specs.declared.spot.Numbered.TheVariants.{Of, Rest}
+use Rattle.ksv_folds.specs.declared.spot.Numbered.TheVariants.{Of, Rest, MissingHead, MissingEnd}
 use Rattle.ksv_folds.specs.declared.spot.Spot.{Spot}
 use Rattle.ksv_folds.specs.declared.spot.Spot.TheVariants.{ElementHead, ElementEnd, FieldHead, FieldEnd, Value}
 
@@ -48,6 +50,8 @@ which (Value i) = nodes.SizeValue i
 abbrev pub which_of : Numbered → Which
 which_of (Of s) = which s
 which_of (Rest i) = nodes.Rest i
+which_of (MissingHead k) = nodes.MissingHead k
+which_of (MissingEnd k) = nodes.MissingEnd k
 
 -- Of so many of the first elements a node is as it is told: they are whole, and have numbers, and the sequence knows which of them is the last.
 pub record IsTold (p : PlainList) (bytes : List ℕ) (x : Listing) (m : ℕ) : Type 0 where
@@ -63,13 +67,15 @@ module _ (p : PlainList) (d : Description) (bytes : List ℕ) (x : Listing) (pla
     abbrev ps : List Part
     ps = p.parts.items
 
-    -- the nodes of these elements, and the rests of a list that ends with them
+    -- the nodes of these elements, and those behind them of a list that ends with them
     abbrev pub IsOne : Spot → Type 0
     IsOne s = IsIn (says_sizes p) (length ps) m s
 
     abbrev pub IsKnown : Numbered → Type 0
     IsKnown (Of s) = IsOne s
-    IsKnown (Rest i) = (i < p.most) × (m ≡ p.most) × EndsWith p bytes x
+    IsKnown (Rest i) = sequence.IsThere p (Rest i) × (m ≡ p.most) × EndsWith p bytes x
+    IsKnown (MissingHead k) = sequence.IsMissing p k × (m ≡ p.most) × EndsWith p bytes x
+    IsKnown (MissingEnd k) = sequence.IsMissing p k × (m ≡ p.most) × EndsWith p bytes x
 
     -- ---- nodes
 
@@ -93,9 +99,23 @@ module _ (p : PlainList) (d : Description) (bytes : List ℕ) (x : Listing) (pla
     spot_there (Value i) low =
         (subst (nodes.IsField x i) (sym (sizer_is p x is low.1)) (field_there i (sizer p) low.0 (sizer_in low.1)), named_last p x is low.1)
 
+    missing_there : (k : ℕ) → sequence.IsMissing p k → EndsWith p bytes x → nodes.IsMissing bytes x k
+    missing_there k low ends =
+        let all = ends.all in
+        let any = p.any in
+        let few = low.2 in
+        record {
+          some = omega (arith, all, any);
+          last = ends.last;
+          uncounted = ap (λ (g : lists.List). g.count) (sym is.list) ∙ p.uncounted low.1;
+          few = omega (arith, all, few);
+        }
+
     pub there : (s : Numbered) → IsKnown s → IsThere bytes x (which_of s)
     there (Of s) low = spot_there s low
-    there (Rest i) low = let all = (low.2).all in let few = low.0 in (omega (arith, all, few), (low.2).last)
+    there (Rest i) low = let all = (low.2).all in let few = low.0.2 in (omega (arith, all, few), (low.2).last)
+    there (MissingHead k) low = missing_there k low.0 low.2
+    there (MissingEnd k) low = missing_there k low.0 low.2
 
     at_list : p.root.path ≡ x.path
     at_list = ap (λ (n : Node). n.path) is.root
@@ -108,6 +128,9 @@ module _ (p : PlainList) (d : Description) (bytes : List ℕ) (x : Listing) (pla
 
     element_path_is : (i : ℕ) → nodes.element_path x i ≡ child p.root.path (steps.Index i)
     element_path_is i = ap (λ l. child l (steps.Index i)) (sym at_list)
+
+    missing_path_is : (k : ℕ) → EndsWith p bytes x → nodes.element_path x (x.count + k) ≡ child p.root.path (steps.Index (p.most + k))
+    missing_path_is k ends = element_path_is (x.count + k) ∙ ap (λ n. child p.root.path (steps.Index (n + k))) ends.all
 
     path_is : (s : Spot) → IsOne s → path_at x (which s) ≡ path_of p s
     path_is (ElementHead i) low = element_path_is i
@@ -134,6 +157,8 @@ module _ (p : PlainList) (d : Description) (bytes : List ℕ) (x : Listing) (pla
         same : (s : Numbered) → IsKnown s → unwrap_or (node_at x (which_of s)) p.root ≡ node_in p s
         same (Of s) low = spot_same s low
         same (Rest i) low = ap (or_root kinds.Rest) (element_path_is i)
+        same (MissingHead k) low = ap (or_root kinds.Head) (missing_path_is k low.2)
+        same (MissingEnd k) low = ap (or_root kinds.End) (missing_path_is k low.2)
 
     -- ---- answers
 
@@ -154,29 +179,39 @@ module _ (p : PlainList) (d : Description) (bytes : List ℕ) (x : Listing) (pla
         ∙ ap (λ (g : lists.List). givens.Head (heads.Object (record (nodes.object_from x.list t (start_of p i)) { origin = p.origin; stream = g.stream })))
         (sym is.list)
 
-    spot_answer : (s : Spot) → IsOne s → answer_at bytes x (which s) ≡ answer_of p s
-    spot_answer (ElementHead i) low = ap (λ o. element_from x.list o (start x i) (start x (suc i))) is.kind ∙ element_is p.type_number i low
-    spot_answer (ElementEnd i) low =
+    spot_answer : (s : Spot) → IsOne s → answer_at bytes x (which s) ≡ Ok (answer_of p s)
+    spot_answer (ElementHead i) low = ap Ok (ap (λ o. element_from x.list o (start x i) (start x (suc i))) is.kind ∙ element_is p.type_number i low)
+    spot_answer (ElementEnd i) low = ap Ok (
         ap (λ b. givens.End (at_byte (start x (suc i))) b) (told.ends i low)
-        ∙ ap (λ z. givens.End (at_byte z) (is_closing p i)) (to_is i low)
+        ∙ ap (λ z. givens.End (at_byte z) (is_closing p i)) (to_is i low))
     spot_answer (FieldHead i f) low =
         let z = fields_are p x is f low.1 in
         let at = place_is p x is i f (most_in i low.0) low.1 in
         let o : Origin = origin_of (nodes.object_from x.list (unwrap_or y.type_number 0) (start x i)) (nodes.sought_at y f) in
-        ap (λ a. leaf o a (place x i (suc f))) at.0 ∙ ap (λ a. leaf o (edge_of p i f) a) at.1
+        ap Ok (ap (λ a. leaf o a (place x i (suc f))) at.0 ∙ ap (λ a. leaf o (edge_of p i f) a) at.1
         ∙ ap (λ t. by (unwrap_or t 0) (y.member f) x.list) is.kind
         ∙ ap (λ n. by (unwrap_or p.type_number 0) n x.list) (sym (IsNamed.member z.4))
-        ∙ ap (λ g. by (unwrap_or p.type_number 0) (part ps f).member g) (sym is.list)
+        ∙ ap (λ g. by (unwrap_or p.type_number 0) (part ps f).member g) (sym is.list))
       where
         by : ℕ → ℕ → lists.List → Given
         by t n g = leaf (record { member = record { type_number = t; member = n }; case = None; home = g.stream }) (edge_of p i f) (edge_of p i (suc f))
-    spot_answer (FieldEnd i f) low = ap (λ z. givens.End (at_byte z) false) (place_is p x is i f (most_in i low.0) low.1).1
-    spot_answer (Value i) low = ap (λ n. givens.Value (values.Int (pos n))) (is.says low.1 i (most_in i low.0))
+    spot_answer (FieldEnd i f) low = ap (λ z. Ok (givens.End (at_byte z) false)) (place_is p x is i f (most_in i low.0) low.1).1
+    spot_answer (Value i) low = ap (λ n. Ok (givens.Value (values.Int (pos n)))) (is.says low.1 i (most_in i low.0))
+
+    -- the fault of the first element that isn't there
+    fault_is : EndsWith p bytes x → nodes.missing_fault x ≡ sequence.missing_fault p
+    fault_is ends = ap by (ap (λ n. unwrap_or (child x.path (steps.Index n)) x.path) ends.all
+        ∙ ap (λ l. unwrap_or (child l (steps.Index p.most)) l) (sym at_list))
+      where
+        by : Trail → Fault
+        by q = record { kind = faults.BadIndex; path = q }
 
     pub answer_is : (s : Numbered) → IsKnown s → answer_at bytes x (which_of s) ≡ answer_in p s
     answer_is (Of s) low = spot_answer s low
     answer_is (Rest i) low =
-        ap (λ n. givens.Rest n (at_byte (start x n))) (low.2).all ∙ ap (λ z. givens.Rest p.most (at_byte z)) (start_is p x is p.most (omega arith))
+        ap (λ n. Ok (givens.Rest n (at_byte (start x n)))) (low.2).all ∙ ap (λ z. Ok (givens.Rest p.most (at_byte z))) (start_is p x is p.most (omega arith))
+    answer_is (MissingHead k) low = ap Err (fault_is low.2)
+    answer_is (MissingEnd k) low = ap Err (fault_is low.2)
 
     -- ---- uses
 
@@ -253,13 +288,19 @@ module _ (p : PlainList) (d : Description) (bytes : List ℕ) (x : Listing) (pla
     spot_reach (FieldEnd i f) low h = edge_is i f low.0 low.1
     spot_reach (Value i) low h = absurd (cc)
 
+    -- behind all elements the farthest place is that of the last end
+    last_reach : m ≡ p.most → EndsWith p bytes x → nodes.prior_reach bytes x x.count ≡ spot_uses p (ElementEnd (p.most - 1))
+    last_reach full ends =
+        let all = ends.all in
+        let any = p.any in
+        let same : x.count ≡ suc (p.most - 1) = omega (arith, all, any) in
+        ap (nodes.prior_reach bytes x) same ∙ end_is (p.most - 1) (omega (arith, full, any))
+
     pub reach_is : (s : Numbered) → IsKnown s → is_folded (which_of s) ≡ true → nodes.reach_of bytes x (which_of s) ≡ uses_in p s
     reach_is (Of s) low h = spot_reach s low h
-    reach_is (Rest i) low h =
-        let all = (low.2).all in
-        let some = low.0 in
-        let same : x.count ≡ suc (p.most - 1) = omega (arith, all, some) in
-        ap (nodes.prior_reach bytes x) same ∙ end_is (p.most - 1) (let full = low.1 in omega (arith, full, some))
+    reach_is (Rest i) low h = last_reach low.1 low.2
+    reach_is (MissingHead k) low h = last_reach low.1 low.2
+    reach_is (MissingEnd k) low h = last_reach low.1 low.2
 
     -- a value uses the bytes of its field
     pub value_uses : (i : ℕ) → IsOne (Value i) → nodes.uses_at bytes x (nodes.SizeValue i) ≡ spot_uses p (Value i)
@@ -293,6 +334,8 @@ module _ (p : PlainList) (d : Description) (bytes : List ℕ) (x : Listing) (pla
     guard_none : says_sizes p ≡ false → (s : Numbered) → IsKnown s → guard_of x (which_of s) ≡ None
     guard_none e (Of s) low = spot_none e s low
     guard_none e (Rest i) low = prior_none e x.count
+    guard_none e (MissingHead k) low = prior_none e x.count
+    guard_none e (MissingEnd k) low = prior_none e x.count
 
     -- where sizes are said, the guard is the last value before
     value_node : says_sizes p ≡ true → (i : ℕ) → i < m → node_at x (nodes.SizeValue i) ≡ Some (sequence.guard_node p (Some (index_of p (Value i))))
@@ -328,13 +371,16 @@ module _ (p : PlainList) (d : Description) (bytes : List ℕ) (x : Listing) (pla
     spot_guarded e (FieldEnd i f) low h = field_guarded e i f low.0 low.1
     spot_guarded e (Value i) low h = absurd (cc)
 
+    last_guarded : says_sizes p ≡ true → m ≡ p.most → EndsWith p bytes x
+        → guard_node x (prior_guard x x.count) ≡ Some (sequence.guard_node p (value_before p p.most))
+    last_guarded e full ends = ap (λ n. guard_node x (prior_guard x n)) ends.all ∙ prior_guarded e p.most (omega (arith, full))
+
     guarded_in : says_sizes p ≡ true → (s : Numbered) → IsKnown s → is_folded (which_of s) ≡ true
         → guard_node x (guard_of x (which_of s)) ≡ Some (sequence.guard_node p (guard_in p s))
     guarded_in e (Of s) low h = spot_guarded e s low h
-    guarded_in e (Rest i) low h =
-        let all = (low.2).all in
-        let full = low.1 in
-        ap (λ n. guard_node x (prior_guard x n)) all ∙ prior_guarded e p.most (omega (arith, full))
+    guarded_in e (Rest i) low h = last_guarded e low.1 low.2
+    guarded_in e (MissingHead k) low h = last_guarded e low.1 low.2
+    guarded_in e (MissingEnd k) low h = last_guarded e low.1 low.2
 
     pub guard_is : (s : Numbered) → IsKnown s → is_folded (which_of s) ≡ true
         → guard_node x (guard_of x (which_of s)) ≡ Some (sequence.guard_node p (sequence.guard_of p s))

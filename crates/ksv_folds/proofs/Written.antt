@@ -26,6 +26,7 @@ use Rattle.ksv_list_laws.proofs.Common.{length, unwrap_or, option_and_then, nat_
 use Rattle.ksv_list_laws.proofs.Common.{node_at, start, cases_lt}
 use Rattle.ksv_list_laws.proofs.Written.{values_are_written}
 use Rattle.ksv_list_laws.specs.Nodes.{place, path_at, answer_at, integer_in, SaysSize}
+use Rattle.ksv_list_laws.specs.Laws.{evaluated}
 use Rattle.ksv_list_laws.specs.Nodes as nodes
 use Rattle.ksv_folds.proofs.Laid.{fields_are, sizer_is, named_last, place_is}
 use Rattle.ksv_folds.proofs.Rooms.{start_room}
@@ -103,30 +104,31 @@ module _ (p : PlainList) (d : Description) (bytes : List ℕ) (x : Listing) (is 
       ∙ ap (option_map (λ t. record { kind = kind_of (Value i); path = t })) (path_is i ∙ q.1) ∙ ap Some (sym (node_is p (Value i) q.0 q.1))
 
   -- what they answer
-  head_answer : (i : ℕ) → i < p.most → answer_at bytes x (nodes.FieldHead i x.layout.sizer) ≡ answer_of p (FieldHead i (sizer p))
+  head_answer : (i : ℕ) → i < p.most → answer_at bytes x (nodes.FieldHead i x.layout.sizer) ≡ Ok (answer_of p (FieldHead i (sizer p)))
   head_answer i low =
       let f = sizer p in
       let z = fields_are p x is f few in
       let at = place_is p x is i f low few in
       let o : Origin = origin_of (nodes.object_from x.list (unwrap_or x.layout.type_number 0) (start x i)) (nodes.sought_at x.layout f) in
-      ap (λ g. answer_at bytes x (nodes.FieldHead i g)) by ∙ ap (λ a. leaf o a (place x i (suc f))) at.0 ∙ ap (λ a. leaf o (edge_of p i f) a) at.1
+      ap (λ g. answer_at bytes x (nodes.FieldHead i g)) by
+      ∙ ap Ok (ap (λ a. leaf o a (place x i (suc f))) at.0 ∙ ap (λ a. leaf o (edge_of p i f) a) at.1
       ∙ ap (λ t. of (unwrap_or t 0) (x.layout.member f) x.list) is.kind
       ∙ ap (λ n. of (unwrap_or p.type_number 0) n x.list) (sym (IsNamed.member z.4))
-      ∙ ap (λ g. of (unwrap_or p.type_number 0) (part p.parts.items f).member g) (sym is.list)
+      ∙ ap (λ g. of (unwrap_or p.type_number 0) (part p.parts.items f).member g) (sym is.list))
     where
       of : ℕ → ℕ → lists.List → Given
       of t n g =
           leaf (record { member = record { type_number = t; member = n }; case = None; home = g.stream }) (edge_of p i (sizer p)) (edge_of p i (suc (sizer p)))
 
-  value_answer : (i : ℕ) → i < p.most → answer_at bytes x (nodes.SizeValue i) ≡ answer_of p (Value i)
-  value_answer i low = ap (λ n. givens.Value (values.Int (pos n))) (is.says says i low)
+  value_answer : (i : ℕ) → i < p.most → answer_at bytes x (nodes.SizeValue i) ≡ Ok (answer_of p (Value i))
+  value_answer i low = ap (λ n. Ok (givens.Value (values.Int (pos n)))) (is.says says i low)
 
   -- a node that is kept answers so
   told_answer : (kept : ℕ) → AreTold (on (described d) bytes) (fold_of p) kept → (s : Spot) → IsOne p s → index_of p s < kept
       → from_nothing d bytes [] (node_of p s) ≡ Ok (answer_of p s)
   told_answer kept told s one low =
       let same = numbered_is p (Of s) one in
-      let e = subst (λ t. ◌≡◌ (tells (on (described d) bytes) [] (node_in p t)).outcome (Answered (Ok (answer_in p t)))) same (told (index_of p s) low) in
+      let e = subst (λ t. ◌≡◌ (tells (on (described d) bytes) [] (node_in p t)).outcome (Answered (answer_in p t))) same (told (index_of p s) low) in
       sym (answers_are_direct d bytes [] (node_of p s)) ∙ ap flattened e
 
   pub said_by_value : HasLayout p d x.list → (kept i : ℕ) → AreTold (on (described d) bytes) (fold_of p) kept → i < p.most → index_of p (Value i) < kept
@@ -134,8 +136,8 @@ module _ (p : PlainList) (d : Description) (bytes : List ℕ) (x : Listing) (is 
   said_by_value has kept i told low less laid =
       let next = value_number p i says in
       values_are_written d bytes x laid (named_last p x is says) i (node_of p (FieldHead i (sizer p))) (node_of p (Value i)) (head_at i low) (value_at i low)
-      (told_answer kept told (FieldHead i (sizer p)) (low, few) (omega (arith, next, less)) ∙ ap Ok (sym (head_answer i low)))
-      (told_answer kept told (Value i) (low, says) less ∙ ap Ok (sym (value_answer i low)))
+      (told_answer kept told (FieldHead i (sizer p)) (low, few) (omega (arith, next, less)) ∙ ap evaluated (sym (head_answer i low)))
+      (told_answer kept told (Value i) (low, says) less ∙ ap evaluated (sym (value_answer i low)))
 
 -- one more element that says its size
 pub said_more : (p : PlainList) (bytes : List ℕ) (kept n : ℕ) → AreSaidTo p bytes kept n → WritesSize p bytes n → AreSaidTo p bytes kept (n + 1)

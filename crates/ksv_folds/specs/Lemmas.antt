@@ -3,6 +3,7 @@ pub mod Parts
 pub mod Starts
 pub mod Spots
 pub mod Values
+pub mod Missing
 pub mod Numbers
 pub mod Found
 pub mod Once

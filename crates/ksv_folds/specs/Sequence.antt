@@ -1,9 +1,10 @@
 -- The sequence of a plain list. Each element has its head, the head and the end of each of its fields, and its end, in this order; before the head of a last
--- field whose size the one before says there is the value of that one. Behind all elements are the rests from the last element to the first, where the list is
--- known to end with the last. What is kept of a node follows from the numbers of the list.
+-- field whose size the one before says there is the value of that one. Behind all elements, where the list is known to end with the last, are the rests from
+-- the last element to the first, or in their place the head and the end of each element that isn't there. What is kept of a node follows from the numbers of
+-- the list.
 use Rattle.std.specs.Prelude.{◌≡◌, ℕ, zero, suc, ◌+◌, ◌-◌, ◌*◌, ◌/◌, ◌%◌, ◌==◌, ◌<◌, nat_lt, Bool, true, false, ◌&&◌, not, if◌then◌else◌, length, List, []}
 use Rattle.std.specs.Prelude.{◌∷◌, Option}
-use Rattle.std.specs.Prelude.{Some, None, Result, Ok, is_some, unwrap_or, pos}
+use Rattle.std.specs.Prelude.{Some, None, Result, Ok, Err, is_some, unwrap_or, pos}
 use Rattle.std.specs.List.{list_any}
 use Rattle.std.specs.Option.{option_map, option_and_then}
 use Rattle.ksv_bytes.specs.Uses.{is_use_touched}
@@ -11,8 +12,9 @@ use Rattle.ksv_bytes.specs.declared.uses.Change.TheVariants.{Insert}
 use Rattle.ksv_bytes.specs.declared.uses.Use.{Use}
 use Rattle.ksv_bytes.specs.declared.uses.Use.TheVariants.{Bytes, Reach, Size}
 use Rattle.ksv_expr_value.specs.Places.{at_byte}
-use Rattle.ksv_expr_value.specs.Trail.{Trail, child}
+use Rattle.ksv_expr_value.specs.Trail.{Trail, child, element_limit}
 use Rattle.ksv_expr_value.specs.declared.fault.Fault.{Fault}
+use Rattle.ksv_expr_value.specs.declared.fault.FaultKind.TheVariants as faults
 use Rattle.ksv_expr_value.specs.declared.step.Step.{Step}
 use Rattle.ksv_expr_value.specs.declared.step.Step.TheVariants.{Name, Index}
 use Rattle.ksv_expr_value.specs.declared.value.Value.TheVariants as values
@@ -61,18 +63,28 @@ spot_in true per i r = sized_spot per i r
 abbrev pub spot_at : PlainList → ℕ → Spot
 spot_at p j = spot_in (says_sizes p) p.per (j / p.per) (j % p.per)
 
--- how many nodes all elements have, and so many rests are behind them; and the node of a number
+-- how many nodes all elements have, and how many are behind them: rests, or two for each element that isn't there; and the node of a number
 abbrev pub elements_size : PlainList → ℕ
 elements_size p = p.per * p.most
 
-abbrev pub rests_size : PlainList → ℕ
-rests_size p = if p.closed then p.most else 0
+abbrev pub behind_size : Bool → Bool → ℕ → ℕ
+behind_size false missing most = 0
+behind_size true false most = most
+behind_size true true most = 2 * (element_limit - most)
 
 abbrev pub size_of : PlainList → ℕ
-size_of p = elements_size p + rests_size p
+size_of p = elements_size p + behind_size p.closed p.missing p.most
+
+-- of those that aren't there the one of a number, counted from the first
+abbrev pub missing_at : ℕ → Numbered
+missing_at r = if r % 2 == 0 then numbered.MissingHead (r / 2) else numbered.MissingEnd (r / 2)
+
+abbrev pub behind_at : Bool → ℕ → ℕ → Numbered
+behind_at false most r = numbered.Rest (most - 1 - r)
+behind_at true most r = missing_at r
 
 abbrev pub numbered_at : PlainList → ℕ → Numbered
-numbered_at p j = if nat_lt j (elements_size p) then numbered.Of (spot_at p j) else numbered.Rest (elements_size p + (p.most - 1) - j)
+numbered_at p j = if nat_lt j (elements_size p) then numbered.Of (spot_at p j) else behind_at p.missing p.most (j - elements_size p)
 
 -- it is of one of the first elements, and of one of its fields; and there are values where elements say sizes
 abbrev pub IsIn : Bool → ℕ → ℕ → Spot → Type 0
@@ -85,9 +97,15 @@ IsIn says k n (Value i) = (i < n) × (says ≡ true)
 abbrev pub IsOne : PlainList → Spot → Type 0
 IsOne p s = IsIn (says_sizes p) (length p.parts.items) p.most s
 
+-- an element that isn't there, behind the last one
+abbrev pub IsMissing : PlainList → ℕ → Type 0
+IsMissing p k = (p.closed ≡ true) × (p.missing ≡ true) × (p.most + k < element_limit)
+
 abbrev pub IsThere : PlainList → Numbered → Type 0
 IsThere p (numbered.Of s) = IsOne p s
-IsThere p (numbered.Rest i) = (p.closed ≡ true) × (i < p.most)
+IsThere p (numbered.Rest i) = (p.closed ≡ true) × (p.missing ≡ false) × (i < p.most)
+IsThere p (numbered.MissingHead k) = IsMissing p k
+IsThere p (numbered.MissingEnd k) = IsMissing p k
 
 -- ---- the nodes
 
@@ -116,12 +134,14 @@ kind_of (Value i) = kinds.Value
 abbrev pub node_of : PlainList → Spot → Node
 node_of p s = unwrap_or (option_map (λ q. record { kind = kind_of s; path = q }) (path_of p s)) p.root
 
-abbrev pub rest_node : PlainList → ℕ → Node
-rest_node p i = unwrap_or (option_map (λ q. record { kind = Rest; path = q }) (child p.root.path (Index i))) p.root
+abbrev pub element_node : PlainList → NodeKind → ℕ → Node
+element_node p k i = unwrap_or (option_map (λ q. record { kind = k; path = q }) (child p.root.path (Index i))) p.root
 
 abbrev pub node_in : PlainList → Numbered → Node
 node_in p (numbered.Of s) = node_of p s
-node_in p (numbered.Rest i) = rest_node p i
+node_in p (numbered.Rest i) = element_node p Rest i
+node_in p (numbered.MissingHead k) = element_node p Head (p.most + k)
+node_in p (numbered.MissingEnd k) = element_node p End (p.most + k)
 
 -- the steps of its path, from the last to the first
 abbrev pub steps_of : PlainList → Spot → List Step
@@ -137,14 +157,17 @@ pub record IsAt (p : PlainList) (n : Node) (s : Spot) : Type 0 where
   pub kind : n.kind ≡ kind_of s
   pub steps : n.path.upward ≡ steps_of p s
 
-pub record IsRest (p : PlainList) (n : Node) (i : ℕ) : Type 0 where
-  pub there : IsThere p (numbered.Rest i)
-  pub kind : n.kind ≡ Rest
+-- a node behind all elements is this one, which is of a kind and has an element's index
+pub record IsBehind (p : PlainList) (n : Node) (s : Numbered) (k : NodeKind) (i : ℕ) : Type 0 where
+  pub there : IsThere p s
+  pub kind : n.kind ≡ k
   pub steps : n.path.upward ≡ Index i ∷ p.root.path.upward
 
 abbrev pub IsNumbered : PlainList → Node → Numbered → Type 0
 IsNumbered p n (numbered.Of s) = IsAt p n s
-IsNumbered p n (numbered.Rest i) = IsRest p n i
+IsNumbered p n (numbered.Rest i) = IsBehind p n (numbered.Rest i) Rest i
+IsNumbered p n (numbered.MissingHead k) = IsBehind p n (numbered.MissingHead k) Head (p.most + k)
+IsNumbered p n (numbered.MissingEnd k) = IsBehind p n (numbered.MissingEnd k) End (p.most + k)
 
 -- heads and ends have numbers, and the value that says a size
 abbrev pub element_spot : NodeKind → ℕ → Option Spot
@@ -188,6 +211,8 @@ index_of p s = index (says_sizes p) p.per s
 abbrev pub number_of : PlainList → Numbered → ℕ
 number_of p (numbered.Of s) = index_of p s
 number_of p (numbered.Rest i) = elements_size p + (p.most - 1 - i)
+number_of p (numbered.MissingHead k) = elements_size p + 2 * k
+number_of p (numbered.MissingEnd k) = elements_size p + (2 * k + 1)
 
 -- ---- what they answer
 
@@ -234,9 +259,15 @@ answer_of p (FieldHead i f) = leaf (field_origin p f) (edge_of p i f) (edge_of p
 answer_of p (FieldEnd i f) = givens.End (at_byte (edge_of p i (suc f))) false
 answer_of p (Value i) = givens.Value (values.Int (pos (says_of p i)))
 
-abbrev pub answer_in : PlainList → Numbered → Given
-answer_in p (numbered.Of s) = answer_of p s
-answer_in p (numbered.Rest i) = givens.Rest p.most (at_byte (start_of p p.most))
+-- what isn't there has the fault of the first element that isn't
+abbrev pub missing_fault : PlainList → Fault
+missing_fault p = record { kind = faults.BadIndex; path = unwrap_or (child p.root.path (Index p.most)) p.root.path }
+
+abbrev pub answer_in : PlainList → Numbered → Result Given Fault
+answer_in p (numbered.Of s) = Ok (answer_of p s)
+answer_in p (numbered.Rest i) = Ok (givens.Rest p.most (at_byte (start_of p p.most)))
+answer_in p (numbered.MissingHead k) = Err (missing_fault p)
+answer_in p (numbered.MissingEnd k) = Err (missing_fault p)
 
 -- ---- what they use
 
@@ -274,10 +305,12 @@ spot_uses p (ElementEnd i) = if is_open p && is_closing p i then Size ∷ [] els
 spot_uses p (Value i) = Bytes (edge_of p i (sizer p)) (edge_of p i (suc (sizer p))) ∷ []
 spot_uses p s = uses_of (reach_of p s)
 
--- rests use what the last end does
+-- all behind the elements use what the last end does
 abbrev pub uses_in : PlainList → Numbered → List Use
 uses_in p (numbered.Of s) = spot_uses p s
 uses_in p (numbered.Rest i) = spot_uses p (ElementEnd (p.most - 1))
+uses_in p (numbered.MissingHead k) = spot_uses p (ElementEnd (p.most - 1))
+uses_in p (numbered.MissingEnd k) = spot_uses p (ElementEnd (p.most - 1))
 
 -- an insert or a delete at a place touches one of these uses
 abbrev pub is_read_past : ℕ → List Use → Bool
@@ -301,6 +334,8 @@ spot_guard p (Value i) = Some (index_of p (FieldHead i (sizer p)))
 abbrev pub guard_in : PlainList → Numbered → Option ℕ
 guard_in p (numbered.Of s) = spot_guard p s
 guard_in p (numbered.Rest i) = value_before p p.most
+guard_in p (numbered.MissingHead k) = value_before p p.most
+guard_in p (numbered.MissingEnd k) = value_before p p.most
 
 abbrev pub guard_of : PlainList → Numbered → Option ℕ
 guard_of p s = if says_sizes p then guard_in p s else None
@@ -336,9 +371,12 @@ asks_of p (Value i) = 1
 abbrev pub rest_asks : ℕ → ℕ → ℕ
 rest_asks most i = 1 + (if i + 1 == most then 0 else 1) + (if i == 0 then 1 else 0)
 
+-- and of an element that isn't there the head asks the list and the end of the one before, and the end the head
 abbrev pub asks_in : PlainList → Numbered → ℕ
 asks_in p (numbered.Of s) = asks_of p s
 asks_in p (numbered.Rest i) = rest_asks p.most i
+asks_in p (numbered.MissingHead k) = 2
+asks_in p (numbered.MissingEnd k) = 1
 
 -- the calls of all nodes before one, where each element has so many fields
 abbrev pub plain_calls : ℕ → Spot → ℕ
@@ -367,14 +405,22 @@ abbrev pub rest_calls : ℕ → ℕ → ℕ
 rest_calls most zero = 0
 rest_calls most (suc n) = 3 * n + (if suc n == most then 3 else 2)
 
+-- the calls of so many nodes of elements that aren't there
+abbrev pub missing_calls : ℕ → ℕ
+missing_calls r = 5 * (r / 2) + 3 * (r % 2)
+
+abbrev pub behind_calls : Bool → ℕ → ℕ → ℕ
+behind_calls false most r = rest_calls most r
+behind_calls true most r = missing_calls r
+
 abbrev pub calls_to : PlainList → ℕ → ℕ
 calls_to p j =
-    if nat_lt j (elements_size p) then spot_calls p (spot_at p j) else spot_calls p (ElementHead p.most) + rest_calls p.most (j - elements_size p)
+    if nat_lt j (elements_size p) then spot_calls p (spot_at p j) else spot_calls p (ElementHead p.most) + behind_calls p.missing p.most (j - elements_size p)
 
 -- ---- the sequence
 
 abbrev pub entry_of : PlainList → Numbered → Entry Node (Result Given Fault)
-entry_of p s = record { node = node_in p s; answer = Ok (answer_in p s); asked = guard_node p (guard_of p s) ∷ []; uses = uses_in p s }
+entry_of p s = record { node = node_in p s; answer = answer_in p s; asked = guard_node p (guard_of p s) ∷ []; uses = uses_in p s }
 
 -- how many of the first nodes evaluation of the node of a number completes: of a value those up to its field's head, but not that field's end
 abbrev pub spot_whole : ℕ → Spot → ℕ
@@ -384,6 +430,8 @@ spot_whole j s = suc j
 abbrev pub whole_in : ℕ → Numbered → ℕ
 whole_in j (numbered.Of s) = spot_whole j s
 whole_in j (numbered.Rest i) = suc j
+whole_in j (numbered.MissingHead k) = suc j
+whole_in j (numbered.MissingEnd k) = suc j
 
 abbrev pub fold_of : PlainList → Fold Node (Result Given Fault)
 fold_of p = record {
@@ -397,7 +445,7 @@ fold_of p = record {
 
 -- ---- told anew
 
--- another tells of the same list, and differs only in how many elements have numbers, where these begin, and in whether they are all
+-- another tells of the same list, and differs only in how many elements have numbers, where these begin, in whether they are all, and in what is behind them
 pub record IsAlike (p q : PlainList) : Type 0 where
   pub root : q.root ≡ p.root
   pub list : q.list ≡ p.list

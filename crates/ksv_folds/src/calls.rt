@@ -2,7 +2,7 @@
 #![tactic(auto)]
 
 ghost use Rattle.std.specs.Prelude.{◌≡◌, ◌+◌, ◌-◌, ◌*◌, ◌^◌, ◌<◌, ◌≤◌, ◌==◌, ◌⊎◌, suc, true, false, length, if◌then◌else◌};
-ghost use Rattle.ksv_folds.specs.Sequence.{IsIn, says_sizes, asked_before, plain_calls, sized_calls, spot_calls, rest_calls, calls_to, size_of};
+ghost use Rattle.ksv_folds.specs.Sequence.{IsIn, says_sizes, asked_before, plain_calls, sized_calls, spot_calls, rest_calls, missing_calls, behind_calls, calls_to, size_of};
 
 use crate::plain_list::PlainList;
 use crate::spot::Spot;
@@ -13,6 +13,15 @@ fn field_calls(fields: u64) -> u64
     ensures { result ≡ 5 * fields - asked_before fields }
 {
     if fields == 0 { 0 } else { 5 * fields - 1 }
+}
+
+/// The calls of so many nodes of elements that aren't there: three of a head, and two of an end.
+fn missing_calls(nodes: u32) -> u64
+    ensures value { result ≡ missing_calls nodes }
+    ensures small { result ≤ 3 * nodes }
+{
+    let nodes = u64::from(nodes);
+    5 * (nodes / 2) + 3 * (nodes % 2)
 }
 
 impl PlainList {
@@ -112,6 +121,19 @@ impl PlainList {
         }
     }
 
+    /// The calls of so many nodes behind the elements.
+    fn behind_calls(&self, number: u32) -> u64
+        requires { self.now.missing ≡ false → number ≤ self.now.most }
+        ensures value { result ≡ behind_calls self.now.missing self.now.most number }
+        ensures small { result ≤ 3 * number }
+    {
+        if self.missing {
+            missing_calls(number)
+        } else {
+            self.rest_calls(number)
+        }
+    }
+
     /// The calls of all nodes before that of a number.
     #[tactic(auto, using(crate::proofs::Adding::calls_room, crate::proofs::Adding::rests_few))]
     pub(crate) fn calls_to(&self, place: u32) -> u64
@@ -122,6 +144,6 @@ impl PlainList {
         if place < elements {
             return self.spot_calls(self.spot(place));
         }
-        self.spot_calls(Spot::ElementHead(self.most)) + self.rest_calls(place - elements)
+        self.spot_calls(Spot::ElementHead(self.most)) + self.behind_calls(place - elements)
     }
 }

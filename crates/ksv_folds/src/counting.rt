@@ -23,7 +23,7 @@ use crate::spot::Spot;
 use ksv_bytes::{Buffer, Window};
 use ksv_desc::Desc;
 use ksv_expr_value::{Parts, Place, StreamEnd};
-use ksv_nodes::{Given, Head, List};
+use ksv_nodes::{ELEMENT_LIMIT, Given, Head, List};
 use ksv_rule_meaning::integer_value;
 
 /// The number of the byte where a stream ends.
@@ -169,12 +169,16 @@ impl PlainList {
         }
     }
 
-    /// How many nodes there are of elements and of rests.
+    /// How many nodes there are of elements and behind them.
     fn size(&self) -> u32
         requires { self.now.closed ≡ true }
         ensures { result ≡ size_of self.now }
     {
-        self.elements_size() + self.most
+        if self.missing {
+            self.elements_size() + 2 * (ELEMENT_LIMIT - self.most)
+        } else {
+            self.elements_size() + self.most
+        }
     }
 
     /// How many nodes the sequence has over these bytes, where the list's head still gives this list, and so many of the first nodes are kept. It looks no farther

@@ -1,16 +1,17 @@
 //! What a node answers, and how far it reads.
 #![tactic(auto)]
 
-ghost use Rattle.std.specs.Prelude.{◌≡◌, ◌+◌, ◌<◌, ◌≤◌, suc, length};
+ghost use Rattle.std.specs.Prelude.{◌≡◌, ◌+◌, ◌<◌, ◌≤◌, suc, length, IfOk};
 ghost use Rattle.ksv_expr_value.specs.Places.{end_limit};
 ghost use Rattle.ksv_memo_rules.specs.Folds.{used_of};
-ghost use Rattle.ksv_folds.specs.Sequence.{IsOne, IsThere, leaf, element_answer, field_origin, answer_of, answer_in, is_closing, is_open, start_of, end_reach, prior_reach, head_reach, reach_of, spot_uses, uses_in};
+ghost use Rattle.ksv_folds.specs.Sequence.{IsOne, IsThere, leaf, element_answer, field_origin, answer_of, missing_fault, answer_in, is_closing, is_open, start_of, end_reach, prior_reach, head_reach, reach_of, spot_uses, uses_in};
 
 use crate::plain_list::PlainList;
 use crate::spot::{Numbered, Spot};
 use ksv_bytes::Use;
-use ksv_expr_value::{Integer, Place, Value};
+use ksv_expr_value::{Fault, FaultKind, Integer, Place, Value};
 use ksv_nodes::{CaseNumber, Given, Head, Leaf, MemberRef, Object, ObjectEnd, Origin};
+use std::alloc::{AllocError, Global};
 
 /// The bytes from one to another.
 fn leaf(origin: Origin, from: u32, to: u32) -> Given
@@ -106,17 +107,38 @@ impl PlainList {
         }
     }
 
+    /// The fault of the first element that isn't there.
+    fn missing_fault(&self, alloc: Global) -> Result<Fault, AllocError>
+        ensures { IfOk result (λ fault. fault ≡ missing_fault self.now) }
+    {
+        let path = match self.root.path.child_index(alloc, self.most)? {
+            Some(path) => path,
+            None => self.root.path.copy(alloc)?,
+        };
+        Ok(Fault {
+            kind: FaultKind::BadIndex,
+            path,
+        })
+    }
+
     /// What a node answers.
-    pub(crate) fn answer_in(&self, numbered: Numbered) -> Given
+    pub(crate) fn answer_in(
+        &self,
+        alloc: Global,
+        numbered: Numbered,
+    ) -> Result<Result<Given, Fault>, AllocError>
         requires { IsThere self.now numbered }
-        ensures { result ≡ answer_in self.now numbered }
+        ensures { IfOk result (λ answer. answer ≡ answer_in self.now numbered) }
     {
         match numbered {
-            Numbered::Of(spot) => self.answer_of(spot),
-            Numbered::Rest(_) => Given::Rest {
+            Numbered::Of(spot) => Ok(Ok(self.answer_of(spot))),
+            Numbered::Rest(_) => Ok(Ok(Given::Rest {
                 count: self.most,
                 place: Place::at_byte(self.start(self.most)),
-            },
+            })),
+            Numbered::MissingHead(_) | Numbered::MissingEnd(_) => {
+                Ok(Err(self.missing_fault(alloc)?))
+            }
         }
     }
 
@@ -208,14 +230,16 @@ impl PlainList {
         }
     }
 
-    /// What a node uses: a rest what the last end does.
+    /// What a node uses: behind the elements what the last end does.
     pub(crate) fn used_in(&self, numbered: Numbered) -> Option<Use>
         requires { IsThere self.now numbered }
         ensures { uses_in self.now numbered ≡ used_of result }
     {
         match numbered {
             Numbered::Of(spot) => self.spot_used(spot),
-            Numbered::Rest(_) => self.spot_used(Spot::ElementEnd(self.most - 1)),
+            Numbered::Rest(_) | Numbered::MissingHead(_) | Numbered::MissingEnd(_) => {
+                self.spot_used(Spot::ElementEnd(self.most - 1))
+            }
         }
     }
 }

@@ -1,16 +1,18 @@
 //! Which node of an element a node is, and its number.
 #![tactic(auto)]
 
-ghost use Rattle.std.specs.Prelude.{◌≡◌, ◌<◌, ℕ, length, IfSome, IfNone};
+ghost use Rattle.std.specs.Prelude.{◌≡◌, ◌<◌, ◌+◌, ◌∷◌, ℕ, length, IfSome, IfNone};
+ghost use Rattle.ksv_expr_value.specs.declared.step.Step.TheVariants.{Index};
 ghost use Rattle.ksv_folds.specs.Parts.{part};
-ghost use Rattle.ksv_folds.specs.Sequence.{IsOne, IsAt, IsRest, IsThere, IsNumbered, element_spot, member_spot, past_value, index_of, number_of, elements_size, size_of};
+ghost use Rattle.ksv_folds.specs.Sequence.{IsOne, IsAt, IsBehind, IsMissing, IsThere, IsNumbered, element_spot, member_spot, past_value, index_of, number_of, elements_size, size_of};
 ghost use Rattle.ksv_folds.specs.declared.spot.Numbered.{Numbered};
+ghost use Rattle.ksv_nodes.specs.declared.node.NodeKind.{NodeKind};
 ghost use Rattle.ksv_folds.specs.declared.spot.Spot.{Spot};
 
 use crate::plain_list::PlainList;
 use crate::spot::{Numbered, Spot};
 use crate::tail::{Tail, tail_of};
-use ksv_nodes::{Node, NodeKind};
+use ksv_nodes::{ELEMENT_LIMIT, Node, NodeKind};
 
 /// The head or the end of an element.
 fn element_spot(kind: NodeKind, element: u32) -> Option<Spot>
@@ -82,8 +84,8 @@ impl PlainList {
 
     /// From which element on it is a rest.
     fn rest_for(&self, node: &Node) -> Option<u32>
-        ensures some { IfSome result (IsRest self.now node.now) }
-        ensures none { IfNone result ((i : ℕ) → IsRest self.now node.now i → ⊥) }
+        ensures some { IfSome result (λ i. IsBehind self.now node.now (Numbered.Rest i) NodeKind.Rest i) }
+        ensures none { IfNone result ((i : ℕ) → IsBehind self.now node.now (Numbered.Rest i) NodeKind.Rest i → ⊥) }
     {
         match node.kind {
             NodeKind::Rest => {}
@@ -91,12 +93,45 @@ impl PlainList {
         }
         match tail_of(&node.path, &self.root.path) {
             Tail::Element(element) => {
-                if !self.closed || element >= self.most {
+                if !self.closed || self.missing || element >= self.most {
                     return None;
                 }
                 Some(element)
             }
             Tail::Other | Tail::Member(_, _) => None,
+        }
+    }
+
+    /// Which of the elements that aren't there its path leads to, counted from the first.
+    fn missing_element(&self, node: &Node) -> Option<u32>
+        ensures some { IfSome result (λ k. IsMissing self.now k × (node.now.path.upward ≡ Index (self.now.most + k) ∷ self.now.root.path.upward)) }
+        ensures none { IfNone result ((k : ℕ) → IsMissing self.now k → node.now.path.upward ≡ Index (self.now.most + k) ∷ self.now.root.path.upward → ⊥) }
+    {
+        if !self.closed || !self.missing {
+            return None;
+        }
+        match tail_of(&node.path, &self.root.path) {
+            Tail::Element(element) => {
+                if element < self.most || element >= ELEMENT_LIMIT {
+                    return None;
+                }
+                Some(element - self.most)
+            }
+            Tail::Other | Tail::Member(_, _) => None,
+        }
+    }
+
+    /// Which node of these it is.
+    fn missing_for(&self, node: &Node) -> Option<Numbered>
+        ensures some { IfSome result (IsNumbered self.now node.now) }
+        ensures heads { IfNone result ((k : ℕ) → IsBehind self.now node.now (Numbered.MissingHead k) NodeKind.Head (self.now.most + k) → ⊥) }
+        ensures ends { IfNone result ((k : ℕ) → IsBehind self.now node.now (Numbered.MissingEnd k) NodeKind.End (self.now.most + k) → ⊥) }
+    {
+        let element = self.missing_element(node)?;
+        match node.kind {
+            NodeKind::Head => Some(Numbered::MissingHead(element)),
+            NodeKind::End => Some(Numbered::MissingEnd(element)),
+            NodeKind::Value | NodeKind::Rest => None,
         }
     }
 
@@ -109,7 +144,7 @@ impl PlainList {
             Some(spot) => Some(Numbered::Of(spot)),
             None => match self.rest_for(node) {
                 Some(element) => Some(Numbered::Rest(element)),
-                None => None,
+                None => self.missing_for(node),
             },
         }
     }
@@ -152,6 +187,8 @@ impl PlainList {
         match numbered {
             Numbered::Of(spot) => self.index(spot),
             Numbered::Rest(element) => self.elements_size() + (self.most - 1 - element),
+            Numbered::MissingHead(element) => self.elements_size() + 2 * element,
+            Numbered::MissingEnd(element) => self.elements_size() + (2 * element + 1),
         }
     }
 }

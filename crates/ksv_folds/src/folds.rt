@@ -34,8 +34,8 @@ impl Folds<Node, Given, Fault> for PlainList {
     }
 
     #[tactic(auto, using(crate::proofs::Most::size_some))]
-    fn answer(&self, _alloc: Global, place: u32) -> Result<Given, AllocError> {
-        Ok(self.answer_in(self.numbered(place)))
+    fn answer(&self, alloc: Global, place: u32) -> Result<Result<Given, Fault>, AllocError> {
+        self.answer_in(alloc, self.numbered(place))
     }
 
     #[tactic(auto, using(crate::proofs::Most::size_some))]
@@ -45,7 +45,8 @@ impl Folds<Node, Given, Fault> for PlainList {
 
     fn left(&self, kept: u32, change: Change) -> u32 {
         match change {
-            Change::Insert { at, .. } | Change::Delete { at, .. } => self.left_at(kept, at),
+            Change::Insert { at, .. } => self.left_from(kept, at),
+            Change::Delete { at, .. } => self.left_from(kept, at),
             Change::Append => self.left_behind(kept),
             Change::Overwrite { at, n } => self.left_over(kept, at, n),
         }
@@ -67,9 +68,9 @@ impl Folds<Node, Given, Fault> for PlainList {
         self.calls_to(to) - self.calls_to(from)
     }
 
-    fn retell(&mut self, value: &Given, bytes: &Buffer, kept: u32) {
+    fn retell(&mut self, value: &Given, bytes: &Buffer, kept: u32, asked: &Node) {
         match value {
-            Given::Head(Head::List(list)) => self.retell_list(list, bytes, kept),
+            Given::Head(Head::List(list)) => self.retell_list(list, bytes, kept, asked),
             _ => {}
         }
     }

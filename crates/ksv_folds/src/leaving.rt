@@ -2,7 +2,7 @@
 #![tactic(auto)]
 
 ghost use Rattle.std.specs.Prelude.{◌≡◌, ◌+◌, ◌<◌, ◌≤◌, ◌&&◌, ℕ, suc, nat_lt, true, false};
-ghost use Rattle.ksv_bytes.specs.declared.uses.Change.TheVariants.{Append, Overwrite};
+ghost use Rattle.ksv_bytes.specs.declared.uses.Change.TheVariants.{Append, Delete, Insert, Overwrite};
 ghost use Rattle.ksv_memo_rules.specs.Folds.{Leaves};
 ghost use Rattle.ksv_folds.specs.Sequence.{says_sizes, sizer, edge_of, spot_at, numbered_at, reach_of, uses_in, is_open, is_read_past, elements_size, size_of, fold_of};
 
@@ -46,8 +46,8 @@ impl PlainList {
         self.is_open() && self.closed
     }
 
-    /// How many of the first nodes an insert or a delete at a place leaves.
-    pub(crate) fn left_at(&self, kept: u32, at: usize) -> u32
+    /// How many of the first nodes read no farther than to a place. Those behind them do.
+    fn left_at(&self, kept: u32, at: usize) -> u32
         requires { kept ≤ size_of self.now }
         ensures within { result ≤ kept }
         ensures stays { (j : ℕ) → j < result → is_read_past at (uses_in self.now (numbered_at self.now j)) ≡ false }
@@ -59,6 +59,16 @@ impl PlainList {
         }
         let near = self.border(kept.min(elements), at);
         if near < elements { near } else { kept }
+    }
+
+    /// How many of the first nodes an insert or a delete at a place leaves.
+    #[tactic(auto, using(crate::proofs::Edits::insert_leaves, crate::proofs::Edits::delete_leaves))]
+    pub(crate) fn left_from(&self, kept: u32, at: usize) -> u32
+        requires { kept ≤ size_of self.now }
+        ensures inserts { (n : ℕ) → Leaves (fold_of self.now) (Insert at n) kept result }
+        ensures deletes { (n : ℕ) → Leaves (fold_of self.now) (Delete at n) kept result }
+    {
+        self.left_at(kept, at)
     }
 
     /// How many of the first nodes an append leaves.

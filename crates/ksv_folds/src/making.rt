@@ -15,6 +15,7 @@ use crate::layout::{choice_size, content_size};
 use crate::part::{Format, Part};
 use crate::plain_list::PlainList;
 use crate::scanning::{LAST_BYTE, Saying};
+use crate::tail::{Tail, tail_of};
 use ksv_bytes::Buffer;
 use ksv_desc::{ByteOrder, Choice, Content, Desc, Extent, Field, MemberKind};
 use ksv_expr_tree::Expr;
@@ -189,10 +190,10 @@ fn most_of(first: u32, size: u32, per: u32) -> u32
     requires first { first ≤ end_limit }
     ensures few { result ≤ element_limit }
     ensures room { first + size * result ≤ end_limit }
-    ensures numbered { (per + 1) * result < 2 ^ 32 }
+    ensures numbered { (per + 1) * result + 2 * element_limit < 2 ^ 32 }
 {
     let room = (LAST_BYTE - first) / size;
-    let numbers = 0xffff_ffff / (per + 1);
+    let numbers = (0xffff_ffff - 2 * ELEMENT_LIMIT) / (per + 1);
     let fewer = if room < numbers { room } else { numbers };
     if fewer < ELEMENT_LIMIT {
         fewer
@@ -206,9 +207,9 @@ fn most_of(first: u32, size: u32, per: u32) -> u32
 fn most_sized(list: &List, per: u32) -> u32
     requires { per + 1 < 2 ^ 32 }
     ensures few { result ≤ element_limit }
-    ensures numbered { (per + 1) * result < 2 ^ 32 }
+    ensures numbered { (per + 1) * result + 2 * element_limit < 2 ^ 32 }
 {
-    let numbers = 0xffff_ffff / (per + 1);
+    let numbers = (0xffff_ffff - 2 * ELEMENT_LIMIT) / (per + 1);
     let fewer = if numbers < ELEMENT_LIMIT {
         numbers
     } else {
@@ -315,6 +316,7 @@ fn sized(
         starts: Some(starts),
         format,
         closed: false,
+        missing: false,
     }))
 }
 
@@ -352,6 +354,7 @@ fn plain(
             order: ByteOrder::Little,
         },
         closed: false,
+        missing: false,
     }))
 }
 
@@ -378,6 +381,7 @@ fn of_list(
     root: &Node,
     list: &List,
     bytes: &Buffer,
+    asker: Option<&Node>,
 ) -> Result<Option<PlainList>, AllocError>
     ensures root { IfOk result (λ found. IfSome found (λ p. p.root ≡ root.now)) }
     ensures found { IfOk result (λ found. IfSome found (λ p. IsOf p list.now × HasLayout p (plain_pieces desc.now) list.now)) }
@@ -392,7 +396,7 @@ fn of_list(
     let Some(mut found) = numbered(alloc, root, list, element, bytes)? else {
         return Ok(None);
     };
-    found.close(list, bytes);
+    found.close(list, bytes, asker);
     if !found.is_of(list) || !found.has_layout(desc, list) {
         return Ok(None);
     }
@@ -411,8 +415,30 @@ impl PlainList {
         }
     }
 
+    /// Whether a node is of an element behind those that have numbers, or below one: only elements that aren't there are, if these are all.
+    fn is_behind(&self, node: &Node) -> bool {
+        match tail_of(&node.path, &self.root.path) {
+            Tail::Element(element) | Tail::Member(element, _) => element >= self.most,
+            Tail::Other => false,
+        }
+    }
+
+    /// Whether the elements that have numbers are known to be all of the list. Then if this node is behind them, those that aren't there have numbers too; if it isn't,
+    /// rests have.
+    fn close_if(&mut self, ends: bool, asked: Option<&Node>)
+        ensures alike { IsAlike self.old self.new }
+        ensures most { self.new.most ≡ self.old.most }
+        ensures starts { (i : ℕ) → start_of self.new i ≡ start_of self.old i }
+    {
+        self.missing = match asked {
+            Some(node) => self.list.count.get().is_none() && self.is_behind(node),
+            None => false,
+        };
+        self.closed = ends;
+    }
+
     /// All elements that are whole have numbers, and no others, if the list ends with the last of them.
-    fn close(&mut self, list: &List, bytes: &Buffer)
+    fn close(&mut self, list: &List, bytes: &Buffer, asked: Option<&Node>)
         ensures alike { IsAlike self.old self.new }
     {
         let whole = self.guessed(list, bytes);
@@ -422,11 +448,11 @@ impl PlainList {
         if !self.says_sizes() {
             self.most = whole;
         }
-        self.closed = true;
+        self.close_if(true, asked);
     }
 
     /// Counts the elements that have numbers anew, as `of` does.
-    fn count_anew(&mut self, list: &List, bytes: &Buffer)
+    fn count_anew(&mut self, list: &List, bytes: &Buffer, asked: &Node)
         requires { says_sizes self.old ≡ false }
         ensures { IsAlike self.old self.new }
     {
@@ -436,7 +462,7 @@ impl PlainList {
         }
         self.most = all;
         self.closed = false;
-        self.close(list, bytes);
+        self.close(list, bytes, Some(asked));
     }
 
     /// How an element says its size.
@@ -473,7 +499,7 @@ impl PlainList {
 
     /// Counts the elements anew, where they say sizes. So many of the first nodes stay as they are told: where the last end is one of these, the old count stands.
     #[tactic(auto, using(crate::proofs::Retold::told_few, crate::proofs::Retold::sized_told))]
-    fn retell_sized(&mut self, list: &List, bytes: &Buffer, kept: u32)
+    fn retell_sized(&mut self, list: &List, bytes: &Buffer, kept: u32, asked: &Node)
         requires says { says_sizes self.old ≡ true }
         requires few { kept ≤ size_of self.old }
         ensures { BeginsAs (fold_of self.old) (fold_of self.new) kept }
@@ -484,42 +510,45 @@ impl PlainList {
         let told = self.told_elements(kept);
         self.renew(list, bytes, told);
         let ends = self.ends_with(list, bytes, self.most);
-        self.closed = ends;
+        self.close_if(ends, Some(asked));
     }
 
     /// Counts the elements anew, of the list that the head gives over these bytes. So many of the first nodes stay as they are told: unless they are before the
     /// last end, as it was and as it is, the old count stands.
     #[tactic(auto, using(crate::proofs::Retold::plain_before))]
-    pub(crate) fn retell_list(&mut self, list: &List, bytes: &Buffer, kept: u32)
+    pub(crate) fn retell_list(&mut self, list: &List, bytes: &Buffer, kept: u32, asked: &Node)
         requires { kept ≤ size_of self.old }
         ensures { BeginsAs (fold_of self.old) (fold_of self.new) kept }
     {
         if self.says_sizes() {
-            self.retell_sized(list, bytes, kept);
+            self.retell_sized(list, bytes, kept, asked);
             return;
         }
-        let (most, closed) = (self.most, self.closed);
+        let (most, closed, missing) = (self.most, self.closed, self.missing);
         let elements = self.elements_size();
-        self.count_anew(list, bytes);
+        self.count_anew(list, bytes, asked);
         if kept >= elements.min(self.elements_size()) {
             self.most = most;
             self.closed = closed;
+            self.missing = missing;
         }
     }
 
-    /// The numbers of the list whose head gave this over these bytes, if it is plain and its elements are of one size.
+    /// The numbers of the list whose head gave this over these bytes, if it is plain and its elements are of one size, or say the size of their last field.
+    /// Which nodes are behind the elements depends on the node that asked for the head.
     pub fn of(
         alloc: Global,
         desc: &Desc,
         root: &Node,
         given: &Given,
         bytes: &Buffer,
+        asker: Option<&Node>,
     ) -> Result<Option<PlainList>, AllocError>
         ensures root { IfOk result (λ found. IfSome found (λ p. (fold_of p).root ≡ root.now)) }
         ensures found { IfOk result (λ found. IfSome found (λ p. IsFound p (plain_pieces desc.now) given.now)) }
     {
         match given {
-            Given::Head(Head::List(list)) => of_list(alloc, desc, root, list, bytes),
+            Given::Head(Head::List(list)) => of_list(alloc, desc, root, list, bytes, asker),
             _ => Ok(None),
         }
     }

@@ -77,6 +77,14 @@ impl PlainList {
                 let path = self.root.path.child_index(alloc, element)?;
                 self.node_at(alloc, NodeKind::Rest, path)
             }
+            Numbered::MissingHead(element) => {
+                let path = self.root.path.child_index(alloc, self.most + element)?;
+                self.node_at(alloc, NodeKind::Head, path)
+            }
+            Numbered::MissingEnd(element) => {
+                let path = self.root.path.child_index(alloc, self.most + element)?;
+                self.node_at(alloc, NodeKind::End, path)
+            }
         }
     }
 }

@@ -4,7 +4,7 @@
 ghost use Rattle.std.specs.Prelude.{◌≡◌, ◌-◌, ◌<◌, ◌≤◌, length, true};
 ghost use Rattle.ksv_expr_value.specs.Places.{end_limit};
 ghost use Rattle.ksv_folds.specs.Parts.{part, edge};
-ghost use Rattle.ksv_folds.specs.Sequence.{says_sizes, sizer, field_spot, plain_spot, sized_spot, spot_in, spot_at, numbered_at, IsOne, IsThere, start_of, edge_of, says_of, elements_size, size_of};
+ghost use Rattle.ksv_folds.specs.Sequence.{says_sizes, sizer, field_spot, plain_spot, sized_spot, spot_in, spot_at, missing_at, numbered_at, IsOne, IsThere, start_of, edge_of, says_of, elements_size, size_of};
 
 use crate::part::Part;
 use crate::plain_list::PlainList;
@@ -63,6 +63,17 @@ fn spot_in(says: bool, per: u32, element: u32, rest: u32) -> Spot
     }
 }
 
+/// Of the nodes of elements that aren't there the one of a number, counted from the first.
+fn missing_at(number: u32) -> Numbered
+    ensures { result ≡ missing_at number }
+{
+    if number % 2 == 0 {
+        Numbered::MissingHead(number / 2)
+    } else {
+        Numbered::MissingEnd(number / 2)
+    }
+}
+
 impl PlainList {
     /// Whether each element says the size of its last field.
     pub(crate) fn says_sizes(&self) -> bool
@@ -102,7 +113,7 @@ impl PlainList {
     }
 
     /// Which node has this number.
-    #[tactic(auto, using(crate::specs::Lemmas::Numbers::numbered_there))]
+    #[tactic(auto, using(crate::specs::Lemmas::Numbers::numbered_there, crate::specs::Lemmas::Numbers::rests_low))]
     pub(crate) fn numbered(&self, place: u32) -> Numbered
         requires { place < size_of self.now }
         ensures value { result ≡ numbered_at self.now place }
@@ -110,9 +121,13 @@ impl PlainList {
     {
         let elements = self.elements_size();
         if place < elements {
-            Numbered::Of(self.spot(place))
+            return Numbered::Of(self.spot(place));
+        }
+        let number = place - elements;
+        if self.missing {
+            missing_at(number)
         } else {
-            Numbered::Rest(elements + (self.most - 1) - place)
+            Numbered::Rest(self.most - 1 - number)
         }
     }
 

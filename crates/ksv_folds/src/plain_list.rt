@@ -1,6 +1,6 @@
 //! Plain lists by numbers.
 
-ghost use Rattle.std.specs.Prelude.{◌≡◌, ◌+◌, ◌*◌, ◌^◌, ◌<◌, ◌≤◌, length, IsTrue};
+ghost use Rattle.std.specs.Prelude.{◌≡◌, ◌+◌, ◌*◌, ◌^◌, ◌<◌, ◌≤◌, None, true, length, IsTrue};
 ghost use Rattle.ksv_expr_value.specs.Places.{end_limit};
 ghost use Rattle.ksv_expr_value.specs.Trail.{element_limit};
 ghost use Rattle.ksv_folds.specs.Parts.{is_rising, have_own_names, nodes_in, start_in, are_starts};
@@ -33,8 +33,10 @@ pub struct PlainList {
     pub(crate) starts: Option<Vec<u32>>,
     /// How the sizes are written that elements say.
     pub(crate) format: Format,
-    /// Whether these were all elements of the list as this was made, or told anew: then rests have numbers too.
+    /// Whether these were all elements of the list as this was made, or told anew: then nodes behind them have numbers too.
     pub(crate) closed: bool,
+    /// Whether those are the heads and ends of elements that aren't there, and not rests.
+    pub(crate) missing: bool,
     ghost short: { length root.path.upward < 63 },
     ghost some: { 0 < size },
     ghost width: { per ≡ nodes_in starts (length parts.items) },
@@ -44,5 +46,6 @@ pub struct PlainList {
     ghost few: { most ≤ element_limit },
     ghost started: { IsTrue (are_starts starts first size most (length parts.items)) },
     ghost room: { start_in starts first size most ≤ end_limit },
-    ghost numbered: { (per + 1) * most < 2 ^ 32 },
+    ghost numbered: { (per + 1) * most + 2 * element_limit < 2 ^ 32 },
+    ghost uncounted: { missing ≡ true → list.count ≡ None },
 }

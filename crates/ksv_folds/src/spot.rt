@@ -22,4 +22,8 @@ pub(crate) enum Numbered {
     Of(Spot),
     /// The rest of the list from the element of this index on.
     Rest(u32),
+    /// The head of an element that isn't there, behind the last one; these are counted from 0.
+    MissingHead(u32),
+    /// Its end.
+    MissingEnd(u32),
 }

@@ -1,6 +1,6 @@
 -- Chains: nodes with ranks, of which each asks, first of all, a node that is answered, or one of them of a lower rank. If each says what it is
 -- to say where the lower ones answer what they are to, then all do from nothing.
-use Rattle.std.proofs.Common.{cond, Err}
+use Rattle.std.proofs.Common.{cond}
 use Rattle.std.specs.Prelude.{nat_eq}
 use Rattle.ksv_basics.specs.Plan.{Fail}
 use Rattle.ksv_memo_rules.proofs.Evals.{AreDistinct-cons, eqb_true}
@@ -13,10 +13,11 @@ use Rattle.ksv_nodes.specs.Truth.{answer_of, with_given, with_seen}
 use Rattle.ksv_rule_meaning.proofs.Direct.{answers_follow_rules}
 use Rattle.ksv_rule_meaning.specs.Direct.{IsFree}
 use Rattle.ksv_rule_meaning.specs.FromNothing.{circle, answer_within, from_nothing}
-use Rattle.ksv_list_laws.proofs.Common.{◌≡◌, ◌∙◌, ℕ, zero, suc, ◌<◌, ◌≤◌, Bool, true, false, ◌||◌, List, [], ◌∷◌, Option, Some, None, Result, Ok, ◌⊎◌, inl}
-use Rattle.ksv_list_laws.proofs.Common.{inr, refl, sym, ap, subst, arith, AllByRecursion, nat_tests, Answer, Ask, Use, Trail, Description, is_among, on}
-use Rattle.ksv_list_laws.proofs.Common.{AreDistinct-none, Node, Given, NodeFault, node_number, look, Rule, See, described, rule_of, Tells}
-use Rattle.ksv_list_laws.proofs.Says.{Says}
+use Rattle.ksv_list_laws.proofs.Common.{◌≡◌, ◌∙◌, ℕ, zero, suc, ◌<◌, ◌≤◌, Bool, true, false, ◌||◌, List, [], ◌∷◌, Option, Some, None, Result, Ok, ◌⊎◌}
+use Rattle.ksv_list_laws.proofs.Common.{Err, inl, inr, refl, sym, ap, subst, arith, AllByRecursion, nat_tests, Answer, Ask, Use, Trail, Description}
+use Rattle.ksv_list_laws.proofs.Common.{is_among, on, AreDistinct-none, Node, Given, Fault, NodeFault, node_number, look, Rule, See, described, rule_of, Tells}
+use Rattle.ksv_list_laws.proofs.Common.{evaluated}
+use Rattle.ksv_list_laws.proofs.Says.{Ends}
 use Rattle.ksv_list_laws.proofs.Truth.{or_true, true_or}
 
 -- ---- lists of nodes
@@ -90,7 +91,7 @@ pub record AsksFirst (d : Description) (m n : Node) : Type 0 where
 pub record Chain : Type 1 where
   pub Part : Type 0
   pub Is : Part → Node → Type 0
-  pub answer : Part → Given
+  pub answer : Part → Result Given Fault
   pub asked : Part → List Node
   pub used : Part → List Use
   pub rank : Part → ℕ
@@ -105,8 +106,8 @@ pub record IsChain (d : Description) (bytes : List ℕ) (root : Node) (given : G
   pub apart : IsPart c root → ⊥
   pub first : (k : c.Part) (m : Node) → c.Is k m → AsksFirst d m root ⊎ ((j : c.Part) × (n : Node) × c.Is j n × (c.rank j < c.rank k) × AsksFirst d m n)
   pub steps : (k : c.Part) (m : Node) → c.Is k m → (met : Node → Result Given NodeFault) → met root ≡ Ok given
-      → ((j : c.Part) (n : Node) → c.rank j < c.rank k → c.Is j n → met n ≡ Ok (c.answer j))
-      → Says met m.path bytes (rule_of d m) (c.answer k) (c.asked k) (c.used k)
+      → ((j : c.Part) (n : Node) → c.rank j < c.rank k → c.Is j n → met n ≡ evaluated (c.answer j))
+      → Ends met m.path bytes (rule_of d m) (evaluated (c.answer k)) (c.asked k) (c.used k)
 
 module _ (d : Description) (bytes : List ℕ) (root : Node) (given : Given) (c : Chain) (chain : IsChain d bytes root given c) where
   -- nodes of the chain from a rank on

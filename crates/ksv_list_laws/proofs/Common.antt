@@ -1,5 +1,5 @@
 -- What many proofs of this crate name, of its definitions and of other crates.
-pub use Rattle.std.proofs.Common.{Bool, List, None, Ok, Option, Result, Some, [], ap, arith, false, if◌then◌else◌, inl, inr, length, nat_le, nat_lt, refl}
+pub use Rattle.std.proofs.Common.{Bool, Err, List, None, Ok, Option, Result, Some, [], ap, arith, false, if◌then◌else◌, inl, inr, length, nat_le, nat_lt, refl}
 pub use Rattle.std.proofs.Common.{subst, suc, sym, true, zero, ℕ, ◌++◌, ◌+◌, ◌-◌, ◌<◌, ◌||◌, ◌∙◌, ◌∷◌, ◌≡◌, ◌≤◌, ◌⊎◌}
 pub use Rattle.std.proofs.lemmas.Bool.{cases_lt}
 pub use Rattle.std.proofs.lemmas.Bool.Decides.{nat_tests}
@@ -30,8 +30,8 @@ pub use Rattle.ksv_rule_meaning.specs.Described.{described}
 unfoldable pub use Rattle.ksv_rule_meaning.specs.Fields.{field_of}
 unfoldable pub use Rattle.ksv_rule_meaning.specs.Heads.{head_of, leaf, part_end, shape_at}
 unfoldable pub use Rattle.ksv_rule_meaning.specs.Meaning.{meaning_of, rule_of}
-pub use Rattle.ksv_list_laws.specs.Laws.{Tells}
+pub use Rattle.ksv_list_laws.specs.Laws.{Tells, evaluated}
 pub use Rattle.ksv_list_laws.specs.Lists.{Layout, content_size, is_named_to, size_at}
-pub use Rattle.ksv_list_laws.specs.Nodes.{ElementEnd, ElementHead, FieldEnd, FieldHead, IsPlain, IsThere, Listing, Rest, SizeValue, Which, asked_by}
-pub use Rattle.ksv_list_laws.specs.Nodes.{element_reach, element_uses, end_reach, end_uses, guard_of, last_asked, later_asked, node_at, nodes_of, prior_guard}
-pub use Rattle.ksv_list_laws.specs.Nodes.{prior_reach, reach_of, size_asked, start, uses_at}
+pub use Rattle.ksv_list_laws.specs.Nodes.{ElementEnd, ElementHead, FieldEnd, FieldHead, IsPlain, IsThere, Listing, MissingEnd, MissingHead, Rest}
+pub use Rattle.ksv_list_laws.specs.Nodes.{SizeValue, Which, asked_by, element_reach, element_uses, end_reach, end_uses, guard_of, last_asked, later_asked}
+pub use Rattle.ksv_list_laws.specs.Nodes.{node_at, nodes_of, prior_guard, prior_reach, reach_of, size_asked, start, uses_at}

@@ -1,5 +1,5 @@
 -- What a node tells is right for an engine to keep.
-use Rattle.std.proofs.Common.{◌≢◌, Err, Contains, get_or, AllPairs}
+use Rattle.std.proofs.Common.{◌≢◌, Contains, get_or, AllPairs}
 use Rattle.std.proofs.lemmas.List.Elements.{recursion_from_All, Contains-get_or, Contains-append_right}
 use mathlib.Core.Path.{fun_ext}
 use Rattle.ksv_bytes.specs.declared.uses.Use.TheVariants.{Bytes}
@@ -18,26 +18,29 @@ use Rattle.ksv_rule_meaning.specs.Direct.{flattened, AreSameUses}
 use Rattle.ksv_rule_meaning.specs.Lemmas.Lawful.{described_lawful}
 use Rattle.ksv_list_laws.proofs.Common.{◌≡◌, ◌∙◌, ℕ, ◌<◌, true, ◌||◌, List, [], ◌∷◌, ◌++◌, length, Result, Ok, refl, sym, ap, subst, arith, AllByRecursion}
 use Rattle.ksv_list_laws.proofs.Common.{flat_map, list_any, is_use_touched, Use, Fault, Description, is_among, Standing, on, AreDistinct-none, node_number}
-use Rattle.ksv_list_laws.proofs.Common.{Given, Node, described, Tells}
+use Rattle.ksv_list_laws.proofs.Common.{Given, Node, described, Tells, evaluated, Err}
 use Rattle.ksv_list_laws.proofs.Trees.{touched_is}
 use Rattle.ksv_list_laws.proofs.Truth.{turned}
 use Rattle.ksv_list_laws.specs.Laws.{IsSingle, EntriesAreRight}
 
-outcome_is : (o : Outcome Node (Result Given Fault)) (g : Given) → flattened o ≡ Ok g → o ≡ Answered (Ok g)
-outcome_is (Answered a) g e = by a e
+outcome_is : (o : Outcome Node (Result Given Fault)) (a : Result Given Fault) → flattened o ≡ evaluated a → o ≡ Answered a
+outcome_is (Answered b) a e = by b a e
   where
-    by : (r : Result Given Fault) → flattened (Answered r) ≡ Ok g → ◌≡◌ {A = Outcome Node (Result Given Fault)} (Answered r) (Answered (Ok g))
-    by (Ok k) e' = let same : k ≡ g = cc in ap (λ z. Answered (Ok z)) same
-    by (Err f) e' = absurd (cc)
-outcome_is (Circle c) g e = absurd (cc)
+    by : (r q : Result Given Fault) → flattened (Answered r) ≡ evaluated q → ◌≡◌ {A = Outcome Node (Result Given Fault)} (Answered r) (Answered q)
+    by (Ok k) (Ok g) e' = let same : k ≡ g = cc in ap (λ z. Answered (Ok z)) same
+    by (Err f) (Err h) e' = let same : f ≡ h = cc in ap (λ z. Answered (Err z)) same
+    by (Ok k) (Err h) e' = absurd (cc)
+    by (Err f) (Ok g) e' = absurd (cc)
+outcome_is (Circle c) (Ok g) e = absurd (cc)
+outcome_is (Circle c) (Err f) e = absurd (cc)
 
 module _ (d : Description) (bytes : List ℕ) where
   abbrev w : Standing Node (Result Given Fault)
   w = on (described d) bytes
 
   -- what an engine knows of a node that tells
-  pub record Known (n : Node) (g : Given) (ns : List Node) (us : List Use) : Type 0 where
-    pub outcome : (tells w [] n).outcome ≡ Answered (Ok g)
+  pub record Known (n : Node) (a : Result Given Fault) (ns : List Node) (us : List Use) : Type 0 where
+    pub outcome : (tells w [] n).outcome ≡ Answered a
     pub answered : IsAnswered (tells w [] n).outcome
     pub asked : (tells w [] n).asked ≡ ns
     pub used : AreSameUses (tells w [] n).uses us
@@ -45,11 +48,11 @@ module _ (d : Description) (bytes : List ℕ) where
     pub own : Contains (tree w n) n
     pub lower : AllByRecursion (λ m. length (tree w m) < length (tree w n)) ns
 
-  pub known : (n : Node) (g : Given) (ns : List Node) (us : List Use) → Tells d bytes [] n g ns us → Known n g ns us
-  known n g ns us t =
+  pub known : (n : Node) (a : Result Given Fault) (ns : List Node) (us : List Use) → Tells d bytes [] n a ns us → Known n a ns us
+  known n a ns us t =
       let direct = asks_are_direct d bytes [] n (record { distinct = AreDistinct-none w; apart = refl }) in
       let settled : IsSettled w = law_on (described d) (described_lawful d) bytes in
-      let outcome : (tells w [] n).outcome ≡ Answered (Ok g) = outcome_is (tells w [] n).outcome g (answers_are_direct d bytes [] n ∙ t.answer) in
+      let outcome : (tells w [] n).outcome ≡ Answered a = outcome_is (tells w [] n).outcome a (answers_are_direct d bytes [] n ∙ t.answer) in
       let answered : IsAnswered (tells w [] n).outcome = subst (λ (o : Outcome Node (Result Given Fault)). IsAnswered o) (sym outcome) tt in
       let asked = direct.asked ∙ t.asked in
       let whole = kept-tree w settled n answered ∙ ap (λ ms. flat_map (tree w) ms ++ n ∷ []) asked in
@@ -69,15 +72,15 @@ single_once (v ∷ []) h = λ i j z a b. absurd (omega (arith, a, b))
 single_once (u ∷ v ∷ vs) h = absurd h
 
 pub entries_are_right : EntriesAreRight
-entries_are_right d bytes kept n g ns us t single all =
+entries_are_right d bytes kept n a ns us t single all =
     let w = on (described d) bytes in
-    let own = known d bytes n g ns us t in
+    let own = known d bytes n a ns us t in
     record {
       outcome = own.outcome;
       closed = subst (AllByRecursion (λ m. is_among node_number kept m ≡ true)) (sym own.asked) all;
       named = all;
       lower = own.lower;
-      touched = λ change. touch_direct d bytes change n ∙ touched_is d bytes change n g ns us t
+      touched = λ change. touch_direct d bytes change n ∙ touched_is d bytes change n a ns us t
           ∙ ap (λ p. list_any p ns || list_any (is_use_touched change) us) (fun_ext (λ m. sym (touch_direct d bytes change m)))
           ∙ turned (list_any (engines.is_touched w change) ns) (list_any (is_use_touched change) us);
       few = (let same = ap length own.asked in omega arith);

@@ -66,19 +66,22 @@ module _ (f : Field) (bytes : List ℕ) (l : Trail) (is : child root (steps.Name
 
 pub numbers_are_plain : NumbersArePlain
 unfolding attribute_head attribute_start attribute_at holds repeated until_eos bind members_of
-numbers_are_plain f l is = record {
-  plain = record {
-    laid = refl;
-    listed = listed (numbers f) of_three l is _ _ (says_seen _ l of_three (Done whole (at_byte 0)) _ false _ _ (ends_there of_three whole 0) refl);
-    short = short (numbers f) of_three l is;
-    few = omega arith;
-    begins = refl;
-    filled = refl;
-    within = omega arith;
-    whole = each;
-  };
-  full = refl;
-}
+numbers_are_plain f l is = (
+  record {
+    plain = record {
+      laid = refl;
+      listed = listed (numbers f) of_three l is _ _ (says_seen _ l of_three (Done whole (at_byte 0)) _ false _ _ (ends_there of_three whole 0) refl);
+      short = short (numbers f) of_three l is;
+      few = omega arith;
+      begins = refl;
+      filled = refl;
+      within = omega arith;
+      whole = each;
+    };
+    full = refl;
+  },
+  record { some = omega arith; last = refl; uncounted = refl; few = omega arith },
+)
   where
     each : (i : ℕ) → i < 3 → IsWhole of_three (listing l None (layouts.whole (numbers f)) 3) i
     each zero low = record { room = omega arith; counted = refl; says = λ e. absurd (cc) }

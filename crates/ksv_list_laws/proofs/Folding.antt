@@ -11,7 +11,7 @@ use Rattle.ksv_list_laws.proofs.Common.{Some, None, Result, ◌⊎◌, inl, inr,
 use Rattle.ksv_list_laws.proofs.Common.{Use, Fault, Description, is_among, Standing, on, with_first, node_number, Given, Node, described, is_named_to}
 use Rattle.ksv_list_laws.proofs.Common.{Listing, start, Which, ElementHead, ElementEnd, Rest, FieldHead, FieldEnd, SizeValue, node_at, nodes_of, end_uses}
 use Rattle.ksv_list_laws.proofs.Common.{asked_by, element_uses, uses_at, prior_guard, guard_of, end_reach, prior_reach, element_reach, reach_of, IsPlain}
-use Rattle.ksv_list_laws.proofs.Common.{IsThere}
+use Rattle.ksv_list_laws.proofs.Common.{IsThere, MissingHead, MissingEnd}
 use Rattle.ksv_list_laws.proofs.Entries.{Known, known, single_once}
 use Rattle.ksv_list_laws.proofs.Guards.{guards_tell}
 use Rattle.ksv_list_laws.proofs.Rising.{AnyOf, Rises, guard_rises, reach_rises}
@@ -60,6 +60,8 @@ module _ (d : Description) (bytes : List ℕ) (x : Listing) (plain : IsPlain d b
   reach_places (FieldHead i j) = (tt, tt)
   reach_places (FieldEnd i j) = (tt, tt)
   reach_places (SizeValue i) = tt
+  reach_places (MissingHead k) = prior_places x.count
+  reach_places (MissingEnd k) = prior_places x.count
 
   use_places : (k : Which) → is_folded k ≡ true → AllByRecursion IsPlace (uses_at bytes x k)
   use_places (ElementHead i) h = by x.layout.type_number
@@ -77,6 +79,8 @@ module _ (d : Description) (bytes : List ℕ) (x : Listing) (plain : IsPlain d b
   use_places (FieldHead i j) h = (tt, tt)
   use_places (FieldEnd i j) h = tt
   use_places (SizeValue i) h = absurd (cc)
+  use_places (MissingHead k) h = tt
+  use_places (MissingEnd k) h = tt
 
   prior_single : (i : ℕ) → IsSingle (prior_reach bytes x i)
   prior_single zero = tt
@@ -93,6 +97,8 @@ module _ (d : Description) (bytes : List ℕ) (x : Listing) (plain : IsPlain d b
   reach_single (FieldHead i j) = tt
   reach_single (FieldEnd i j) = tt
   reach_single (SizeValue i) = tt
+  reach_single (MissingHead k) = prior_single x.count
+  reach_single (MissingEnd k) = prior_single x.count
 
   -- ---- trees
 
@@ -212,6 +218,8 @@ module _ (d : Description) (bytes : List ℕ) (x : Listing) (plain : IsPlain d b
   guard_is_guard (FieldHead i j) = guard_value (is_named_to x.layout j) i (prior_guard x i) (prior_is_guard i)
   guard_is_guard (FieldEnd i j) = guard_value (is_named_to x.layout j) i (prior_guard x i) (prior_is_guard i)
   guard_is_guard (SizeValue i) = refl
+  guard_is_guard (MissingHead k) = prior_is_guard x.count
+  guard_is_guard (MissingEnd k) = prior_is_guard x.count
 
   folded_is_none : (k : Which) → is_folded k ≡ true → is_guard (Some k) ≡ false
   folded_is_none (SizeValue i) h = absurd (cc)
@@ -237,6 +245,8 @@ module _ (d : Description) (bytes : List ℕ) (x : Listing) (plain : IsPlain d b
   asks_some (FieldHead i j) there = some_asked (ElementHead i) _ there.0
   asks_some (FieldEnd i j) there = some_asked (FieldHead i j) [] there
   asks_some (SizeValue i) there = some_asked (FieldHead i x.layout.sizer) [] there.0
+  asks_some (MissingHead k) there = omega arith
+  asks_some (MissingEnd k) there = some_asked (MissingHead k) [] there
 
 pub folded_stand_in : FoldedStandIn
 folded_stand_in d bytes x plain k there folded n m is guard kept all named =

@@ -8,15 +8,15 @@ use Rattle.ksv_list_laws.proofs.Common.{length, Option, Some, None, ◌⊎◌, i
 use Rattle.ksv_list_laws.proofs.Common.{Use, Description, with_first, end_in, head_node, Node, size_at, is_named_to, Listing, start, Which, ElementHead}
 use Rattle.ksv_list_laws.proofs.Common.{ElementEnd, Rest, FieldHead, FieldEnd, SizeValue, node_at, nodes_of, end_uses, size_asked, last_asked, later_asked}
 use Rattle.ksv_list_laws.proofs.Common.{asked_by, element_uses, uses_at, prior_guard, guard_of, end_reach, prior_reach, element_reach, reach_of, IsPlain}
-use Rattle.ksv_list_laws.proofs.Common.{IsThere}
+use Rattle.ksv_list_laws.proofs.Common.{IsThere, MissingHead, MissingEnd}
 use Rattle.ksv_list_laws.proofs.Laid.{first_size, none_named, named_more, named_here}
-use Rattle.ksv_list_laws.proofs.Places.{first_some}
+use Rattle.ksv_list_laws.proofs.Places.{first_some, fewer}
 use Rattle.ksv_list_laws.proofs.Rising.{AnyOf, Rises, head_value, head_guard, end_later, guard_rises, reach_rises}
 use Rattle.ksv_list_laws.proofs.Telling.{start_less, field_room, tells, node_is}
 use Rattle.ksv_list_laws.proofs.Trees.{touched_is}
 use Rattle.ksv_list_laws.proofs.Truth.{or_true, true_or, same_truth}
 use Rattle.ksv_list_laws.specs.Laws.{guard_node, GuardsTell}
-use Rattle.ksv_list_laws.specs.Nodes.{place, is_last, field_guard}
+use Rattle.ksv_list_laws.specs.Nodes.{place, is_last, field_guard, before_missing, IsMissing}
 
 -- ---- changes
 
@@ -359,7 +359,53 @@ module _ (d : Description) (bytes : List ℕ) (x : Listing) (plain : IsPlain d b
       by (inr (inr h)) f = let more : nat_le x.count (suc i) ≡ false = grind (arith, nat_tests) in
           next (subst (λ b. AnyOf IsTouched (if b then [] else Some (Rest (suc i)) ∷ [])) more h) f
 
+  -- ---- what isn't there
+
+  abbrev last_end : Option Which
+  last_end = Some (ElementEnd (x.count - 1))
+
+  -- by the list's head, which the last end asks, too, or the end before
+  missing_splits : (k : ℕ) → IsMissing bytes x k → IsTouched (Some (MissingHead k)) → IsTouched last_end ⊎ IsTouched (Some (before_missing x k))
+  missing_splits k there t = by (falls (MissingHead k) there t)
+    where
+      low : x.count - 1 < x.count
+      low = let some = there.some in omega (arith, some)
+
+      by : AnyOf IsTouched (asked_by x (MissingHead k)) ⊎ AreHit (uses_at bytes x (MissingHead k))
+          → IsTouched last_end ⊎ IsTouched (Some (before_missing x k))
+      by (inl (inl h)) = inl (rises (ElementEnd (x.count - 1)) low (inl (rises (ElementHead (x.count - 1)) low (inl h))))
+      by (inl (inr (inl h))) = inr h
+      by (inl (inr (inr h))) = absurd h
+      by (inr u) = absurd u
+
+  missing_end_falls : (k : ℕ) → IsMissing bytes x k → IsTouched (Some (MissingEnd k)) → IsTouched (Some (MissingHead k))
+  missing_end_falls k there t = by (falls (MissingEnd k) there t)
+    where
+      by : AnyOf IsTouched (asked_by x (MissingEnd k)) ⊎ AreHit (uses_at bytes x (MissingEnd k)) → IsTouched (Some (MissingHead k))
+      by (inl (inl h)) = h
+      by (inl (inr h)) = absurd h
+      by (inr u) = absurd u
+
+  missing_falls : (k : ℕ) → IsMissing bytes x k → IsTouched (Some (MissingHead k)) → IsTouched last_end
+  missing_falls zero there t = by (missing_splits zero there t)
+    where
+      by : IsTouched last_end ⊎ IsTouched last_end → IsTouched last_end
+      by (inl h) = h
+      by (inr h) = h
+  missing_falls (suc k) there t = by (missing_splits (suc k) there t) (λ h. missing_falls k (fewer there) (missing_end_falls k (fewer there) h))
+    where
+      by : IsTouched last_end ⊎ IsTouched (Some (MissingEnd k)) → (IsTouched (Some (MissingEnd k)) → IsTouched last_end) → IsTouched last_end
+      by (inl h) f = h
+      by (inr h) f = f h
+
   -- ---- all nodes
+
+  -- behind all elements the guard and the place are those of the last end
+  last_falls_to : 0 < x.count → IsTouched last_end → IsTouched (prior_guard x x.count) ⊎ AreHit (prior_reach bytes x x.count)
+  last_falls_to low t =
+      let counted : x.count ≡ suc (x.count - 1) = omega (arith, low) in
+      let last : x.count - 1 < x.count = omega (arith, low) in
+      subst (λ n. IsTouched (prior_guard x n) ⊎ AreHit (prior_reach bytes x n)) (sym counted) (end_falls (x.count - 1) last (head_falls (x.count - 1) last) t)
 
   all_fall : (k : Which) → IsThere bytes x k → IsTouched (Some k) → IsGuarded k
   all_fall (ElementHead i) there t = head_falls i there t
@@ -367,12 +413,12 @@ module _ (d : Description) (bytes : List ℕ) (x : Listing) (plain : IsPlain d b
   all_fall (Rest i) there t =
       let low = there.0 in
       let counted : x.count ≡ suc (x.count - 1) = omega (arith, low) in
-      let last : x.count - 1 < x.count = omega (arith, low) in
-      subst (λ n. IsTouched (prior_guard x n) ⊎ AreHit (prior_reach bytes x n)) (sym counted)
-      (end_falls (x.count - 1) last (head_falls (x.count - 1) last) (rest_falls (x.count - 1 - i) i (x.count - 1) (omega (arith, low)) counted there.1 t))
+      last_falls_to (omega (arith, low)) (rest_falls (x.count - 1 - i) i (x.count - 1) (omega (arith, low)) counted there.1 t)
   all_fall (FieldHead i j) there t = field_falls i there.0 (head_falls i there.0) there.2 j there.1 t
   all_fall (FieldEnd i j) there t = field_end_falls i there.0 (head_falls i there.0) there.2 j there.1 t
   all_fall (SizeValue i) there t = inl t
+  all_fall (MissingHead k) there t = last_falls_to there.some (missing_falls k there t)
+  all_fall (MissingEnd k) there t = last_falls_to there.some (missing_falls k there (missing_end_falls k there t))
 
   all_rise : (k : Which) → IsThere bytes x k → IsGuarded k → IsTouched (Some k)
   all_rise k there (inl g) = guard_rises d bytes x plain IsTouched rises k there g

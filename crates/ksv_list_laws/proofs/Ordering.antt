@@ -2,7 +2,7 @@
 use Rattle.std.proofs.Common.{◌*◌}
 use Rattle.ksv_list_laws.proofs.Common.{◌≡◌, ℕ, zero, suc, ◌+◌, ◌-◌, ◌<◌, ◌≤◌, nat_lt, Bool, true, false, if◌then◌else◌, List, Option, Some, ◌⊎◌, inl}
 use Rattle.ksv_list_laws.proofs.Common.{inr, refl, ap, subst, arith, nat_tests, cases_lt, is_some, Description, Layout, is_named_to, Listing, Which}
-use Rattle.ksv_list_laws.proofs.Common.{ElementHead, ElementEnd, Rest, FieldHead, FieldEnd, SizeValue, IsPlain, IsThere}
+use Rattle.ksv_list_laws.proofs.Common.{ElementHead, ElementEnd, Rest, FieldHead, FieldEnd, SizeValue, MissingHead, MissingEnd, IsPlain, IsThere}
 use Rattle.ksv_list_laws.proofs.Rising.{Rises, value_there, sized, fields_later, end_rises}
 use Rattle.ksv_list_laws.specs.Laws.{is_folded}
 use Rattle.ksv_list_laws.specs.Nodes.{element_of, is_in_element, past_value, order_of, IsField, IsUpTo, IsSizedNext}
@@ -53,19 +53,23 @@ module _ (d : Description) (bytes : List ℕ) (x : Listing) (plain : IsPlain d b
   abbrev y : Layout
   y = x.layout
 
-  element_low : (m : Which) → IsThere bytes x m → element_of m < x.count
-  element_low (ElementHead i) there = there
-  element_low (ElementEnd i) there = there
-  element_low (Rest i) there = there.0
-  element_low (FieldHead i j) there = there.0
-  element_low (FieldEnd i j) there = there.0
-  element_low (SizeValue i) there = there.0.0
+  element_low : (m : Which) → IsThere bytes x m → is_in_element m ≡ true → element_of m < x.count
+  element_low (ElementHead i) there e = there
+  element_low (ElementEnd i) there e = there
+  element_low (Rest i) there e = there.0
+  element_low (FieldHead i j) there e = there.0
+  element_low (FieldEnd i j) there e = there.0
+  element_low (SizeValue i) there e = there.0.0
+  element_low (MissingHead k) there e = absurd (cc)
+  element_low (MissingEnd k) there e = absurd (cc)
 
   -- the nodes of an element ask its head
   from_head : (m : Which) → IsThere bytes x m → is_in_element m ≡ true → Q (Some (ElementHead (element_of m))) → Q (Some m)
   from_head (ElementHead i) there e q = q
   from_head (ElementEnd i) there e q = rises (ElementEnd i) there (inl q)
   from_head (Rest i) there e q = absurd (cc)
+  from_head (MissingHead k) there e q = absurd (cc)
+  from_head (MissingEnd k) there e q = absurd (cc)
   from_head (FieldHead i j) there e q = rises (FieldHead i j) there (inl q)
   from_head (FieldEnd i j) there e q = rises (FieldEnd i j) there (inl (rises (FieldHead i j) there (inl q)))
   from_head (SizeValue i) there e q = rises (SizeValue i) there (inl (rises (FieldHead i x.layout.sizer) there.0 (inl q)))
@@ -73,7 +77,7 @@ module _ (d : Description) (bytes : List ℕ) (x : Listing) (plain : IsPlain d b
   -- and the head asks the end of the element before
   from_earlier : (k m : Which) → IsThere bytes x k → IsThere bytes x m → is_in_element k ≡ true → is_in_element m ≡ true → element_of k < element_of m
       → Q (Some k) → Q (Some m)
-  from_earlier k m there other e e' less q = from_head m other e' (by (element_of m) less (element_low m other))
+  from_earlier k m there other e e' less q = from_head m other e' (by (element_of m) less (element_low m other e'))
     where
       by : (i : ℕ) → element_of k < i → i < x.count → Q (Some (ElementHead i))
       by zero lt low = absurd (omega (arith, lt))
@@ -89,6 +93,8 @@ module _ (d : Description) (bytes : List ℕ) (x : Listing) (plain : IsPlain d b
   behind_head (ElementHead i) there e f j low some le q = absurd (omega (arith, le))
   behind_head (ElementEnd i) there e f j low some le q = end_rises d bytes x plain Q rises (FieldHead i j) (there, low, some) refl i (omega arith) there q
   behind_head (Rest i) there e f j low some le q = absurd (cc)
+  behind_head (MissingHead k) there e f j low some le q = absurd (cc)
+  behind_head (MissingEnd k) there e f j low some le q = absurd (cc)
   behind_head (FieldHead i h) there e f j low some le q = field_later i j h there (head_before y j h (omega (arith, le))) q
   behind_head (FieldEnd i h) there e f j low some le q = rises (FieldEnd i h) there (inl (field_later i j h there (head_before y j h le) q))
   behind_head (SizeValue i) there e f j low some le q = absurd (cc)
@@ -105,6 +111,8 @@ module _ (d : Description) (bytes : List ℕ) (x : Listing) (plain : IsPlain d b
   behind_end (ElementHead i) there e f j low some le q = absurd (omega (arith, le))
   behind_end (ElementEnd i) there e f j low some le q = end_rises d bytes x plain Q rises (FieldEnd i j) (there, low, some) refl i (omega arith) there q
   behind_end (Rest i) there e f j low some le q = absurd (cc)
+  behind_end (MissingHead k) there e f j low some le q = absurd (cc)
+  behind_end (MissingEnd k) there e f j low some le q = absurd (cc)
   behind_end (FieldHead i h) there e f j low some le q = next_later i j h there (end_before y j h le) q
   behind_end (FieldEnd i h) there e f j low some le q = elim (cases_lt j h) [
     | inl less ↦ rises (FieldEnd i h) there (inl (next_later i j h there less q))
@@ -126,6 +134,8 @@ module _ (d : Description) (bytes : List ℕ) (x : Listing) (plain : IsPlain d b
   behind_value next (ElementEnd i) there e f named le q =
       end_rises d bytes x plain Q rises (SizeValue i) (value_there d bytes x plain i there named) refl i (omega arith) there q
   behind_value next (Rest i) there e f named le q = absurd (cc)
+  behind_value next (MissingHead k) there e f named le q = absurd (cc)
+  behind_value next (MissingEnd k) there e f named le q = absurd (cc)
   behind_value next (FieldHead i h) there e f named le q = sized_later next i h there (value_before y h (omega (arith, le))) q
   behind_value next (FieldEnd i h) there e f named le q = rises (FieldEnd i h) there (inl (sized_later next i h there (value_before y h le) q))
   behind_value next (SizeValue i) there e f named le q = absurd (cc)
@@ -137,6 +147,8 @@ module _ (d : Description) (bytes : List ℕ) (x : Listing) (plain : IsPlain d b
   behind_all (ElementHead i) there e f le q = absurd (omega (arith, le))
   behind_all (ElementEnd i) there e f le q = q
   behind_all (Rest i) there e f le q = absurd (cc)
+  behind_all (MissingHead k) there e f le q = absurd (cc)
+  behind_all (MissingEnd k) there e f le q = absurd (cc)
   behind_all (FieldHead i h) there e f le q = absurd (let low = there.1 in let one = one_more y h in omega (arith, low, one, le))
   behind_all (FieldEnd i h) there e f le q = absurd (let low = there.1 in let one = one_more y h in omega (arith, low, one, le))
   behind_all (SizeValue i) there e f le q = absurd (cc)
@@ -152,6 +164,8 @@ module _ (d : Description) (bytes : List ℕ) (x : Listing) (plain : IsPlain d b
   within (ElementHead i) m asked there other e e' f same le q = from_head m other e' (subst (λ n. Q (Some (ElementHead n))) same q)
   within (ElementEnd i) m asked there other e e' f same le q = behind_all m other e' f le (subst (λ n. Q (Some (ElementEnd n))) same q)
   within (Rest i) m asked there other e e' f same le q = absurd (cc)
+  within (MissingHead k) m asked there other e e' f same le q = absurd (cc)
+  within (MissingEnd k) m asked there other e e' f same le q = absurd (cc)
   within (FieldHead i j) m asked there other e e' f same le q =
       behind_head m other e' f j there.1 there.2 le (subst (λ n. Q (Some (FieldHead n j))) same q)
   within (FieldEnd i j) m asked there other e e' f same le q =

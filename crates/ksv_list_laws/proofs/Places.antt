@@ -6,9 +6,9 @@ use Rattle.ksv_nodes.specs.declared.node.NodeKind.{NodeKind}
 use Rattle.ksv_nodes.specs.declared.node.NodeKind.TheVariants as nodes
 use Rattle.ksv_list_laws.proofs.Common.{◌≡◌, ℕ, zero, suc, ◌+◌, ◌-◌, ◌<◌, ◌≤◌, Bool, true, false, if◌then◌else◌, List, ◌∷◌, Some, inl, inr, refl, ap}
 use Rattle.ksv_list_laws.proofs.Common.{arith, nat_tests, cases_lt, unwrap_or, Node, Layout, size_at, Listing, start, ElementHead, ElementEnd, Rest}
-use Rattle.ksv_list_laws.proofs.Common.{FieldHead, FieldEnd, SizeValue, Which}
+use Rattle.ksv_list_laws.proofs.Common.{FieldHead, FieldEnd, SizeValue, MissingHead, MissingEnd, Which}
 use Rattle.ksv_list_laws.specs.Lists.{place_of}
-use Rattle.ksv_list_laws.specs.Nodes.{field_start}
+use Rattle.ksv_list_laws.specs.Nodes.{field_start, IsMissing}
 
 -- ---- places
 
@@ -40,6 +40,17 @@ start_low x i (suc c) le = elim (cases_lt c i) [
       omega (arith, low, up))
 ]
 
+-- ---- what isn't there
+
+-- before an element that isn't there is another one, if it isn't the first
+pub fewer : {bytes : List ℕ} {x : Listing} {k : ℕ} → IsMissing bytes x (suc k) → IsMissing bytes x k
+fewer {x = x} {k = k} there = record {
+  some = there.some;
+  last = there.last;
+  uncounted = there.uncounted;
+  few = (let few = there.few in let more : x.count + k < x.count + suc k = omega arith in omega (arith, few, more));
+}
+
 -- ---- ranks
 
 -- a number that is so many times another, without a product of variables
@@ -66,7 +77,8 @@ place_is name (suc k) j le one = by (name (suc k) == name j) refl (λ few. place
       | inr more ↦ lower more
     ]
 
--- A node's rank: those of an element go from its head to its end, with three a field between them; rests come last, the last of them first.
+-- A node's rank: those of an element go from its head to its end, with three a field between them; so do those of one that isn't there; rests come
+-- behind all elements, the last of them first.
 abbrev pub width : Listing → ℕ
 width x = 3 * x.layout.last + 5
 
@@ -77,6 +89,8 @@ rank x (Rest i) = turns (width x) x.count + (x.count - i)
 rank x (FieldHead i j) = turns (width x) i + 3 * j + 1
 rank x (FieldEnd i j) = turns (width x) i + 3 * j + 2
 rank x (SizeValue i) = turns (width x) i + 3 * x.layout.sizer + 3
+rank x (MissingHead k) = turns (width x) (x.count + k)
+rank x (MissingEnd k) = turns (width x) (x.count + k) + 3 * x.layout.last + 4
 
 -- the same by the steps of its path
 abbrev pub step_rank : Listing → NodeKind → List Step → ℕ

@@ -5,10 +5,11 @@ use Rattle.ksv_list_laws.proofs.Common.{◌≡◌, ℕ, zero, suc, ◌+◌, ◌-
 use Rattle.ksv_list_laws.proofs.Common.{Some, None, ◌⊎◌, inl, inr, refl, sym, ap, subst, arith, nat_tests, is_some, Use, Description, size_at}
 use Rattle.ksv_list_laws.proofs.Common.{is_named_to, Listing, start, Which, ElementHead, ElementEnd, Rest, FieldHead, FieldEnd, SizeValue, end_uses}
 use Rattle.ksv_list_laws.proofs.Common.{size_asked, last_asked, later_asked, asked_by, element_uses, uses_at, prior_guard, guard_of, end_reach}
-use Rattle.ksv_list_laws.proofs.Common.{prior_reach, element_reach, reach_of, IsPlain, IsThere}
+use Rattle.ksv_list_laws.proofs.Common.{prior_reach, element_reach, reach_of, IsPlain, IsThere, MissingHead, MissingEnd}
 use Rattle.ksv_list_laws.proofs.Laid.{named_some, sizer_low}
+use Rattle.ksv_list_laws.proofs.Places.{fewer}
 use Rattle.ksv_list_laws.proofs.Truth.{none_is}
-use Rattle.ksv_list_laws.specs.Nodes.{is_last, element_of, field_guard, is_in_element, IsField}
+use Rattle.ksv_list_laws.specs.Nodes.{is_last, element_of, field_guard, is_in_element, IsField, IsMissing}
 
 -- this is so of one of some
 abbrev pub AnyOf : {A : Type 0} → (A → Type 0) → List A → Type 0
@@ -98,6 +99,15 @@ module _ (d : Description) (bytes : List ℕ) (x : Listing) (plain : IsPlain d b
         rest_later i (omega (arith, sum, counted), full) (inr (subst (λ b. AnyOf Q (if b then [] else Some (Rest (suc i)) ∷ [])) (sym more)
         (inl (rest_end k (suc i) m (omega (arith, sum)) counted full q))))
 
+    -- what isn't there asks the last end, by all that is between
+    missing_head : (k : ℕ) → IsMissing bytes x k → Q (Some (ElementEnd (x.count - 1))) → Q (Some (MissingHead k))
+    missing_head zero there q = rises (MissingHead 0) there (inr (inl q))
+    missing_head (suc k) there q = let less = fewer there in
+        rises (MissingHead (suc k)) there (inr (inl (rises (MissingEnd k) less (inl (missing_head k less q)))))
+
+    missing_end : (k : ℕ) → IsMissing bytes x k → Q (Some (ElementEnd (x.count - 1))) → Q (Some (MissingEnd k))
+    missing_end k there q = rises (MissingEnd k) there (inl (missing_head k there q))
+
     -- ---- to the ends of elements
 
     pub fields_later : (k i j m : ℕ) → j + k ≡ m → IsField x i m → Q (Some (FieldHead i j)) → Q (Some (FieldHead i m))
@@ -133,6 +143,8 @@ module _ (d : Description) (bytes : List ℕ) (x : Listing) (plain : IsPlain d b
     own_end (Rest i) there e q = absurd (cc)
     own_end (FieldHead i j) there e q = field_end i j there q
     own_end (FieldEnd i j) there e q = after_field i j there q
+    own_end (MissingHead k) there e q = absurd (cc)
+    own_end (MissingEnd k) there e q = absurd (cc)
     own_end (SizeValue i) there e q =
         let field = there.0 in
         last_end i field.0 field.2 (value_field i x.layout.last (field.0, omega arith, field.2) there.1 q)
@@ -140,17 +152,24 @@ module _ (d : Description) (bytes : List ℕ) (x : Listing) (plain : IsPlain d b
     pub end_rises : (k : Which) → IsThere bytes x k → is_in_element k ≡ true → (m : ℕ) → element_of k ≤ m → m < x.count → Q (Some k) → Q (Some (ElementEnd m))
     end_rises k there e m late low q = end_later (m - element_of k) (element_of k) m (omega (arith, late)) low (own_end k there e q)
 
+    -- the guard of what is behind all elements is that of the last end
+    last_guard : 0 < x.count → Q (prior_guard x x.count) → Q (Some (ElementEnd (x.count - 1)))
+    last_guard low q =
+        let counted : x.count ≡ suc (x.count - 1) = omega (arith, low) in
+        end_guard (x.count - 1) (omega (arith, low)) (subst (λ n. Q (prior_guard x n)) counted q)
+
     pub guard_rises : (k : Which) → IsThere bytes x k → Q (guard_of x k) → Q (Some k)
     guard_rises (ElementHead i) there q = head_guard i there q
     guard_rises (ElementEnd i) there q = end_guard i there q
     guard_rises (Rest i) there q =
         let low = there.0 in
         let counted : x.count ≡ suc (x.count - 1) = omega (arith, low) in
-        rest_end (x.count - 1 - i) i (x.count - 1) (omega (arith, low)) counted there.1
-        (end_guard (x.count - 1) (omega (arith, low)) (subst (λ n. Q (prior_guard x n)) counted q))
+        rest_end (x.count - 1 - i) i (x.count - 1) (omega (arith, low)) counted there.1 (last_guard (omega (arith, low)) q)
     guard_rises (FieldHead i j) there q = field_guarded i j there q
     guard_rises (FieldEnd i j) there q = rises (FieldEnd i j) there (inl (field_guarded i j there q))
     guard_rises (SizeValue i) there q = q
+    guard_rises (MissingHead k) there q = missing_head k there (last_guard there.some q)
+    guard_rises (MissingEnd k) there q = missing_end k there (last_guard there.some q)
 
     -- ---- from uses
 
@@ -179,6 +198,15 @@ module _ (d : Description) (bytes : List ℕ) (x : Listing) (plain : IsPlain d b
       head_reaches i low (Some t) e r = prior_reaches i low r
       head_reaches i low None e r = makes (ElementHead i) low (subst (λ o. AnyOf R (element_uses o (start x (suc i)))) (sym e) r)
 
+      last_reaches : 0 < x.count → AnyOf R (prior_reach bytes x x.count) → Q (Some (ElementEnd (x.count - 1)))
+      last_reaches low r =
+          let counted : x.count ≡ suc (x.count - 1) = omega (arith, low) in
+          by (subst (λ n. AnyOf R (prior_reach bytes x n)) counted r) (omega (arith, low))
+        where
+          by : AnyOf R (prior_reach bytes x (suc (x.count - 1))) → x.count - 1 < x.count → Q (Some (ElementEnd (x.count - 1)))
+          by (inl h) low' = end_reaches (x.count - 1) low' h
+          by (inr h) low' = absurd h
+
       pub reach_rises : (k : Which) → IsThere bytes x k → AnyOf R (reach_of bytes x k) → Q (Some k)
       reach_rises (ElementHead i) there r = head_reaches i there x.layout.type_number refl r
       reach_rises (ElementEnd i) there (inl r) = end_reaches i there r
@@ -186,12 +214,9 @@ module _ (d : Description) (bytes : List ℕ) (x : Listing) (plain : IsPlain d b
       reach_rises (Rest i) there r =
           let low = there.0 in
           let counted : x.count ≡ suc (x.count - 1) = omega (arith, low) in
-          rest_end (x.count - 1 - i) i (x.count - 1) (omega (arith, low)) counted there.1
-          (by (subst (λ n. AnyOf R (prior_reach bytes x n)) counted r) (omega (arith, low)))
-        where
-          by : AnyOf R (prior_reach bytes x (suc (x.count - 1))) → x.count - 1 < x.count → Q (Some (ElementEnd (x.count - 1)))
-          by (inl h) low' = end_reaches (x.count - 1) low' h
-          by (inr h) low' = absurd h
+          rest_end (x.count - 1 - i) i (x.count - 1) (omega (arith, low)) counted there.1 (last_reaches (omega (arith, low)) r)
       reach_rises (FieldHead i j) there r = makes (FieldHead i j) there r
       reach_rises (FieldEnd i j) there r = rises (FieldEnd i j) there (inl (makes (FieldHead i j) there r))
       reach_rises (SizeValue i) there r = absurd r
+      reach_rises (MissingHead k) there r = missing_head k there (last_reaches there.some r)
+      reach_rises (MissingEnd k) there r = missing_end k there (last_reaches there.some r)

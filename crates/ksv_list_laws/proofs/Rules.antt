@@ -14,16 +14,18 @@ use Rattle.ksv_nodes.specs.declared.given.Head.TheVariants as heads
 use Rattle.ksv_nodes.specs.declared.given.List as lists
 use Rattle.ksv_nodes.specs.declared.given.Origin.{Origin}
 use Rattle.ksv_nodes.specs.declared.given.Rested.{Rested}
+use Rattle.ksv_nodes.specs.declared.node_fault.NodeFault.TheVariants as faults
 use Rattle.ksv_rule_meaning.specs.Ends.{place_of, start_of, not_empty, is_counted, is_last, element_end, end_at, end_of, part_rest, next_rest, rest_from}
 use Rattle.ksv_rule_meaning.specs.Ends.{whole_rest, rest_at, rest_of}
 use Rattle.ksv_rule_meaning.specs.Heads.{in_next, is_past, next_start, element_start, element_head, element_setting, head_at}
 use Rattle.ksv_list_laws.proofs.Chains.{AsksFirst}
 use Rattle.ksv_list_laws.proofs.Common.{◌≡◌, ◌∙◌, ℕ, suc, ◌+◌, ◌-◌, ◌<◌, ◌≤◌, nat_le, true, false, if◌then◌else◌, ◌||◌, List, [], ◌∷◌, length, Option, Some}
-use Rattle.ksv_list_laws.proofs.Common.{None, Result, Ok, refl, ap, arith, nat_tests, Answer, Ask, bind, Use, byte_of_byte, at_byte, Trail, child, parent}
+use Rattle.ksv_list_laws.proofs.Common.{None, Result, Ok, Err, refl, ap, arith, nat_tests, Answer, Ask, bind, Use, byte_of_byte, at_byte, Trail, child, parent}
 use Rattle.ksv_list_laws.proofs.Common.{Stream, Description, Field, Node, NodeFault, Given, Head, Done, end_in, Rule, See, head_node, end_node, in_path}
 use Rattle.ksv_list_laws.proofs.Common.{ask_end, field_of, leaf, shape_at, part_end, head_of, meaning_of, rule_of, end_uses}
 use Rattle.ksv_list_laws.proofs.Paths.{part_of}
-use Rattle.ksv_list_laws.proofs.Says.{as_head, Says, says_answer, says_given, says_seen, says_by, reaches, ends_there}
+use Rattle.ksv_list_laws.proofs.Says.{as_head, Says, Ends, says_answer, says_given, says_seen, says_by, ends_raised, ends_given, ends_fault, ends_by, reaches}
+use Rattle.ksv_list_laws.proofs.Says.{ends_there}
 use Rattle.ksv_list_laws.specs.Lists.{repeats}
 use Rattle.ksv_list_laws.specs.Nodes.{leaf_from, is_last_at}
 
@@ -107,18 +109,22 @@ module _ (met : Node → Result Given NodeFault) (bytes : List ℕ) (d : Descrip
   abbrev says : Rule Given → Given → List Node → List Use → Type 0
   says rule a ns us = Says met p bytes rule a ns us
 
+  abbrev ends : Rule Given → Result Given NodeFault → List Node → List Use → Type 0
+  ends rule r ns us = Ends met p bytes rule r ns us
+
   -- ---- heads
 
   -- what is left of an element's head, where its place is known
   abbrev pub read_at : ℕ → Rule Place → Rule Given
   read_at i s = as_head (bind s (λ z. bind (field_of d g.origin.member) (λ f. shape_at (element_setting p (parent l) g.origin z i) g.origin g.stream z f)))
 
-  head_from : (i : ℕ) (a : Given) (ns : List Node) (us : List Use) → child l (steps.Index i) ≡ Some p → says (read_at i (element_start l g i)) a ns us
-      → says (rule_of d (head_node p)) a (head_node l ∷ ns) us
+  head_from : (i : ℕ) (r : Result Given NodeFault) (ns : List Node) (us : List Use) → child l (steps.Index i) ≡ Some p
+      → ends (read_at i (element_start l g i)) r ns us
+      → ends (rule_of d (head_node p)) r (head_node l ∷ ns) us
   unfolding element_head bind
-  head_from i a ns us is s =
-      says_by met p bytes _ (as_head (element_head d p l (parent l) i)) a (head_node l ∷ ns) us (head_rule d l p i is)
-      (says_given met p bytes (head_node l) _ (givens.Head (heads.List g)) a ns us listed s)
+  head_from i r ns us is s =
+      ends_by met p bytes _ (as_head (element_head d p l (parent l) i)) r (head_node l ∷ ns) us (head_rule d l p i is)
+      (ends_given met p bytes (head_node l) _ (givens.Head (heads.List g)) r ns us listed s)
 
   -- the first begins with its list
   pub first_head : (first : ℕ) (a : Given) (us : List Use) → child l (steps.Index 0) ≡ Some p → g.is_empty ≡ false → is_past g.count 0 ≡ false
@@ -126,28 +132,55 @@ module _ (met : Node → Result Given NodeFault) (bytes : List ℕ) (d : Descrip
       → says (read_at 0 (Answer (at_byte first))) a [] us → says (rule_of d (head_node p)) a (head_node l ∷ []) us
   unfolding element_start
   first_head first a us is filled counted begins s =
-      head_from 0 a [] us is (says_by met p bytes _ _ a [] us (ap (read_at 0)
+      head_from 0 (Ok a) [] us is (says_by met p bytes _ _ a [] us (ap (read_at 0)
       (ap (λ b. if b || is_past g.count 0 then raise kinds.BadIndex else Answer g.start) filled
       ∙ ap (λ b. if b then raise kinds.BadIndex else Answer g.start) counted ∙ ap (λ (z : Place). Answer z) begins)) s)
 
-  -- each other where the one before ends, which isn't the last
-  pub next_head : (i b : ℕ) (q : Trail) (a : Given) (us : List Use) → child l (steps.Index (suc i)) ≡ Some p → child l (steps.Index i) ≡ Some q
-      → g.is_empty ≡ false → is_past g.count (suc i) ≡ false
-      → met (end_node q) ≡ Ok (givens.End (at_byte b) false) → says (read_at (suc i) (Answer (at_byte b))) a [] us
-      → says (rule_of d (head_node p)) a (head_node l ∷ end_node q ∷ []) us
+  -- each other where the one before ends
+  head_behind : (i : ℕ) (q : Trail) (r : Result Given NodeFault) (us : List Use) → child l (steps.Index (suc i)) ≡ Some p → child l (steps.Index i) ≡ Some q
+      → g.is_empty ≡ false → is_past g.count (suc i) ≡ false → ends (read_at (suc i) (bind (ask_end q) (λ e. in_next e))) r (end_node q ∷ []) us
+      → ends (rule_of d (head_node p)) r (head_node l ∷ end_node q ∷ []) us
   unfolding element_start next_start part_end bind
-  next_head i b q a us is was filled counted ended s =
+  head_behind i q r us is was filled counted s =
       let later : (suc i == 0) ≡ false = grind (arith, nat_tests) in
       let before : suc i - 1 ≡ i = omega arith in
-      head_from (suc i) a (end_node q ∷ []) us is (says_by met p bytes _ _ a (end_node q ∷ []) us (ap (read_at (suc i))
+      head_from (suc i) r (end_node q ∷ []) us is (ends_by met p bytes _ _ r (end_node q ∷ []) us (ap (read_at (suc i))
       (ap (λ c. if c || is_past g.count (suc i) then raise kinds.BadIndex else (if suc i == 0 then Answer g.start else next_start l (suc i - 1))) filled
       ∙ ap (λ c. if c then raise kinds.BadIndex else (if suc i == 0 then Answer g.start else next_start l (suc i - 1))) counted
       ∙ ap (λ c. if c then Answer g.start else next_start l (suc i - 1)) later
       ∙ ap (λ j. next_start l j) before
-      ∙ ap (λ o. bind (bind (in_path o) (λ r. ask_end r)) (λ e. in_next e)) was))
-      (says_given met p bytes (end_node q) _ (givens.End (at_byte b) false) a [] us ended s))
+      ∙ ap (λ o. bind (bind (in_path o) (λ r'. ask_end r')) (λ e. in_next e)) was)) s)
+
+  -- which isn't the last
+  pub next_head : (i b : ℕ) (q : Trail) (a : Given) (us : List Use) → child l (steps.Index (suc i)) ≡ Some p → child l (steps.Index i) ≡ Some q
+      → g.is_empty ≡ false → is_past g.count (suc i) ≡ false
+      → met (end_node q) ≡ Ok (givens.End (at_byte b) false) → says (read_at (suc i) (Answer (at_byte b))) a [] us
+      → says (rule_of d (head_node p)) a (head_node l ∷ end_node q ∷ []) us
+  unfolding bind
+  next_head i b q a us is was filled counted ended s =
+      head_behind i q (Ok a) us is was filled counted (says_given met p bytes (end_node q) _ (givens.End (at_byte b) false) a [] us ended s)
+
+  -- behind the last there is none
+  pub missing_head : (i b : ℕ) (q : Trail) → child l (steps.Index (suc i)) ≡ Some p → child l (steps.Index i) ≡ Some q → g.is_empty ≡ false
+      → is_past g.count (suc i) ≡ false → met (end_node q) ≡ Ok (givens.End (at_byte b) true)
+      → ends (rule_of d (head_node p)) (Err (faults.Raised (record { kind = kinds.BadIndex; path = p }))) (head_node l ∷ end_node q ∷ []) []
+  unfolding bind
+  missing_head i b q is was filled counted ended =
+      head_behind i q _ [] is was filled counted
+      (ends_given met p bytes (end_node q) _ (givens.End (at_byte b) true) _ [] [] ended (ends_raised met p bytes kinds.BadIndex))
+
+  -- nor behind one that isn't there
+  pub next_missing : (i : ℕ) (q : Trail) (f : NodeFault) → child l (steps.Index (suc i)) ≡ Some p → child l (steps.Index i) ≡ Some q
+      → g.is_empty ≡ false → is_past g.count (suc i) ≡ false → met (end_node q) ≡ Err f
+      → ends (rule_of d (head_node p)) (Err f) (head_node l ∷ end_node q ∷ []) []
+  unfolding bind
+  next_missing i q f is was filled counted ended = head_behind i q _ [] is was filled counted (ends_fault met p bytes (end_node q) _ f ended)
 
   -- ---- ends
+
+  -- what has no head has no end
+  pub missing_end : (f : NodeFault) → met (head_node p) ≡ Err f → ends (rule_of d (end_node p)) (Err f) (head_node p ∷ []) []
+  missing_end f headed = let first = end_first d p in ends_by met p bytes _ _ _ _ _ first.is (ends_fault met p bytes (head_node p) first.rest f headed)
 
   apart : (a z : ℕ) → a < z → is_same (at_byte z) (at_byte a) ≡ false
   unfolding at_byte

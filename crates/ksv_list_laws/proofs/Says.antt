@@ -2,12 +2,15 @@
 use Rattle.std.proofs.Common.{append-nil}
 use Rattle.ksv_bytes.specs.declared.uses.Use.TheVariants as uses_are
 use Rattle.ksv_expr_value.specs.Places.{byte_in}
+use Rattle.ksv_expr_value.specs.declared.fault.FaultKind.{FaultKind}
 use Rattle.ksv_nodes.specs.Reading.{Reading, Reach, Seen, Look, gives, ends_before, reach_file, reach_within, done_at}
-use Rattle.ksv_nodes.specs.Rule.{Of}
+use Rattle.ksv_nodes.specs.Rule.{Of, raise}
 use Rattle.ksv_nodes.specs.Truth.{answer_of, asks_of, uses_of, with_given, with_seen, behind_given, behind_seen}
+use Rattle.ksv_nodes.specs.Turning.{fault_at}
 use Rattle.ksv_nodes.specs.declared.given.Given.TheVariants as givens
+use Rattle.ksv_nodes.specs.declared.node_fault.NodeFault.TheVariants as faults
 use Rattle.ksv_list_laws.proofs.Common.{bind, Head, ◌≡◌, ◌∙◌, ℕ, ◌+◌, ◌≤◌, nat_lt, nat_le, Bool, true, false, if◌then◌else◌, List, [], ◌∷◌, ◌++◌, length}
-use Rattle.ksv_list_laws.proofs.Common.{Option, Some, None, Result, Ok, refl, sym, ap, subst, arith, nat_tests, Answer, Ask, Use, at_byte, Trail, Stream}
+use Rattle.ksv_list_laws.proofs.Common.{Option, Some, None, Result, Ok, Err, refl, sym, ap, subst, arith, nat_tests, Answer, Ask, Use, at_byte, Trail, Stream}
 use Rattle.ksv_list_laws.proofs.Common.{Node, Given, NodeFault, Done, look, end_in, Rule, See}
 use Rattle.ksv_list_laws.specs.Nodes.{stream_uses}
 
@@ -16,23 +19,44 @@ abbrev pub as_head : Rule Head → Rule Given
 as_head r = bind r (λ h. Answer (givens.Head h))
 
 module _ (met : Node → Result Given NodeFault) (here : Trail) (bytes : List ℕ) where
-  -- a rule answers, asks and uses this
-  pub record Says {A : Type 0} (p : Rule A) (a : A) (ns : List Node) (us : List Use) : Type 0 where
-    pub answer : answer_of met here bytes p ≡ Ok a
+  -- a rule ends in this answer or fault, and asks and uses this
+  pub record Ends {A : Type 0} (p : Rule A) (r : Result A NodeFault) (ns : List Node) (us : List Use) : Type 0 where
+    pub answer : answer_of met here bytes p ≡ r
     pub asked : asks_of met here bytes p ≡ ns
     pub used : uses_of met here bytes p ≡ us
+
+  -- a rule answers, asks and uses this
+  abbrev pub Says : {A : Type 0} → Rule A → A → List Node → List Use → Type 0
+  Says p a ns us = Ends p (Ok a) ns us
 
   -- a rule that says no more
   pub says_answer : {A : Type 0} (a : A) → Says (Answer a) a [] []
   says_answer a = record { answer = refl; asked = refl; used = refl }
 
+  -- or raises a fault at its own path
+  pub ends_raised : {A : Type 0} (k : FaultKind) → Ends {A = A} (raise k) (Err (faults.Raised (fault_at here k))) [] []
+  ends_raised k = record { answer = refl; asked = refl; used = refl }
+
   -- a node answered
-  pub says_given : {A : Type 0} (n : Node) (k : Given → Rule A) (g : Given) (a : A) (ns : List Node) (us : List Use) → met n ≡ Ok g → Says (k g) a ns us
-      → Says (Ask (Of n) k) a (n ∷ ns) us
-  says_given n k g a ns us e s = record {
+  pub ends_given : {A : Type 0} (n : Node) (k : Given → Rule A) (g : Given) (r : Result A NodeFault) (ns : List Node) (us : List Use) → met n ≡ Ok g
+      → Ends (k g) r ns us
+      → Ends (Ask (Of n) k) r (n ∷ ns) us
+  ends_given n k g r ns us e s = record {
     answer = ap (λ x. with_given x (λ y. answer_of met here bytes (k y))) e ∙ s.answer;
     asked = ap (λ x. n ∷ behind_given x (λ y. asks_of met here bytes (k y))) e ∙ ap (λ ms. n ∷ ms) s.asked;
     used = ap (λ x. behind_given x (λ y. uses_of met here bytes (k y))) e ∙ s.used;
+  }
+
+  pub says_given : {A : Type 0} (n : Node) (k : Given → Rule A) (g : Given) (a : A) (ns : List Node) (us : List Use) → met n ≡ Ok g → Says (k g) a ns us
+      → Says (Ask (Of n) k) a (n ∷ ns) us
+  says_given n k g a ns us e s = ends_given n k g (Ok a) ns us e s
+
+  -- a node's fault is that of the rule that asks it
+  pub ends_fault : {A : Type 0} (n : Node) (k : Given → Rule A) (f : NodeFault) → met n ≡ Err f → Ends (Ask (Of n) k) (Err f) (n ∷ []) []
+  ends_fault n k f e = record {
+    answer = ap (λ x. with_given x (λ y. answer_of met here bytes (k y))) e;
+    asked = ap (λ x. n ∷ behind_given x (λ y. asks_of met here bytes (k y))) e;
+    used = ap (λ x. behind_given x (λ y. uses_of met here bytes (k y))) e;
   }
 
   -- something was seen
@@ -46,12 +70,18 @@ module _ (met : Node → Result Given NodeFault) (here : Trail) (bytes : List �
   }
 
   -- by an equal rule
+  pub ends_by : {A : Type 0} (p q : Rule A) (r : Result A NodeFault) (ns : List Node) (us : List Use) → p ≡ q → Ends q r ns us → Ends p r ns us
+  ends_by p q r ns us e s = subst (λ x. Ends x r ns us) (sym e) s
+
   pub says_by : {A : Type 0} (p q : Rule A) (a : A) (ns : List Node) (us : List Use) → p ≡ q → Says q a ns us → Says p a ns us
-  says_by p q a ns us e s = subst (λ x. Says x a ns us) (sym e) s
+  says_by p q a ns us e s = ends_by p q (Ok a) ns us e s
 
   -- what it asks, said otherwise
+  pub ends_asking : {A : Type 0} (p : Rule A) (r : Result A NodeFault) (ms ns : List Node) (us : List Use) → ms ≡ ns → Ends p r ns us → Ends p r ms us
+  ends_asking p r ms ns us e s = record { answer = s.answer; asked = s.asked ∙ sym e; used = s.used }
+
   pub says_asking : {A : Type 0} (p : Rule A) (a : A) (ms ns : List Node) (us : List Use) → ms ≡ ns → Says p a ns us → Says p a ms us
-  says_asking p a ms ns us e s = record { answer = s.answer; asked = s.asked ∙ sym e; used = s.used }
+  says_asking p a ms ns us e s = ends_asking p (Ok a) ms ns us e s
 
 -- ---- readings
 

@@ -3,11 +3,13 @@ use Rattle.std.proofs.Common.{◌*◌}
 use Rattle.std.specs.Prelude.{option_map}
 use Rattle.ksv_desc.specs.Description as contents
 use Rattle.ksv_expr_value.specs.Places.{aligned}
+use Rattle.ksv_expr_value.specs.declared.fault.FaultKind.TheVariants as kinds
 use Rattle.ksv_expr_value.specs.declared.step.Step.TheVariants as steps
 use Rattle.ksv_nodes.specs.Rule.{value_node, rest_node}
 use Rattle.ksv_nodes.specs.declared.given.Given.TheVariants as givens
 use Rattle.ksv_nodes.specs.declared.given.Head.TheVariants as heads
 use Rattle.ksv_nodes.specs.declared.node.NodeKind.TheVariants as nodes
+use Rattle.ksv_nodes.specs.declared.node_fault.NodeFault.TheVariants as faults
 use Rattle.ksv_rule_meaning.specs.Choosing.{choose}
 use Rattle.ksv_rule_meaning.specs.Ends.{start_of, place_of, rest_from, element_end, object_end, fields_end}
 use Rattle.ksv_rule_meaning.specs.Heads.{is_past, is_of_bits, content_at, chosen_at, object_at, element_setting}
@@ -18,20 +20,20 @@ use Rattle.ksv_list_laws.proofs.Common.{unwrap_or, Answer, bind, byte_of_byte, a
 use Rattle.ksv_list_laws.proofs.Common.{Always, with_first, Node, NodeFault, Given, Head, end_in, head_node, end_node, in_path, ask_end, part_end}
 use Rattle.ksv_list_laws.proofs.Common.{shape_at, leaf, rule_of, size_at, content_size, Listing, start, Which, ElementHead, ElementEnd, Rest, FieldHead}
 use Rattle.ksv_list_laws.proofs.Common.{FieldEnd, SizeValue, node_at, nodes_of, size_asked, last_asked, later_asked, asked_by, element_uses, uses_at}
-use Rattle.ksv_list_laws.proofs.Common.{IsPlain, IsThere, Tells}
+use Rattle.ksv_list_laws.proofs.Common.{IsPlain, IsThere, Tells, MissingHead, MissingEnd, evaluated, Err}
 use Rattle.ksv_list_laws.proofs.Fields as fields
 use Rattle.ksv_list_laws.proofs.Laid.{first_size, named_more, named_here, sizer_is}
 use Rattle.ksv_list_laws.proofs.Laid as layouts_are
 use Rattle.ksv_list_laws.proofs.Paths.{element_is, field_is, mapped, then_is}
-use Rattle.ksv_list_laws.proofs.Places.{field_low, first_some, turns, turns_low, place_is, width, rank, step_rank, node_rank}
+use Rattle.ksv_list_laws.proofs.Places.{field_low, first_some, turns, turns_low, place_is, fewer, width, rank, step_rank, node_rank}
 use Rattle.ksv_list_laws.proofs.Plain.{IsLaidOut, IsSized, IsElementOf, IsRead}
 use Rattle.ksv_list_laws.proofs.Rules as rules
-use Rattle.ksv_list_laws.proofs.Says.{as_head, Says, says_answer, says_given, says_by, says_asking}
+use Rattle.ksv_list_laws.proofs.Says.{as_head, Says, Ends, says_answer, says_given, says_by, says_asking, ends_asking}
 use Rattle.ksv_list_laws.specs.Laws.{NodesHavePaths, NodesTell}
 use Rattle.ksv_list_laws.specs.Lists.{choice_size}
 use Rattle.ksv_list_laws.specs.Lists as layouts
 use Rattle.ksv_list_laws.specs.Nodes.{path_at, kind_at, place, field_start, element_path, field_path, object_from, element_from, is_last_at, is_last}
-use Rattle.ksv_list_laws.specs.Nodes.{answer_at, IsField}
+use Rattle.ksv_list_laws.specs.Nodes.{answer_at, missing_fault, IsField, IsMissing}
 
 -- ---- kinds and lengths
 
@@ -148,6 +150,8 @@ module _ (d : Description) (bytes : List ℕ) (x : Listing) (plain : IsPlain d b
   ranked (FieldHead i j) p there is = ap (step_rank x nodes.Head) (sym (field_steps i j p is)) ∙ ap (λ n. rank x (FieldHead i n)) (place_at i j there)
   ranked (FieldEnd i j) p there is = ap (step_rank x nodes.End) (sym (field_steps i j p is)) ∙ ap (λ n. rank x (FieldEnd i n)) (place_at i j there)
   ranked (SizeValue i) p there is = ap (step_rank x nodes.Value) (sym (field_steps i x.layout.sizer p is))
+  ranked (MissingHead k) p there is = ap (step_rank x nodes.Head) (sym (element_steps (x.count + k) p is))
+  ranked (MissingEnd k) p there is = ap (step_rank x nodes.End) (sym (element_steps (x.count + k) p is))
 
   -- ---- the list's head is none of them
 
@@ -170,6 +174,8 @@ module _ (d : Description) (bytes : List ℕ) (x : Listing) (plain : IsPlain d b
       by (FieldHead i j) at = field i j at
       by (FieldEnd i j) at = field i j at
       by (SizeValue i) at = field i x.layout.sizer at
+      by (MissingHead k) at = element (x.count + k) at
+      by (MissingEnd k) at = element (x.count + k) at
 
   -- ---- what is asked first
 
@@ -194,23 +200,25 @@ module _ (d : Description) (bytes : List ℕ) (x : Listing) (plain : IsPlain d b
     omega arith,
     fields.value_first d p,
   )
+  first_is (MissingHead k) p there is = inl (rules.head_first d x.path p (x.count + k) is)
+  first_is (MissingEnd k) p there is = inr (MissingHead k, head_node p, (there, ap (option_map head_node) is), omega arith, rules.end_first d p)
 
   -- ---- what each says
 
   module _ (r : ℕ) (met : Node → Result Given NodeFault) (listed : met (head_node x.path) ≡ Ok (givens.Head (heads.List x.list)))
-      (lower : (k : Which) (m : Node) → rank x k < r → Is k m → met m ≡ Ok (answer_at bytes x k)) where
+      (lower : (k : Which) (m : Node) → rank x k < r → Is k m → met m ≡ evaluated (answer_at bytes x k)) where
     abbrev Said : Which → Node → Type 0
-    Said k m = Says met m.path bytes (rule_of d m) (answer_at bytes x k) (nodes_of x (asked_by x k)) (uses_at bytes x k)
+    Said k m = Ends met m.path bytes (rule_of d m) (evaluated (answer_at bytes x k)) (nodes_of x (asked_by x k)) (uses_at bytes x k)
 
-    head_heard : (i : ℕ) (p : Trail) → i < x.count → At i p → turns (width x) i < r → met (head_node p) ≡ Ok (answer_at bytes x (ElementHead i))
+    head_heard : (i : ℕ) (p : Trail) → i < x.count → At i p → turns (width x) i < r → met (head_node p) ≡ evaluated (answer_at bytes x (ElementHead i))
     head_heard i p low is lt = lower (ElementHead i) (head_node p) lt (low, ap (option_map head_node) is)
 
     end_heard : (i : ℕ) (p : Trail) → i < x.count → At i p → turns (width x) i + 3 * x.layout.last + 4 < r
-        → met (end_node p) ≡ Ok (answer_at bytes x (ElementEnd i))
+        → met (end_node p) ≡ evaluated (answer_at bytes x (ElementEnd i))
     end_heard i p low is lt = lower (ElementEnd i) (end_node p) lt (low, ap (option_map end_node) is)
 
     field_end_heard : (i j : ℕ) (q : Trail) → IsField x i j → field_path x i j ≡ Some q → turns (width x) i + 3 * j + 2 < r
-        → met (end_node q) ≡ Ok (answer_at bytes x (FieldEnd i j))
+        → met (end_node q) ≡ evaluated (answer_at bytes x (FieldEnd i j))
     field_end_heard i j q there is lt = lower (FieldEnd i j) (end_node q) lt (there, ap (option_map end_node) is)
 
     -- ---- elements
@@ -264,15 +272,15 @@ module _ (d : Description) (bytes : List ℕ) (x : Listing) (plain : IsPlain d b
         (says_asking met p bytes _ _ _ _ _ (node_next (ElementHead i) (head_node p) _ (ap (option_map head_node) is))
         (by x.layout.type_number refl (IsRead.element read) (head_heard i p low is (omega (arith, at)))))
       where
-        closes : (h : Head) → start_of h ≡ at_byte (start x i) → Says met p bytes
-            (rules.as_end (element_end d p x.path (parent x.path) i h (at_byte (start x (suc i))))) (answer_at bytes x (ElementEnd i)) (head_node x.path ∷ [])
-            (uses_at bytes x (ElementEnd i))
+        closes : (h : Head) → start_of h ≡ at_byte (start x i) → Ends met p bytes
+            (rules.as_end (element_end d p x.path (parent x.path) i h (at_byte (start x (suc i))))) (evaluated (answer_at bytes x (ElementEnd i)))
+            (head_node x.path ∷ []) (uses_at bytes x (ElementEnd i))
         closes h begins = rules.closes met bytes d x.list x.path p listed (IsRead.field read) (IsRead.is read) (IsRead.ends read) i (start x i)
             (start x (suc i)) h begins (start_less i)
 
         by : (o : Option ℕ) → x.layout.type_number ≡ o → IsElementOf d (IsRead.field read) x.layout o
             → met (head_node p) ≡ Ok (element_from x.list o (start x i) (start x (suc i)))
-            → Says met p bytes (rules.ending d x.path p i) (answer_at bytes x (ElementEnd i))
+            → Ends met p bytes (rules.ending d x.path p i) (evaluated (answer_at bytes x (ElementEnd i)))
             (head_node p ∷ nodes_of x (last_asked o i x.layout.last)) (uses_at bytes x (ElementEnd i))
         by None same e headed = says_given met p bytes (head_node p) _ _ _ (head_node x.path ∷ []) _ headed (closes _ refl)
         by (Some k) same e headed =
@@ -296,15 +304,16 @@ module _ (d : Description) (bytes : List ℕ) (x : Listing) (plain : IsPlain d b
     -- ---- rests
 
     says_behind : (i : ℕ) (p : Trail) → IsThere bytes x (Rest i) → At i p → r ≡ turns (width x) x.count + (x.count - i)
-        → Says met p bytes (rules.as_rest (rest_from p x.path i)) (answer_at bytes x (Rest i)) (nodes_of x (Some (ElementEnd i) ∷ later_asked x.count i)) []
+        → Ends met p bytes (rules.as_rest (rest_from p x.path i)) (evaluated (answer_at bytes x (Rest i)))
+        (nodes_of x (Some (ElementEnd i) ∷ later_asked x.count i)) []
     says_behind i p there is at =
         let low = there.0 in
         let lt : turns (width x) i + 3 * x.layout.last + 4 < r = (let e = turns_low (width x) i x.count low in omega (arith, e, at)) in
         says_asking met p bytes _ _ _ _ _ (node_next (ElementEnd i) (end_node p) _ (ap (option_map end_node) is))
         (by (nat_le x.count (suc i)) refl (end_heard i p low is lt))
       where
-        by : (b : Bool) → nat_le x.count (suc i) ≡ b → met (end_node p) ≡ Ok (answer_at bytes x (ElementEnd i))
-            → Says met p bytes (rules.as_rest (rest_from p x.path i)) (answer_at bytes x (Rest i))
+        by : (b : Bool) → nat_le x.count (suc i) ≡ b → met (end_node p) ≡ evaluated (answer_at bytes x (ElementEnd i))
+            → Ends met p bytes (rules.as_rest (rest_from p x.path i)) (evaluated (answer_at bytes x (Rest i)))
             (end_node p ∷ nodes_of x (if b then [] else Some (Rest (suc i)) ∷ [])) []
         by true e ended =
             let low = there.0 in
@@ -327,6 +336,44 @@ module _ (d : Description) (bytes : List ℕ) (x : Listing) (plain : IsPlain d b
         → Said (Rest i) (rest_node p)
     says_rest zero p there is at = rules.whole_says met bytes d x.list x.path p listed _ _ is plain.filled (says_behind 0 p there is at)
     says_rest (suc i) p there is at = rules.rest_says met bytes d x.list x.path p listed i _ _ is (says_behind (suc i) p there is at)
+
+    -- ---- what isn't there
+
+    first_fault : (p : Trail) → At (x.count + 0) p → missing_fault x ≡ record { kind = kinds.BadIndex; path = p }
+    first_fault p is =
+        let first : x.count + 0 ≡ x.count = omega arith in
+        ap (λ o. record { kind = kinds.BadIndex; path = unwrap_or o x.path }) (ap (element_path x) (sym first) ∙ is)
+
+    says_missing : (k : ℕ) (p : Trail) → IsMissing bytes x k → At (x.count + k) p → r ≡ turns (width x) (x.count + k) → Said (MissingHead k) (head_node p)
+    says_missing zero p there is at =
+        let some = there.some in
+        let low : x.count - 1 < x.count = omega (arith, some) in
+        let before : x.count + 0 ≡ suc (x.count - 1) = omega (arith, some) in
+        let up = turns_low (width x) (x.count - 1) (x.count + 0) (omega (arith, some)) in
+        let q = path_of (x.count - 1) low in
+        let ended = end_heard (x.count - 1) q.0 low q.1 (omega (arith, at, up))
+        ∙ ap (λ b. Ok (givens.End (at_byte (start x (suc (x.count - 1)))) b)) there.last in
+        ends_asking met p bytes _ _ _ _ _
+        (ap (λ ns. head_node x.path ∷ ns) (node_next (ElementEnd (x.count - 1)) (end_node q.0) [] (ap (option_map end_node) q.1)))
+        (subst (λ f. Ends met p bytes (rule_of d (head_node p)) (Err (faults.Raised f)) (head_node x.path ∷ end_node q.0 ∷ []) []) (sym (first_fault p is))
+        (rules.missing_head met bytes d x.list x.path p listed (x.count - 1) (start x (suc (x.count - 1))) q.0 (subst (λ i. At i p) before is) q.1 plain.filled
+        (ap (λ o. is_past o (suc (x.count - 1))) there.uncounted) ended))
+    says_missing (suc k) p there is at =
+        let less = fewer there in
+        let q = element_is x.path (x.count + k) plain.short less.few in
+        let before : x.count + suc k ≡ suc (x.count + k) = omega arith in
+        let up = turns_low (width x) (x.count + k) (x.count + suc k) (omega arith) in
+        ends_asking met p bytes _ _ _ _ _ (ap (λ ns. head_node x.path ∷ ns) (node_next (MissingEnd k) (end_node q.0) [] (ap (option_map end_node) q.1)))
+        (rules.next_missing met bytes d x.list x.path p listed (x.count + k) q.0 (faults.Raised (missing_fault x)) (subst (λ i. At i p) before is) q.1
+        plain.filled (ap (λ o. is_past o (suc (x.count + k))) there.uncounted)
+        (lower (MissingEnd k) (end_node q.0) (omega (arith, at, up)) (less, ap (option_map end_node) q.1)))
+
+    says_missing_end : (k : ℕ) (p : Trail) → IsMissing bytes x k → At (x.count + k) p → r ≡ turns (width x) (x.count + k) + 3 * x.layout.last + 4
+        → Said (MissingEnd k) (end_node p)
+    says_missing_end k p there is at =
+        let path = ap (option_map head_node) is in
+        ends_asking met p bytes _ _ _ _ _ (node_next (MissingHead k) (head_node p) [] path)
+        (rules.missing_end met bytes d x.list x.path p listed _ (lower (MissingHead k) (head_node p) (omega (arith, at)) (there, path)))
 
     -- ---- fields
 
@@ -415,8 +462,8 @@ module _ (d : Description) (bytes : List ℕ) (x : Listing) (plain : IsPlain d b
 
   abbrev Saying : Which → Node → Type 0
   Saying k m = (met : Node → Result Given NodeFault) → met (head_node x.path) ≡ Ok (givens.Head (heads.List x.list))
-      → ((j : Which) (n : Node) → rank x j < rank x k → Is j n → met n ≡ Ok (answer_at bytes x j))
-      → Says met m.path bytes (rule_of d m) (answer_at bytes x k) (nodes_of x (asked_by x k)) (uses_at bytes x k)
+      → ((j : Which) (n : Node) → rank x j < rank x k → Is j n → met n ≡ evaluated (answer_at bytes x j))
+      → Ends met m.path bytes (rule_of d m) (evaluated (answer_at bytes x k)) (nodes_of x (asked_by x k)) (uses_at bytes x k)
 
   saying : (k : Which) (p : Trail) → IsThere bytes x k → path_at x k ≡ Some p → Saying k (node_of k p)
   saying (ElementHead i) p there is met listed lower = says_head (rank x (ElementHead i)) met listed lower i p there is refl
@@ -428,6 +475,8 @@ module _ (d : Description) (bytes : List ℕ) (x : Listing) (plain : IsPlain d b
       says_field_end (rank x (FieldEnd i j)) met listed lower i j there q.0 p q.1 q.2 refl
   saying (SizeValue i) p there is met listed lower = let q = holder_of i x.layout.sizer p is in
       says_value (rank x (SizeValue i)) met listed lower i there q.0 p q.1 q.2 refl
+  saying (MissingHead k) p there is met listed lower = says_missing (rank x (MissingHead k)) met listed lower k p there is refl
+  saying (MissingEnd k) p there is met listed lower = says_missing_end (rank x (MissingEnd k)) met listed lower k p there is refl
 
   is_chain : IsChain d bytes (head_node x.path) (givens.Head (heads.List x.list)) chain
   is_chain = record {
@@ -448,6 +497,8 @@ module _ (d : Description) (bytes : List ℕ) (x : Listing) (plain : IsPlain d b
   path_there (FieldHead i j) there = field_there i j there
   path_there (FieldEnd i j) there = field_there i j there
   path_there (SizeValue i) there = field_there i x.layout.sizer there.0
+  path_there (MissingHead k) there = element_is x.path (x.count + k) plain.short there.few
+  path_there (MissingEnd k) there = element_is x.path (x.count + k) plain.short there.few
 
   pub node_is : (k : Which) → IsThere bytes x k → (n : Node) × (node_at x k ≡ Some n)
   node_is k there = let p = path_there k there in (node_of k p.0, ap (option_map (node_of k)) p.1)

@@ -1,18 +1,20 @@
 -- What a value that says sizes answers is what its bytes write. So a list is plain by what its values answer.
-use Rattle.std.specs.Prelude.{option_map, slice_range}
+use Rattle.std.specs.Prelude.{option_map, slice_range, pos}
+use Rattle.ksv_expr_value.specs.declared.value.Value.TheVariants as values
 use Rattle.ksv_nodes.specs.Rule.{value_node}
+use Rattle.ksv_nodes.specs.declared.given.Given.TheVariants as givens
 use Rattle.ksv_rule_laws.proofs.Answering.{by_rule}
 use Rattle.ksv_rule_meaning.specs.FromNothing.{from_nothing}
 use Rattle.ksv_rule_meaning.specs.Heads.{is_past}
 use Rattle.ksv_list_laws.proofs.Common.{◌≡◌, ◌∙◌, ℕ, suc, ◌+◌, ◌<◌, ◌≤◌, true, false, List, [], sym, ap, arith, unwrap_or, Description, end_in}
-use Rattle.ksv_list_laws.proofs.Common.{head_node, is_named_to, Listing, start, SizeValue}
+use Rattle.ksv_list_laws.proofs.Common.{head_node, is_named_to, Listing, start}
 use Rattle.ksv_list_laws.proofs.Fields as fields
 use Rattle.ksv_list_laws.proofs.Laid.{laid, named_some, sizer_is, sizer_low}
 use Rattle.ksv_list_laws.proofs.Paths.{mapped}
 use Rattle.ksv_list_laws.proofs.Places.{same_start, start_low}
 use Rattle.ksv_list_laws.proofs.Truth.{some_is}
 use Rattle.ksv_list_laws.specs.Laws.{ValuesAreWritten, WrittenArePlain}
-use Rattle.ksv_list_laws.specs.Nodes.{place, field_start, field_path, answer_at, integer_in, SaysSize, IsWhole}
+use Rattle.ksv_list_laws.specs.Nodes.{place, field_start, field_path, integer_in, SaysSize, IsWhole}
 
 pub values_are_written : ValuesAreWritten
 values_are_written d bytes x found named i h v is was headed valued =
@@ -27,7 +29,7 @@ values_are_written d bytes x found named i h v is was headed valued =
     fields.value_is met bytes d x.list (unwrap_or x.layout.type_number 0) x.layout (laid d x.list x.layout found some) p.0 (start x i) x.layout.sizer
     (place x i x.layout.sizer) (place x i (suc x.layout.sizer)) (x.says i) (sizer_low d x.list x.layout found some named) p.0 by.0
     (ap met head_is ∙ headed) (omega (arith, far, more))
-    (by_rule d bytes [] (value_node p.0) (answer_at bytes x (SizeValue i)) (ap met p.2 ∙ valued))
+    (by_rule d bytes [] (value_node p.0) (givens.Value (values.Int (pos (x.says i)))) (ap met p.2 ∙ valued))
 
 module _ (d : Description) (bytes : List ℕ) (x : Listing) (c : ℕ) where
   abbrev first : Listing

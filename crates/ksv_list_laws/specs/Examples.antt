@@ -12,7 +12,7 @@ use Rattle.ksv_desc.specs.declared.order.ByteOrder.TheVariants.{Big}
 use Rattle.ksv_rule_meaning.specs.Wanted.{whole}
 use Rattle.ksv_list_laws.specs.Lists.{Layout, is_named_to, layout_of}
 use Rattle.ksv_list_laws.specs.Lists as layouts
-use Rattle.ksv_list_laws.specs.Nodes.{Listing, is_last, IsPlain, IsSizedNext}
+use Rattle.ksv_list_laws.specs.Nodes.{Listing, is_last, IsPlain, IsMissing, IsSizedNext}
 
 -- ---- descriptions
 
@@ -89,8 +89,10 @@ pub record IsListOf (f : Field) (bytes : List ℕ) (x : Listing) : Type 0 where
   pub plain : IsPlain (of_list f) bytes x
   pub full : is_last bytes x (x.count - 1) ≡ true
 
+-- the bytes end this one, so behind its last element there are those that aren't there, here the sixth of them
 abbrev pub NumbersArePlain : Type 0
-NumbersArePlain = (f : Field) (l : Trail) → child root (steps.Name 0) ≡ Some l → IsListOf (numbers f) of_three (listing l None (layouts.whole (numbers f)) 3)
+NumbersArePlain = (f : Field) (l : Trail) → child root (steps.Name 0) ≡ Some l
+    → IsListOf (numbers f) of_three (listing l None (layouts.whole (numbers f)) 3) × IsMissing of_three (listing l None (layouts.whole (numbers f)) 3) 5
 
 abbrev pub CountedArePlain : Type 0
 CountedArePlain = (f : Field) (l : Trail) → child root (steps.Name 0) ≡ Some l → IsListOf (three f) of_three (listing l (Some 3) (layouts.whole (three f)) 3)

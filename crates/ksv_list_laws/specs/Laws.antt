@@ -1,6 +1,6 @@
 -- Laws of plain lists: what the nodes of their elements answer, ask and use from nothing, and which changes touch them. They are stated over
 -- the definitions of ksv_rule_meaning, and of ksv_memo_rules what is right to keep.
-use Rattle.std.specs.Prelude.{◌≡◌, ◌+◌, ◌<◌, ◌≤◌, ◌⊎◌, ℕ, Bool, true, false, ◌||◌, List, [], ◌∷◌, ◌++◌, length, Option, Some, None, Result, Ok}
+use Rattle.std.specs.Prelude.{◌≡◌, ◌+◌, ◌<◌, ◌≤◌, ◌⊎◌, ℕ, Bool, true, false, ◌||◌, List, [], ◌∷◌, ◌++◌, length, Option, Some, None, Result, Ok, Err}
 use Rattle.std.specs.List.{AllByRecursion, flat_map, list_any}
 use Rattle.ksv_bytes.specs.declared.uses.Use.{Use}
 use Rattle.ksv_bytes.specs.declared.uses.Change.{Change}
@@ -15,6 +15,8 @@ use Rattle.ksv_nodes.specs.declared.node.Node.{Node}
 use Rattle.ksv_nodes.specs.declared.given.Given.{Given}
 use Rattle.ksv_nodes.specs.declared.given.Given.TheVariants as givens
 use Rattle.ksv_nodes.specs.declared.given.Head.TheVariants as heads
+use Rattle.ksv_nodes.specs.declared.node_fault.NodeFault.{NodeFault}
+use Rattle.ksv_nodes.specs.declared.node_fault.NodeFault.TheVariants as faults
 use Rattle.ksv_nodes.specs.Numbers.{node_number}
 use Rattle.ksv_nodes.specs.Reading.{end_in}
 use Rattle.ksv_nodes.specs.Rule.{head_node}
@@ -29,9 +31,14 @@ use Rattle.ksv_list_laws.specs.Lists.{list_layout, is_named_to}
 use Rattle.ksv_list_laws.specs.Nodes.{Listing, start, Which, ElementEnd, FieldHead, SizeValue, element_depends, element_of, is_in_element, node_at}
 use Rattle.ksv_list_laws.specs.Nodes.{nodes_of, answer_at, asked_by, uses_at, guard_of, reach_of, SaysSize, IsPlain, IsThere, IsUpTo, IsSizedNext}
 
+-- an answer or a fault, as evaluation gives it, which may also meet a circle
+abbrev pub evaluated : Result Given Fault → Result Given NodeFault
+evaluated (Ok g) = Ok g
+evaluated (Err f) = Err (faults.Raised f)
+
 -- what a node answers, asks and uses from nothing
-pub record Tells (d : Description) (bytes : List ℕ) (opened : List Node) (n : Node) (g : Given) (ns : List Node) (us : List Use) : Type 0 where
-  pub answer : from_nothing d bytes opened n ≡ Ok g
+pub record Tells (d : Description) (bytes : List ℕ) (opened : List Node) (n : Node) (a : Result Given Fault) (ns : List Node) (us : List Use) : Type 0 where
+  pub answer : from_nothing d bytes opened n ≡ evaluated a
   pub asked : asks d bytes opened n ≡ ns
   pub used : uses d bytes opened n ≡ us
 
@@ -56,7 +63,7 @@ GuardsTell = (d : Description) (bytes : List ℕ) (x : Listing) → IsPlain d by
 
 -- What evaluating a node completes is what each node that it asks completes, and then it.
 abbrev pub TreesAreAsked : Type 0
-TreesAreAsked = (d : Description) (bytes : List ℕ) (n : Node) (g : Given) (ns : List Node) (us : List Use) → Tells d bytes [] n g ns us
+TreesAreAsked = (d : Description) (bytes : List ℕ) (n : Node) (a : Result Given Fault) (ns : List Node) (us : List Use) → Tells d bytes [] n a ns us
     → completed d bytes [] n ≡ flat_map (completed d bytes []) ns ++ n ∷ []
 
 -- at most one use
@@ -67,10 +74,10 @@ IsSingle (u ∷ v ∷ us) = ⊥
 
 -- What a node tells is right for an engine to keep, where all that it asks is kept.
 abbrev pub EntriesAreRight : Type 0
-EntriesAreRight = (d : Description) (bytes : List ℕ) (kept : List Node) (n : Node) (g : Given) (ns : List Node) (us : List Use) → Tells d bytes [] n g ns us
-    → IsSingle us
+EntriesAreRight = (d : Description) (bytes : List ℕ) (kept : List Node) (n : Node) (a : Result Given Fault) (ns : List Node) (us : List Use)
+    → Tells d bytes [] n a ns us → IsSingle us
     → AllByRecursion (λ m. is_among node_number kept m ≡ true) ns → StandsIn (on (described d) bytes) kept
-    (record { node = n; answer = Ok g; asked = ns; uses = us })
+    (record { node = n; answer = a; asked = ns; uses = us })
 
 -- all nodes but the values that say sizes, which are some nodes' guards
 abbrev pub is_folded : Which → Bool
@@ -83,7 +90,7 @@ abbrev pub FoldedStandIn : Type 0
 FoldedStandIn = (d : Description) (bytes : List ℕ) (x : Listing) → IsPlain d bytes x → (k : Which) → IsThere bytes x k → is_folded k ≡ true → (n m : Node)
     → node_at x k ≡ Some n → guard_node x (guard_of x k) ≡ Some m
     → (kept : List Node) → AllByRecursion (λ o. is_among node_number kept o ≡ true) (nodes_of x (asked_by x k)) → is_among node_number kept m ≡ true
-    → StandsIn (on (described d) bytes) kept (record { node = n; answer = Ok (answer_at bytes x k); asked = m ∷ []; uses = reach_of bytes x k })
+    → StandsIn (on (described d) bytes) kept (record { node = n; answer = answer_at bytes x k; asked = m ∷ []; uses = reach_of bytes x k })
 
 -- A question for a node completes it alone, by one call more than it asks, where an engine keeps all that it asks.
 pub record Grows (d : Description) (bytes : List ℕ) (es : List (Entry Node (Result Given Fault))) (n : Node) (ns : List Node) : Type 0 where
@@ -124,7 +131,8 @@ ValuesComplete = (d : Description) (bytes : List ℕ) (x : Listing) → IsPlain 
 abbrev pub ValuesAreWritten : Type 0
 ValuesAreWritten = (d : Description) (bytes : List ℕ) (x : Listing) → list_layout d x.list ≡ Some x.layout → is_named_to x.layout x.layout.last ≡ true
     → (i : ℕ) (h v : Node) → node_at x (FieldHead i x.layout.sizer) ≡ Some h → node_at x (SizeValue i) ≡ Some v
-    → from_nothing d bytes [] h ≡ Ok (answer_at bytes x (FieldHead i x.layout.sizer)) → from_nothing d bytes [] v ≡ Ok (answer_at bytes x (SizeValue i))
+    → from_nothing d bytes [] h ≡ evaluated (answer_at bytes x (FieldHead i x.layout.sizer))
+    → from_nothing d bytes [] v ≡ evaluated (answer_at bytes x (SizeValue i))
     → SaysSize bytes x i
 
 -- So a list that is plain with none of its elements is so with the first c, if these end in its stream, its count excludes none of them, and

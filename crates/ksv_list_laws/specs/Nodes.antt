@@ -1,11 +1,12 @@
 -- The nodes of a plain list's elements, and what each of them is to answer, to ask and to use: in closed form, by numbers alone.
 use Rattle.std.specs.Prelude.{◌≡◌, ℕ, zero, suc, ◌+◌, ◌-◌, ◌*◌, ◌==◌, ◌<◌, ◌≤◌, ◌⊎◌, nat_lt, nat_le, Bool, true, false, if◌then◌else◌, List, [], ◌∷◌, length}
-use Rattle.std.specs.Prelude.{Option, Some, None, is_some, option_map, option_and_then, unwrap_or, Ok, pos, slice_range}
+use Rattle.std.specs.Prelude.{Option, Some, None, is_some, option_map, option_and_then, unwrap_or, Result, Ok, Err, pos, slice_range}
 use Rattle.ksv_basics.specs.Plan.{Answer}
 use Rattle.ksv_bytes.specs.declared.uses.Use.{Use}
 use Rattle.ksv_bytes.specs.declared.uses.Use.TheVariants as uses_are
 use Rattle.ksv_expr_value.specs.Places.{at_byte}
 use Rattle.ksv_expr_value.specs.Trail.{Trail, child, element_limit}
+use Rattle.ksv_expr_value.specs.declared.fault.Fault.{Fault}
 use Rattle.ksv_expr_value.specs.declared.fault.FaultKind.TheVariants as kinds
 use Rattle.ksv_expr_value.specs.declared.step.Step.TheVariants as steps
 use Rattle.ksv_expr_value.specs.declared.value.Value.{Value}
@@ -58,7 +59,8 @@ place x i j = field_start x.layout (x.says i) (start x i) j
 
 -- ---- nodes
 
--- a node of a list: the head, the end and the rest of an element; the head and the end of its field j; and the value that says a size
+-- A node of a list: the head, the end and the rest of an element; the head and the end of its field j; and the value that says a size. Behind the
+-- last element, of each that isn't there, from the first on: its head and its end.
 pub data Which : Type 0 where
   ElementHead : ℕ → Which
   ElementEnd : ℕ → Which
@@ -66,8 +68,10 @@ pub data Which : Type 0 where
   FieldHead : ℕ → ℕ → Which
   FieldEnd : ℕ → ℕ → Which
   SizeValue : ℕ → Which
+  MissingHead : ℕ → Which
+  MissingEnd : ℕ → Which
 
--- the element that a node is of, from which on a rest is; and whether a node is more than a rest
+-- the element that a node is of, from which on a rest is, or which of those that aren't there; and whether it is a node of one that is, and no rest
 abbrev pub element_of : Which → ℕ
 element_of (ElementHead i) = i
 element_of (ElementEnd i) = i
@@ -75,9 +79,13 @@ element_of (Rest i) = i
 element_of (FieldHead i j) = i
 element_of (FieldEnd i j) = i
 element_of (SizeValue i) = i
+element_of (MissingHead k) = k
+element_of (MissingEnd k) = k
 
 abbrev pub is_in_element : Which → Bool
 is_in_element (Rest i) = false
+is_in_element (MissingHead k) = false
+is_in_element (MissingEnd k) = false
 is_in_element _ = true
 
 abbrev pub element_path : Listing → ℕ → Option Trail
@@ -93,6 +101,8 @@ path_at x (Rest i) = element_path x i
 path_at x (FieldHead i j) = field_path x i j
 path_at x (FieldEnd i j) = field_path x i j
 path_at x (SizeValue i) = field_path x i x.layout.sizer
+path_at x (MissingHead k) = element_path x (x.count + k)
+path_at x (MissingEnd k) = element_path x (x.count + k)
 
 abbrev pub kind_at : Which → NodeKind
 kind_at (ElementHead i) = nodes.Head
@@ -101,6 +111,8 @@ kind_at (Rest i) = nodes.Rest
 kind_at (FieldHead i j) = nodes.Head
 kind_at (FieldEnd i j) = nodes.End
 kind_at (SizeValue i) = nodes.Value
+kind_at (MissingHead k) = nodes.Head
+kind_at (MissingEnd k) = nodes.End
 
 abbrev pub node_at : Listing → Which → Option Node
 node_at x k = option_map (λ p. record { kind = kind_at k; path = p }) (path_at x k)
@@ -151,14 +163,20 @@ end_uses (Some n) bytes to z = []
 abbrev pub is_last : List ℕ → Listing → ℕ → Bool
 is_last bytes x i = is_last_at x.list.count bytes x.list.stream.to i (start x (suc i))
 
-abbrev pub answer_at : List ℕ → Listing → Which → Given
-answer_at bytes x (ElementHead i) = element_from x.list x.layout.type_number (start x i) (start x (suc i))
-answer_at bytes x (ElementEnd i) = givens.End (at_byte (start x (suc i))) (is_last bytes x i)
-answer_at bytes x (Rest i) = givens.Rest x.count (at_byte (start x x.count))
-answer_at bytes x (FieldHead i j) = leaf_from (origin_of (object_from x.list (unwrap_or x.layout.type_number 0) (start x i)) (sought_at x.layout j))
-    (place x i j) (place x i (suc j))
-answer_at bytes x (FieldEnd i j) = givens.End (at_byte (place x i (suc j))) false
-answer_at bytes x (SizeValue i) = givens.Value (values.Int (pos (x.says i)))
+-- what is behind the last element has no place: the fault of the first element that isn't there
+abbrev pub missing_fault : Listing → Fault
+missing_fault x = record { kind = kinds.BadIndex; path = unwrap_or (element_path x x.count) x.path }
+
+abbrev pub answer_at : List ℕ → Listing → Which → Result Given Fault
+answer_at bytes x (ElementHead i) = Ok (element_from x.list x.layout.type_number (start x i) (start x (suc i)))
+answer_at bytes x (ElementEnd i) = Ok (givens.End (at_byte (start x (suc i))) (is_last bytes x i))
+answer_at bytes x (Rest i) = Ok (givens.Rest x.count (at_byte (start x x.count)))
+answer_at bytes x (FieldHead i j) = Ok (leaf_from (origin_of (object_from x.list (unwrap_or x.layout.type_number 0) (start x i)) (sought_at x.layout j))
+    (place x i j) (place x i (suc j)))
+answer_at bytes x (FieldEnd i j) = Ok (givens.End (at_byte (place x i (suc j))) false)
+answer_at bytes x (SizeValue i) = Ok (givens.Value (values.Int (pos (x.says i))))
+answer_at bytes x (MissingHead k) = Err (missing_fault x)
+answer_at bytes x (MissingEnd k) = Err (missing_fault x)
 
 -- ---- what is asked
 
@@ -189,6 +207,11 @@ rest_asked (suc i) ks = ks
 abbrev pub later_asked : ℕ → ℕ → List (Option Which)
 later_asked n i = if nat_le n (suc i) then [] else Some (Rest (suc i)) ∷ []
 
+-- and before what isn't there the end of what is before it
+abbrev pub before_missing : Listing → ℕ → Which
+before_missing x zero = ElementEnd (x.count - 1)
+before_missing x (suc k) = MissingEnd k
+
 abbrev pub asked_by : Listing → Which → List (Option Which)
 asked_by x (ElementHead i) = None ∷ prior_end i
 asked_by x (ElementEnd i) = Some (ElementHead i) ∷ last_asked x.layout.type_number i x.layout.last
@@ -196,6 +219,8 @@ asked_by x (Rest i) = rest_asked i (Some (ElementEnd i) ∷ later_asked x.count 
 asked_by x (FieldHead i j) = Some (ElementHead i) ∷ prior_field i j (size_asked i (size_at x.layout j))
 asked_by x (FieldEnd i j) = Some (FieldHead i j) ∷ []
 asked_by x (SizeValue i) = Some (FieldHead i x.layout.sizer) ∷ []
+asked_by x (MissingHead k) = None ∷ Some (before_missing x k) ∷ []
+asked_by x (MissingEnd k) = Some (MissingHead k) ∷ []
 
 -- ---- what is used
 
@@ -210,6 +235,8 @@ uses_at bytes x (Rest i) = []
 uses_at bytes x (FieldHead i j) = uses_are.Reach (place x i (suc j)) ∷ []
 uses_at bytes x (FieldEnd i j) = []
 uses_at bytes x (SizeValue i) = uses_are.Bytes (place x i x.layout.sizer) (place x i (suc x.layout.sizer)) ∷ []
+uses_at bytes x (MissingHead k) = []
+uses_at bytes x (MissingEnd k) = []
 
 -- what the place and the size of an element depend on: the bytes up to its end, and of these those of the value that says its size
 abbrev pub sizer_uses : Listing → ℕ → Bool → List Use
@@ -237,6 +264,8 @@ guard_of x (Rest i) = prior_guard x x.count
 guard_of x (FieldHead i j) = field_guard x i j
 guard_of x (FieldEnd i j) = field_guard x i j
 guard_of x (SizeValue i) = Some (SizeValue i)
+guard_of x (MissingHead k) = prior_guard x x.count
+guard_of x (MissingEnd k) = prior_guard x x.count
 
 -- and the farthest place to which it reads: that of a last element depends on the size of a stream that the file ends
 abbrev pub stream_reach : List ℕ → Option ℕ → ℕ → Use
@@ -262,6 +291,8 @@ reach_of bytes x (Rest i) = prior_reach bytes x x.count
 reach_of bytes x (FieldHead i j) = uses_are.Reach (place x i (suc j)) ∷ []
 reach_of bytes x (FieldEnd i j) = uses_are.Reach (place x i (suc j)) ∷ []
 reach_of bytes x (SizeValue i) = []
+reach_of bytes x (MissingHead k) = prior_reach bytes x x.count
+reach_of bytes x (MissingEnd k) = prior_reach bytes x x.count
 
 -- ---- which nodes are there
 
@@ -299,13 +330,22 @@ pub record IsPlain (d : Description) (bytes : List ℕ) (x : Listing) : Type 0 w
 abbrev pub IsField : Listing → ℕ → ℕ → Type 0
 IsField x i j = (i < x.count) × (j ≤ x.layout.last) × (is_some x.layout.type_number ≡ true)
 
--- which nodes there are: rests if the last element that is looked at is the list's last
+-- An element that isn't there, behind the last: the bytes end the list, and a path may have its index.
+pub record IsMissing (bytes : List ℕ) (x : Listing) (k : ℕ) : Type 0 where
+  pub some : 0 < x.count
+  pub last : is_last bytes x (x.count - 1) ≡ true
+  pub uncounted : x.list.count ≡ None
+  pub few : x.count + k < element_limit
+
+-- which nodes there are: rests if the last element that is looked at is the list's last, and then those behind it too, if no count says so
 abbrev pub IsThere : List ℕ → Listing → Which → Type 0
 IsThere bytes x (ElementHead i) = i < x.count
 IsThere bytes x (ElementEnd i) = i < x.count
 IsThere bytes x (Rest i) = (i < x.count) × (is_last bytes x (x.count - 1) ≡ true)
 IsThere bytes x (FieldHead i j) = IsField x i j
 IsThere bytes x (FieldEnd i j) = IsField x i j
+IsThere bytes x (MissingHead k) = IsMissing bytes x k
+IsThere bytes x (MissingEnd k) = IsMissing bytes x k
 IsThere bytes x (SizeValue i) = IsField x i x.layout.sizer × (is_named_to x.layout x.layout.last ≡ true)
 
 -- ---- their order
@@ -315,11 +355,13 @@ abbrev pub past_value : Layout → ℕ → ℕ
 past_value y j = if nat_lt y.sizer j then 1 else 0
 
 -- The nodes of an element in order: its head; of each field the head and the end, and behind the end of the field that says sizes its value;
--- the element's end. This is the place of each; that of a rest isn't used.
+-- the element's end. This is the place of each; that of a rest, or of what isn't there, isn't used.
 abbrev pub order_of : Layout → Which → ℕ
 order_of y (ElementHead i) = 0
 order_of y (ElementEnd i) = 2 * y.last + 4
 order_of y (Rest i) = 0
+order_of y (MissingHead k) = 0
+order_of y (MissingEnd k) = 0
 order_of y (FieldHead i j) = 2 * j + 1 + past_value y j
 order_of y (FieldEnd i j) = 2 * j + 2 + past_value y j
 order_of y (SizeValue i) = 2 * y.sizer + 3

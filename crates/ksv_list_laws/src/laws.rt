@@ -5,7 +5,8 @@ ghost use Rattle.ksv_list_laws.specs.Laws.{NodesHavePaths, NodesTell, GuardsTell
 ghost use Rattle.ksv_list_laws.specs.Laws.{EarlierAreCompleted, UpToAreCompleted, ValuesComplete, ValuesAreWritten, WrittenArePlain, ShorterStaysPlain};
 
 /// Each node of a plain list has a path, and answers, asks and uses from nothing what numbers alone tell: the heads and ends of its
-/// elements and of their fields, the values that say sizes, and, where the last element is known, the rests.
+/// elements and of their fields, the values that say sizes, and, where the last element is known, the rests. Where bytes end the list, so
+/// does what is behind that element: each head and end has the fault of the first element that isn't there.
 pub fn nodes_tell()
     ensures paths { NodesHavePaths }
     ensures tell { NodesTell }
@@ -56,7 +57,8 @@ pub fn shorter_stays_plain()
     ensures { ShorterStaysPlain }
 {}
 
-/// The laws are of something: three integers to the end of a file, the same by a count, and two items that say their sizes.
+/// The laws are of something: three integers to the end of a file, behind which others aren't there, the same by a count, and two items
+/// that say their sizes.
 pub fn examples_are_plain()
     ensures numbers { NumbersArePlain }
     ensures counted { CountedArePlain }

@@ -3,7 +3,7 @@
 //! A list is plain if its elements always take the same bytes, or are objects of fields that do, but for those whose size one
 //! earlier integer says (`list_layout`, in `specs/Lists`). It goes on to the end of its stream, or has a count. What such a list's
 //! nodes answer, ask and use follows from where it begins and from the sizes that its elements say. So an engine could hold these
-//! numbers in place of the nodes. ksv_folds has the numbers of lists whose elements are of one size.
+//! numbers in place of the nodes; ksv_folds has them.
 //!
 //! In
 //!
@@ -19,7 +19,8 @@
 //! ```
 //!
 //! the file `01 07 02 08 09` has two items, which begin at the bytes 0 and 2. The end of the second is at the byte 5, and is the
-//! last. A change touches it just where it touches the value of its `len`, or the size of the file.
+//! last. A change touches it just where it touches the value of its `len`, or the size of the file. If a tenth item is asked for, so are
+//! the third to the ninth, each with the fault that there is no third.
 //!
 //! To prove the laws:
 //!

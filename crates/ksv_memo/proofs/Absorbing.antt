@@ -62,10 +62,10 @@ module _ {N A : Type 0} (f : Fold N A) where
 -- ---- a run
 module _ {N V F : Type 0} (eq : N → N → Bool) (laws : IsEquivalence eq) (exact : (a b : N) → eq a b ≡ true → a ≡ b) (f : Fold N (Result V F))
     (kept wild far : ℕ) (lent : List (Lending N)) (es all : List (Entry N (Result V F))) (o : Open N (Result V F)) (st : List (Open N (Result V F)))
-    (h : IsRun eq f kept wild far lent es (o ∷ st)) (j : ℕ) (v : V) (next : NextOf f kept far j (Ok v) o st) (put : IsPut (entry_as f j v o) es all) where
+    (h : IsRun eq f kept wild far lent es (o ∷ st)) (j : ℕ) (a : Result V F) (next : NextOf f kept far j a o st) (put : IsPut (entry_as f j a o) es all) where
   -- what is put is what the sequence says
   put-told : IsPut (lent_as f kept) es all
-  put-told = subst (λ e. IsPut e es all) (as-told eq laws exact f kept wild far lent j v o next.node next.answer ∙ ap (lent_as f) next.is) put
+  put-told = subst (λ e. IsPut e es all) (as-told eq laws exact f kept wild far lent j a o next.node next.answer ∙ ap (lent_as f) next.is) put
 
   -- the run before it, once the node isn't open any more
   before : IsRun eq f kept (suc kept) far lent es []
@@ -173,17 +173,17 @@ next-right q f kept wild far lent es st h j count is short fold lt right =
 
 -- ---- over a table
 module _ {N V F S : Type 0} (eq : N → N → Bool) (laws : IsEquivalence eq) (exact : (a b : N) → eq a b ≡ true → a ≡ b) (fold : S → Fold N (Result V F))
-    (run : Run N S) (place : ℕ) (v : V) (old new : Nodes N (Result V F)) (h : IsFolding eq fold (Some run) old) where
+    (run : Run N S) (place : ℕ) (a : Result V F) (old new : Nodes N (Result V F)) (h : IsFolding eq fold (Some run) old) where
   -- what is known of the next one
-  next-there : (st : List (Open N (Result V F))) → IsNext fold run place (Ok v) st → is_there st ≡ true
+  next-there : (st : List (Open N (Result V F))) → IsNext fold run place a st → is_there st ≡ true
   next-there [] next = absurd next
   next-there (o ∷ st) next = refl
 
-  next-before : (st : List (Open N (Result V F))) → IsNext fold run place (Ok v) st → place < run.far
+  next-before : (st : List (Open N (Result V F))) → IsNext fold run place a st → place < run.far
   next-before [] next = absurd next
   next-before (o ∷ st) next = let same = next.is in let lt = next.before in omega arith
 
-  module _ (next : IsNext fold run place (Ok v) old.opened) where
+  module _ (next : IsNext fold run place a old.opened) where
     pub there : is_there old.opened ≡ true
     there = next-there old.opened next
 
@@ -207,7 +207,7 @@ module _ {N V F S : Type 0} (eq : N → N → Bool) (laws : IsEquivalence eq) (e
     -- it is kept, and the one below has its answer, or not
     pub absorbs : (last : Run N S) (least : ℕ) (is_heard : Bool) → last.nodes ≡ run.nodes → last.kept ≡ place + 1 → last.wild ≡ max least last.kept
         → last.far ≡ run.far → last.lent.items ≡ run.lent.items ++ lending (fold run.nodes) place ∷ [] → least ≤ run.far
-        → AllByRecursion (λ w. IsNoneBelow (fold run.nodes) least w.node) new.opened → ClosesAs (fold run.nodes) place v is_heard old.opened old new
+        → AllByRecursion (λ w. IsNoneBelow (fold run.nodes) least w.node) new.opened → ClosesAs (fold run.nodes) place a is_heard old.opened old new
         → IsFolding eq fold (Some last) new
         × IsPut ((fold run.nodes).entry place) (with_folded eq (first_of (fold run.nodes) run.kept) old.kept)
         (with_folded eq (first_of (fold last.nodes) last.kept) new.kept)
@@ -216,31 +216,31 @@ module _ {N V F S : Type 0} (eq : N → N → Bool) (laws : IsEquivalence eq) (e
         f : Fold N (Result V F)
         f = fold run.nodes
 
-        all : (o : Open N (Result V F)) (st : List (Open N (Result V F))) → old.opened ≡ o ∷ st → NextOf f run.kept run.far place (Ok v) o st
-            → IsPut (entry_as f place v o) old.kept new.kept
+        all : (o : Open N (Result V F)) (st : List (Open N (Result V F))) → old.opened ≡ o ∷ st → NextOf f run.kept run.far place a o st
+            → IsPut (entry_as f place a o) old.kept new.kept
             → ((P : N → Type 0) → AllByRecursion (λ w. P w.node) st → AllByRecursion (λ w. P w.node) new.opened)
             → IsFolding eq fold (Some last) new
             × IsPut (f.entry place) (with_folded eq (first_of f run.kept) old.kept) (with_folded eq (first_of (fold last.nodes) last.kept) new.kept)
         all o st is one put rest =
             let run_is : IsRun eq f run.kept run.wild run.far run.lent.items old.kept (o ∷ st) =
             subst (IsRun eq f run.kept run.wild run.far run.lent.items old.kept) is h in
-            let apart = absorbed-apart eq laws exact f run.kept run.wild run.far run.lent.items old.kept new.kept o st run_is place v one put
+            let apart = absorbed-apart eq laws exact f run.kept run.wild run.far run.lent.items old.kept new.kept o st run_is place a one put
             least last.kept last.wild new.opened kept_is wild_is below rest in
             let lt = before-far in
-            let seen = absorbed-seen eq laws exact f run.kept run.wild run.far run.lent.items old.kept new.kept o st run_is place v one put
+            let seen = absorbed-seen eq laws exact f run.kept run.wild run.far run.lent.items old.kept new.kept o st run_is place a one put
             last.kept kept_is in
-            let then = absorbed eq laws exact f run.kept run.wild run.far run.lent.items old.kept new.kept o st run_is place v one put
+            let then = absorbed eq laws exact f run.kept run.wild run.far run.lent.items old.kept new.kept o st run_is place a one put
             new.opened last.kept last.wild kept_is (omega arith) (omega arith) apart in (
               rw nodes_is (rw far_is (rw lent_is then)),
               subst (λ ns. IsPut (f.entry place) (with_folded eq (first_of f run.kept) old.kept) (with_folded eq (first_of (fold ns) last.kept) new.kept))
                   (sym nodes_is) seen,
             )
 
-        by : (st : List (Open N (Result V F))) → old.opened ≡ st → IsNext fold run place (Ok v) st → (b : Bool) → ClosesAs f place v b st old new
+        by : (st : List (Open N (Result V F))) → old.opened ≡ st → IsNext fold run place a st → (b : Bool) → ClosesAs f place a b st old new
             → IsFolding eq fold (Some last) new
             × IsPut (f.entry place) (with_folded eq (first_of f run.kept) old.kept) (with_folded eq (first_of (fold last.nodes) last.kept) new.kept)
         by [] is one b c = absurd one
-        by (o ∷ st) is one true c = all o st is one c.0 (λ P is_all. subst (AllByRecursion (λ w. P w.node)) (sym c.1) (apart-heard P o.node (Ok v) st is_all))
+        by (o ∷ st) is one true c = all o st is one c.0 (λ P is_all. subst (AllByRecursion (λ w. P w.node)) (sym c.1) (apart-heard P o.node a st is_all))
         by (o ∷ st) is one false c = all o st is one c.0 (λ P is_all. subst (AllByRecursion (λ w. P w.node)) (sym c.1) is_all)
 
 -- the answer of its number is what it has

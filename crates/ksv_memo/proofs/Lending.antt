@@ -28,19 +28,19 @@ pub loses-first : {N A : Type 0} (b : Bool) (old new : Nodes N A) → is_there o
 loses-first true old new there takes kept = record { first = takes.0; was = takes.1; kept = kept }
 loses-first false old new there takes kept = let none : is_there old.opened ≡ false = ap is_there takes.0 in absurd (true≢false (sym there ∙ none))
 
-module _ {N V F S : Type 0} (fold : S → Fold N (Result V F)) (j : ℕ) (v : V) (old_run new_run : Run N S) (old new : Nodes N (Result V F)) where
+module _ {N A S : Type 0} (fold : S → Fold N A) (j : ℕ) (a : A) (old_run new_run : Run N S) (old new : Nodes N A) where
   -- it isn't kept
-  pub fails-lost : LosesFirst old new → SameRun old_run new_run old_run.lent.items → FailsToLend fold j v old_run new_run old new
+  pub fails-lost : LosesFirst old new → SameRun old_run new_run old_run.lent.items → FailsToLend fold j a old_run new_run old new
   fails-lost lost same = record { first = lost.first; was = lost.was; kept = inl (lost.kept, same) }
 
   -- the one below doesn't get its answer
-  pub fails-put : ClosesAs (fold old_run.nodes) j v false old.opened old new
+  pub fails-put : ClosesAs (fold old_run.nodes) j a false old.opened old new
       → SameRun old_run new_run (old_run.lent.items ++ lending (fold old_run.nodes) j ∷ [])
-      → FailsToLend fold j v old_run new_run old new
+      → FailsToLend fold j a old_run new_run old new
   fails-put closes same = by old.opened refl closes
     where
-      by : (st : List (Open N (Result V F))) → old.opened ≡ st → ClosesAs (fold old_run.nodes) j v false st old new
-          → FailsToLend fold j v old_run new_run old new
+      by : (st : List (Open N A)) → old.opened ≡ st → ClosesAs (fold old_run.nodes) j a false st old new
+          → FailsToLend fold j a old_run new_run old new
       by [] is h = absurd h
       by (o ∷ st) is h = record { first = o; was = is ∙ ap (λ xs. o ∷ xs) (sym h.1); kept = inr (h.0, same) }
 
@@ -204,8 +204,8 @@ module _ {N V F : Type 0} (eq : N → N → Bool) (laws : IsEquivalence eq) (exa
           absurd (true≢false (sym ((Decides-ltb j t).1 (omega arith)) ∙ is))
 
   -- what is kept of it is what the sequence says, by the root
-  pub as-told : (j : ℕ) (v : V) (o : Open N (Result V F)) → (f.entry j).node ≡ o.node → (f.entry j).answer ≡ Ok v → entry_as f j v o ≡ lent_as f j
-  as-told j v o node answer = λ i. record { node = sym node i; answer = sym answer i; asked = f.root ∷ []; uses = (f.entry j).uses }
+  pub as-told : (j : ℕ) (a : Result V F) (o : Open N (Result V F)) → (f.entry j).node ≡ o.node → (f.entry j).answer ≡ a → entry_as f j a o ≡ lent_as f j
+  as-told j a o node answer = λ i. record { node = sym node i; answer = sym answer i; asked = f.root ∷ []; uses = (f.entry j).uses }
 
   -- a run once it has a slot
   pub lent-on : (j : ℕ) (old : Nodes N (Result V F)) → IsRun eq f kept wild far lent old.kept old.opened → j < kept → (es : List (Entry N (Result V F)))
@@ -237,32 +237,32 @@ module _ {N V F : Type 0} (eq : N → N → Bool) (laws : IsEquivalence eq) (exa
           let none : count_by p [] ≡ 0 = refl in omega arith
 
   module _ {S : Type 0} (fold : S → Fold N (Result V F)) (old_run new_run : Run N S) (is : fold old_run.nodes ≡ f) (kept_is : old_run.kept ≡ kept)
-      (wild_is : old_run.wild ≡ wild) (far_is : old_run.far ≡ far) (lent_is : old_run.lent.items ≡ lent) (j : ℕ) (v : V) (n : N) (lt : j < kept)
-      (at : (f.entry j).node ≡ n) (answer : (f.entry j).answer ≡ Ok v) (old mid new : Nodes N (Result V F))
+      (wild_is : old_run.wild ≡ wild) (far_is : old_run.far ≡ far) (lent_is : old_run.lent.items ≡ lent) (j : ℕ) (a : Result V F) (n : N) (lt : j < kept)
+      (at : (f.entry j).node ≡ n) (answer : (f.entry j).answer ≡ a) (old mid new : Nodes N (Result V F))
       (h : IsRun eq f kept wild far lent old.kept old.opened) (opens : Opens eq n old mid) where
     same_node : (f.entry j).node ≡ opens.node
     same_node = at ∙ exact n opens.node opens.passes
 
-    put_here : (o : Open N (Result V F)) → o.node ≡ opens.node → (es : List (Entry N (Result V F))) → IsPut (entry_as (fold old_run.nodes) j v o) mid.kept es
+    put_here : (o : Open N (Result V F)) → o.node ≡ opens.node → (es : List (Entry N (Result V F))) → IsPut (entry_as (fold old_run.nodes) j a o) mid.kept es
         → IsPut (lent_as f j) old.kept es
-    put_here o named es p = rw (← opens.kept) (subst (λ e. IsPut e mid.kept es) (as-told j v o (same_node ∙ sym named) answer)
-        (subst (λ g. IsPut (entry_as g j v o) mid.kept es) is p))
+    put_here o named es p = rw (← opens.kept) (subst (λ e. IsPut e mid.kept es) (as-told j a o (same_node ∙ sym named) answer)
+        (subst (λ g. IsPut (entry_as g j a o) mid.kept es) is p))
 
     as_new : {items : List (Lending N)} → SameRun old_run new_run items → (es : List (Entry N (Result V F)))
         → with_folded eq (first_of (fold new_run.nodes) new_run.kept) es ≡ with_folded eq (first_of f kept) es
     as_new same es = λ i. with_folded eq (first_of ((ap fold same.nodes ∙ is) i) ((same.kept ∙ kept_is) i)) es
 
     -- the last open node is the one that was opened
-    pub lends-on : LendsTo fold j v old_run new_run mid.opened mid new
+    pub lends-on : LendsTo fold j a old_run new_run mid.opened mid new
         → IsRun eq (fold new_run.nodes) new_run.kept new_run.wild new_run.far new_run.lent.items new.kept new.opened
         × Replies eq n (sees eq laws exact f kept wild far lent old)
         (record { kept = with_folded eq (first_of (fold new_run.nodes) new_run.kept) new.kept; opened = new.opened })
     lends-on l =
-        let l2 : LendsTo fold j v old_run new_run (newly opens.node ∷ old.opened) mid new =
-        subst (λ st. LendsTo fold j v old_run new_run st mid new) opens.opened l in
+        let l2 : LendsTo fold j a old_run new_run (newly opens.node ∷ old.opened) mid new =
+        subst (λ st. LendsTo fold j a old_run new_run st mid new) opens.opened l in
         let put = put_here (newly opens.node) refl new.kept l2.0 in
         let apart : AllByRecursion (λ w. IsNoneBelow f wild w.node) new.opened = subst (AllByRecursion (λ w. IsNoneBelow f wild w.node)) (sym l2.1)
-        (apart-heard (IsNoneBelow f wild) opens.node (Ok v) old.opened h.apart) in
+        (apart-heard (IsNoneBelow f wild) opens.node a old.opened h.apart) in
         let run : IsRun eq f kept wild far (lent ++ lending f j ∷ []) new.kept new.opened = lent-on j old h lt new.kept put new.opened apart in (
           same-run eq fold old_run new_run (old_run.lent.items ++ lending (fold old_run.nodes) j ∷ []) new.kept new.opened l2.2
               (rw is (rw kept_is (rw wild_is (rw far_is (rw lent_is run))))),
@@ -275,7 +275,7 @@ module _ {N V F : Type 0} (eq : N → N → Bool) (laws : IsEquivalence eq) (exa
         )
 
     -- or the memory for that is refused
-    pub fails-on : FailsToLend fold j v old_run new_run mid new
+    pub fails-on : FailsToLend fold j a old_run new_run mid new
         → IsRun eq (fold new_run.nodes) new_run.kept new_run.wild new_run.far new_run.lent.items new.kept new.opened
         × (with_folded eq (first_of (fold new_run.nodes) new_run.kept) new.kept ≡ with_folded eq (first_of f kept) old.kept)
     fails-on l =

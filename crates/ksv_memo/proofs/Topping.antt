@@ -309,28 +309,28 @@ module _ {N V F : Type 0} (ps : List (N × Slot V F)) where
     may-keep = rw (top-opens _ _ h.shut.pops.top) (inr closes-kept)
 
   -- ---- it is kept as that of a number, by the root of nodes that are kept so and its use there
-  module _ {l : Linked} {frames new : Frames N} {f : Frame N} {qs : List (N × Slot V F)} {s : Slot V F} {v : V} {all : Linked} {i : ℕ}
+  module _ {l : Linked} {frames new : Frames N} {f : Frame N} {qs : List (N × Slot V F)} {s : Slot V F} {a : Result V F} {all : Linked} {i : ℕ}
       (w : Fold N (Result V F)) (j : ℕ) (root : node_at ps i ≡ Some w.root)
-      (h : IsShut l frames new f qs s (Ok v) all (i ∷ []) (w.entry j).uses) where
+      (h : IsShut l frames new f qs s a all (i ∷ []) (w.entry j).uses) where
     named : nodes_at ps (i ∷ []) ≡ w.root ∷ []
     named = ap (λ o. with_first o []) root
 
-    put-as : IsPut (entry_as w j v (top_of frames f f.node)) (entries_of ps l) (entries_of qs all)
-    put-as = subst (λ ns. IsPut (record { node = f.node; answer = Ok v; asked = ns; uses = (w.entry j).uses }) (entries_of ps l) (entries_of qs all)) named
+    put-as : IsPut (entry_as w j a (top_of frames f f.node)) (entries_of ps l) (entries_of qs all)
+    put-as = subst (λ ns. IsPut (record { node = f.node; answer = a; asked = ns; uses = (w.entry j).uses }) (entries_of ps l) (entries_of qs all)) named
         (shuts-put h)
 
-    pub closes-as-last : new.frames.items ≡ [] → ClosesAs w j v true (opens_of ps frames) (record { kept = entries_of ps l; opened = opens_of ps frames })
+    pub closes-as-last : new.frames.items ≡ [] → ClosesAs w j a true (opens_of ps frames) (record { kept = entries_of ps l; opened = opens_of ps frames })
         (record { kept = entries_of qs all; opened = opens_of qs new })
     closes-as-last none =
         rw (top-opens _ _ h.pops.top ∙ ap (λ st. top_of frames f f.node ∷ st) (shuts-last h none).0) (put-as, (shuts-last h none).1)
 
     pub closes-as-more : (last : Frames N) → Heard f.slot new last
-        → ClosesAs w j v true (opens_of ps frames) (record { kept = entries_of ps l; opened = opens_of ps frames })
+        → ClosesAs w j a true (opens_of ps frames) (record { kept = entries_of ps l; opened = opens_of ps frames })
         (record { kept = entries_of qs all; opened = opens_of qs last })
     closes-as-more last hears = rw (top-opens _ _ h.pops.top) (put-as, shut-hears h last hears)
 
     pub closes-as-deaf : (last : Frames N) → SameFrames new last
-        → ClosesAs w j v false (opens_of ps frames) (record { kept = entries_of ps l; opened = opens_of ps frames })
+        → ClosesAs w j a false (opens_of ps frames) (record { kept = entries_of ps l; opened = opens_of ps frames })
         (record { kept = entries_of qs all; opened = opens_of qs last })
     closes-as-deaf last same = rw (top-opens _ _ h.pops.top) (put-as, same-opens-in qs new last same ∙ pops-opens h.pops)
 

@@ -1,5 +1,5 @@
 -- Nodes that are kept by numbers alone, beside those that have slots. Only the table's own contracts use it.
-use Rattle.std.specs.Prelude.{◌≡◌, ◌⊎◌, ℕ, ◌<◌, ◌≤◌, Bool, true, false, not, nat_lt, List, [], ◌∷◌, ◌++◌, filter, count_by, Option, Some, None, Result, Ok}
+use Rattle.std.specs.Prelude.{◌≡◌, ◌⊎◌, ℕ, ◌<◌, ◌≤◌, Bool, true, false, not, nat_lt, List, [], ◌∷◌, ◌++◌, filter, count_by, Option, Some, None, Result}
 use Rattle.std.specs.List.{AllByRecursion, list_any}
 use Rattle.ksv_memo_rules.specs.declared.rules.Outcome.TheVariants.{Answered}
 use Rattle.ksv_memo_rules.specs.Entry.{Entry}
@@ -48,14 +48,14 @@ pub record NextOf {N A : Type 0} (f : Fold N A) (kept far j : ℕ) (a : A) (o : 
   pub apart : AllByRecursion (λ w. w.node ≡ o.node → ⊥) st
 
 -- what is kept of an open node that is that of a number
-abbrev pub entry_as : {N V F : Type 0} → Fold N (Result V F) → ℕ → V → Open N (Result V F) → Entry N (Result V F)
-entry_as f j v o = record { node = o.node; answer = Ok v; asked = f.root ∷ []; uses = (f.entry j).uses }
+abbrev pub entry_as : {N A : Type 0} → Fold N A → ℕ → A → Open N A → Entry N A
+entry_as f j a o = record { node = o.node; answer = a; asked = f.root ∷ []; uses = (f.entry j).uses }
 
 -- the last open node was kept as that of a number, and the one below got its answer, if there is one, unless memory was refused for that
-abbrev pub ClosesAs : {N V F : Type 0} → Fold N (Result V F) → ℕ → V → Bool → List (Open N (Result V F)) → Nodes N (Result V F) → Nodes N (Result V F) → Type 0
-ClosesAs f j v is_heard [] old new = ⊥
-ClosesAs f j v true (o ∷ st) old new = IsPut (entry_as f j v o) old.kept new.kept × (new.opened ≡ heard o.node (Ok v) st)
-ClosesAs f j v false (o ∷ st) old new = IsPut (entry_as f j v o) old.kept new.kept × (new.opened ≡ st)
+abbrev pub ClosesAs : {N A : Type 0} → Fold N A → ℕ → A → Bool → List (Open N A) → Nodes N A → Nodes N A → Type 0
+ClosesAs f j a is_heard [] old new = ⊥
+ClosesAs f j a true (o ∷ st) old new = IsPut (entry_as f j a o) old.kept new.kept × (new.opened ≡ heard o.node a st)
+ClosesAs f j a false (o ∷ st) old new = IsPut (entry_as f j a o) old.kept new.kept × (new.opened ≡ st)
 
 -- the last open node was taken out, and the same nodes are kept
 pub record LosesFirst {N A : Type 0} (old new : Nodes N A) : Type 0 where
@@ -152,18 +152,18 @@ module _ {N A S : Type 0} (fold : S → Fold N A) where
   IsLastFree run (o ∷ st) = IsNoneBelow (fold run.nodes) run.far o.node
 
 -- ---- a folded node that is lent
-module _ {N V F S : Type 0} (fold : S → Fold N (Result V F)) (j : ℕ) (v : V) (old_run new_run : Run N S) where
-  abbrev pub LendsTo : List (Open N (Result V F)) → Nodes N (Result V F) → Nodes N (Result V F) → Type 0
+module _ {N A S : Type 0} (fold : S → Fold N A) (j : ℕ) (a : A) (old_run new_run : Run N S) where
+  abbrev pub LendsTo : List (Open N A) → Nodes N A → Nodes N A → Type 0
   LendsTo [] old new = ⊥
-  LendsTo (o ∷ st) old new = IsPut (entry_as (fold old_run.nodes) j v o) old.kept new.kept × (new.opened ≡ heard o.node (Ok v) st)
+  LendsTo (o ∷ st) old new = IsPut (entry_as (fold old_run.nodes) j a o) old.kept new.kept × (new.opened ≡ heard o.node a st)
       × SameRun old_run new_run (old_run.lent.items ++ lending (fold old_run.nodes) j ∷ [])
 
   -- it isn't, or the node below didn't get its answer
-  pub record FailsToLend (old new : Nodes N (Result V F)) : Type 0 where
-    pub first : Open N (Result V F)
+  pub record FailsToLend (old new : Nodes N A) : Type 0 where
+    pub first : Open N A
     pub was : old.opened ≡ first ∷ new.opened
     pub kept : (new.kept ≡ old.kept) × SameRun old_run new_run old_run.lent.items
-        ⊎ IsPut (entry_as (fold old_run.nodes) j v first) old.kept new.kept × SameRun old_run new_run (old_run.lent.items ++ lending (fold old_run.nodes) j ∷ [])
+        ⊎ IsPut (entry_as (fold old_run.nodes) j a first) old.kept new.kept × SameRun old_run new_run (old_run.lent.items ++ lending (fold old_run.nodes) j ∷ [])
 
 -- ---- over a table
 module _ {N A S : Type 0} (eq : N → N → Bool) (fold : S → Fold N A) where

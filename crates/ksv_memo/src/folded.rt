@@ -1,6 +1,6 @@
 //! The table of kept and open nodes, with nodes that are kept by numbers alone.
 ghost use Rattle.std.specs.List.{AllByRecursion};
-ghost use Rattle.std.specs.Prelude.{◌≡◌, ◌<◌, ◌≤◌, ◌+◌, ◌++◌, ◌∷◌, [], Some, None, Ok, length, true, is_ok, nat_lt, IfOk, IfSome, IfNone, OnOk, OnErr};
+ghost use Rattle.std.specs.Prelude.{◌≡◌, ◌<◌, ◌≤◌, ◌+◌, ◌++◌, ◌∷◌, [], Some, None, length, true, nat_lt, IfOk, IfSome, IfNone, OnOk, OnErr};
 ghost use Rattle.ksv_memo_links.specs.Touching.{AreWithin};
 ghost use Rattle.ksv_memo_rules.specs.Meaning.{on};
 ghost use Rattle.ksv_memo_rules.specs.Right.{IsRight, counted};
@@ -38,6 +38,8 @@ pub struct Run<N: Eq + Drop, S> {
     pub lent: Lendings<N>,
     /// An edit has moved the file's end since the nodes were told.
     pub moved: bool,
+    /// An edit has taken some of those that were kept so since.
+    pub has_lost: bool,
 }
 
 /// Whether a change moves the file's end.
@@ -56,6 +58,7 @@ impl<N: Eq + Drop, S> Run<N, S> {
     {
         if kept < self.kept {
             self.kept = kept;
+            self.has_lost = true;
             self.lent.cut(kept);
         }
     }
@@ -98,12 +101,12 @@ fn keep_beside<R: Rules>(
     run: &mut Run<R::Node, R::Fold>,
     alloc: Global,
     place: u32,
-    value: R::Value,
+    answer: Reply<R>,
 ) -> Result<bool, AllocError>
     requires there { is_there table.old.opened ≡ true }
     requires root { KeepsNode R.Node.eq table.old.kept (R.Fold.fold run.old.nodes).root }
     requires place_in { place < (R.Fold.fold run.old.nodes).size }
-    ensures ok { IfOk result (λ is_heard. ClosesAs (R.Fold.fold run.old.nodes) place value is_heard table.old.opened (nodes table.old) (nodes table.new)) }
+    ensures ok { IfOk result (λ is_heard. ClosesAs (R.Fold.fold run.old.nodes) place answer is_heard table.old.opened (nodes table.old) (nodes table.new)) }
     ensures err { OnErr result (LosesFirst (nodes table.old) (nodes table.new)) }
     ensures lent { OnOk result (SameRun run.old run.new (run.old.lent.items ++ lending (R.Fold.fold run.old.nodes) place ∷ [])) }
     ensures same { OnErr result (SameRun run.old run.new run.old.lent.items) }
@@ -116,7 +119,7 @@ fn keep_beside<R: Rules>(
             return Err(refused);
         }
     }
-    match table.close_folded(&run.nodes, place, value) {
+    match table.close_folded(&run.nodes, place, answer) {
         Ok(is_heard) => Ok(is_heard),
         Err(refused) => {
             run.lent.drop_last();
@@ -132,16 +135,16 @@ fn lend<R: Rules>(
     run: &mut Run<R::Node, R::Fold>,
     alloc: Global,
     place: u32,
-    value: R::Value,
+    answer: Reply<R>,
 ) -> Result<(), AllocError>
     requires there { is_there table.old.opened ≡ true }
     requires root { KeepsNode R.Node.eq table.old.kept (R.Fold.fold run.old.nodes).root }
     requires place_in { place < (R.Fold.fold run.old.nodes).size }
-    ensures ok { OnOk result (LendsTo R.Fold.fold place value run.old run.new table.old.opened (nodes table.old) (nodes table.new)) }
-    ensures err { OnErr result (FailsToLend R.Fold.fold place value run.old run.new (nodes table.old) (nodes table.new)) }
+    ensures ok { OnOk result (LendsTo R.Fold.fold place answer run.old run.new table.old.opened (nodes table.old) (nodes table.new)) }
+    ensures err { OnErr result (FailsToLend R.Fold.fold place answer run.old run.new (nodes table.old) (nodes table.new)) }
     ensures grows { table.old.looks ≤ table.new.looks }
 {
-    if keep_beside(table, run, alloc, place, value)? {
+    if keep_beside(table, run, alloc, place, answer)? {
         Ok(())
     } else {
         Err(AllocError)
@@ -166,8 +169,8 @@ fn absorb<R: Rules>(
     ensures err { OnErr result (MayPut ((R.Fold.fold run.old.nodes).entry place) (viewed R.Node.eq R.Fold.fold (Some run.old) table.old).kept (viewed R.Node.eq R.Fold.fold (Some run.new) table.new).kept) }
     ensures grows { table.old.looks ≤ table.new.looks }
 {
-    let value = run.nodes.answer(alloc, place)?;
-    let is_heard = keep_beside(table, run, alloc, place, value)?;
+    let answer = run.nodes.answer(alloc, place)?;
+    let is_heard = keep_beside(table, run, alloc, place, answer)?;
     run.kept = place + 1;
     run.wild = table.least_open(&run.nodes, run.far).max(run.kept);
     if is_heard { Ok(()) } else { Err(AllocError) }
@@ -193,10 +196,10 @@ fn ask_folded<R: Rules>(
     if table.holds(&node) {
         return table.ask(node);
     }
-    let value = run.nodes.answer(alloc, place)?;
+    let answer = run.nodes.answer(alloc, place)?;
     match table.ask(node) {
         Ok(None) => {
-            lend(table, run, alloc, place, value)?;
+            lend(table, run, alloc, place, answer)?;
             Ok(None)
         }
         other => other,
@@ -240,8 +243,8 @@ fn start_beside<R: Rules>(
 {
     match covered::<R>(run, &node) {
         Some(place) => {
-            let value = run.nodes.answer(alloc, place)?;
-            Ok(Some(Outcome::Answered(Ok(value))))
+            let answer = run.nodes.answer(alloc, place)?;
+            Ok(Some(Outcome::Answered(answer)))
         }
         None => table.start(alloc, rules, node),
     }
@@ -281,8 +284,14 @@ fn grow_run<R: Rules>(
     run.kept = now;
 }
 
-/// The nodes are told anew over these bytes. Those that are kept by numbers alone stay as they are, and no more are kept so until `widen` has looked.
-fn retell<R: Rules>(table: &mut Table<R>, run: &mut Run<R::Node, R::Fold>, bytes: &Buffer)
+/// The nodes are told anew over these bytes, before a question for a node. Those that are kept by numbers alone stay as they are, and no more are kept so until
+/// `widen` has looked.
+fn retell<R: Rules>(
+    table: &mut Table<R>,
+    run: &mut Run<R::Node, R::Fold>,
+    bytes: &Buffer,
+    asked: &R::Node,
+)
     requires opened { table.old.opened ≡ [] }
     requires run { IsFolding R.Node.eq R.Fold.fold (Some run.old) (nodes table.old) }
     ensures run { IsFolding R.Node.eq R.Fold.fold (Some run.new) (nodes table.new) }
@@ -290,7 +299,7 @@ fn retell<R: Rules>(table: &mut Table<R>, run: &mut Run<R::Node, R::Fold>, bytes
     ensures opened { table.new.opened ≡ [] }
     ensures grows { table.old.looks ≤ table.new.looks }
 {
-    table.retell(&mut run.nodes, bytes, run.kept);
+    table.retell(&mut run.nodes, bytes, run.kept, asked);
     run.wild = run.kept;
     run.far = run.kept;
 }
@@ -343,8 +352,30 @@ fn widen<R: Rules>(
     Ok(())
 }
 
-/// More nodes are kept by numbers alone, if evaluation of a node completes them, for which a question is about to start. Their calls are counted. Where an edit
-/// has moved the file's end since the nodes were told, they are told anew first. No node is open.
+/// Whether the nodes are to be told anew before a question for a node: an edit has moved the file's end, or has taken some of those that were kept by numbers
+/// alone and they aren't as they were told, up to that node. If it is none of them, no more is known.
+fn is_outdated<R: Rules>(
+    table: &mut Table<R>,
+    run: &Run<R::Node, R::Fold>,
+    rules: &R,
+    bytes: &Buffer,
+    node: &R::Node,
+) -> bool
+    ensures nodes { nodes table.new ≡ nodes table.old }
+    ensures grows { table.old.looks ≤ table.new.looks }
+{
+    if run.moved || !run.has_lost {
+        return run.moved;
+    }
+    match run.nodes.place(node) {
+        Some(place) if place < run.kept => false,
+        Some(place) => table.foldable(rules, &run.nodes, bytes, run.kept, place) <= place,
+        None => true,
+    }
+}
+
+/// More nodes are kept by numbers alone, if evaluation of a node completes them, for which a question is about to start. Their calls are counted. Where they
+/// may be others since an edit, they are told anew first (`is_outdated`). No node is open.
 #[inline(never)]
 fn grow_anew<R: Rules>(
     table: &mut Table<R>,
@@ -362,9 +393,10 @@ fn grow_anew<R: Rules>(
     ensures grown { Grows (on (R.meaning rules.now) bytes.now) node.now (viewed R.Node.eq R.Fold.fold (Some run.old) table.old) (viewed R.Node.eq R.Fold.fold (Some run.new) table.new) turns.old turns.new }
     ensures grows { table.old.looks ≤ table.new.looks }
 {
-    if run.moved {
-        retell(table, run, bytes);
+    if is_outdated(table, run, rules, bytes, node) {
+        retell(table, run, bytes, node);
         run.moved = widen(table, run, alloc, rules, bytes).is_err();
+        run.has_lost = false;
     }
     run.wild = run.far;
     grow_run(table, run, rules, bytes, node, turns);
@@ -409,7 +441,6 @@ fn next_open<R: Rules>(
     ensures nodes { nodes table.new ≡ nodes table.old }
     ensures some { IfSome result (λ place. IsNext R.Fold.fold run.new place answer.now table.old.opened) }
     ensures right { IfSome result (λ place. IsRight (on (R.meaning rules.now) bytes.now) ((viewed R.Node.eq R.Fold.fold (Some run.old) table.old).kept ++ (R.Fold.fold run.new.nodes).entry place ∷ [])) }
-    ensures value { IfSome result (λ place. is_ok answer.now ≡ true) }
     ensures none { IfNone result (IsLastFree R.Fold.fold run.new table.old.opened) }
     ensures grows { table.old.looks ≤ table.new.looks }
 {
@@ -419,7 +450,7 @@ fn next_open<R: Rules>(
     }
     let place = table.last_place(&run.nodes)?;
     let count = table.foldable(rules, &run.nodes, bytes, run.kept, place);
-    if answer.is_ok() && place == run.kept && place < count {
+    if place == run.kept && place < count {
         return Some(place);
     }
     run.far = run.far.min(place);
@@ -498,6 +529,7 @@ fn founded<R: Rules>(
         far: count,
         lent: Lendings::new(alloc),
         moved: false,
+        has_lost: false,
     }))
 }
 

@@ -41,17 +41,22 @@ impl<N> Frame<N> {
         self.node.place_in(nodes)
     }
 
-    /// The nodes that can be kept by numbers alone once its node has this value over these bytes.
+    /// The nodes that can be kept by numbers alone once its node has this value over these bytes, where the node of this one asked for it.
     pub(crate) fn fold<R: Rules<Node = N>>(
         &self,
         rules: &R,
         alloc: Global,
         value: &R::Value,
         bytes: &Buffer,
+        asker: Option<&Frame<N>>,
     ) -> Result<Option<R::Fold>, AllocError>
         ensures { IfOk result (λ found. IfSome found (λ nodes. (R.Fold.fold nodes).root ≡ self.now.node)) }
     {
-        self.node.fold(rules, alloc, value, bytes)
+        let asker = match asker {
+            Some(frame) => Some(&frame.node),
+            None => None,
+        };
+        self.node.fold(rules, alloc, value, bytes, asker)
     }
 }
 
@@ -145,6 +150,11 @@ pub(crate) fn last_frame<N>(frames: &[Frame<N>]) -> Option<&Frame<N>>
     ensures none { IfNone result (frames.now ≡ []) }
 {
     frames.last()
+}
+
+/// The frame of the node that asked for the last open one, if there is one. Nothing is told of it, as no answer rests on it.
+pub(crate) fn frame_below<N>(frames: &[Frame<N>]) -> Option<&Frame<N>> {
+    frames.get(frames.len().checked_sub(2)?)
 }
 
 impl<N: Drop> Frames<N> {

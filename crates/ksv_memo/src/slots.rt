@@ -287,19 +287,20 @@ pub(crate) fn foldable_at<R: Rules>(
     }
 }
 
-/// Tells nodes anew over these bytes, whose root has its answer in the slot of a number. So many of the first stay as they are.
+/// Tells nodes anew over these bytes, whose root has its answer in the slot of a number. So many of the first stay as they are. A node is asked next.
 pub(crate) fn retell_at<R: Rules>(
     slots: &Slots<R::Node, R::Places, R::Value, R::Fault>,
     place: usize,
     nodes: &mut R::Fold,
     bytes: &Buffer,
     kept: u32,
+    asked: &R::Node,
 )
     requires { kept ≤ (R.Fold.fold nodes.old).size }
     ensures { BeginsAs (R.Fold.fold nodes.old) (R.Fold.fold nodes.new) kept }
 {
     match answer_at(slots.lend(), place) {
-        Some(Ok(value)) => nodes.retell(value, bytes, kept),
+        Some(Ok(value)) => nodes.retell(value, bytes, kept, asked),
         _ => {}
     }
 }

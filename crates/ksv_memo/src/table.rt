@@ -17,7 +17,7 @@ ghost use Rattle.ksv_memo.specs.Lending.{AreTwo, is_lent_from};
 ghost use Rattle.ksv_memo.specs.Sweep.{Sweeps, SweepsBy};
 ghost use Rattle.ksv_memo.specs.Emptying.{IsEmptied};
 
-use crate::frames::{Frames, last_frame, least_place, number, open_new, reopen};
+use crate::frames::{Frames, frame_below, last_frame, least_place, number, open_new, reopen};
 use crate::lendings::Lendings;
 use crate::machine::turns::Turns;
 use crate::slots::{Known, Slots, call, foldable_at, outcome_at, retell_at};
@@ -335,12 +335,12 @@ impl<R: Rules> Table<R> {
         &mut self,
         folded: &R::Fold,
         place: u32,
-        value: R::Value,
+        answer: Reply<R>,
     ) -> Result<bool, AllocError>
         requires there { is_there self.old.opened ≡ true }
         requires root { KeepsNode R.Node.eq self.old.kept (R.Fold.fold folded.now).root }
         requires place_in { place < (R.Fold.fold folded.now).size }
-        ensures ok { IfOk result (λ is_heard. ClosesAs (R.Fold.fold folded.now) place value is_heard self.old.opened (nodes self.old) (nodes self.new)) }
+        ensures ok { IfOk result (λ is_heard. ClosesAs (R.Fold.fold folded.now) place answer is_heard self.old.opened (nodes self.old) (nodes self.new)) }
         ensures err { OnErr result (LosesFirst (nodes self.old) (nodes self.new)) }
         ensures grows { self.old.looks ≤ self.new.looks }
     {
@@ -360,7 +360,7 @@ impl<R: Rules> Table<R> {
                 return Err(refused);
             }
         }
-        self.slots.set(slot, Slot::Value(value));
+        self.slots.set(slot, slot_of(answer));
         self.frames.take_last();
         if self.frames.frames.as_slice().is_empty() {
             return Ok(true);
@@ -406,20 +406,26 @@ impl<R: Rules> Table<R> {
         }
     }
 
-    /// Tells nodes that can be kept by numbers alone anew over these bytes, if their root is kept. So many of the first stay as they are.
-    pub(crate) fn retell(&mut self, folded: &mut R::Fold, bytes: &Buffer, kept: u32)
+    /// Tells nodes that can be kept by numbers alone anew over these bytes, if their root is kept. So many of the first stay as they are. A node is asked next.
+    pub(crate) fn retell(
+        &mut self,
+        folded: &mut R::Fold,
+        bytes: &Buffer,
+        kept: u32,
+        asked: &R::Node,
+    )
         requires { kept ≤ (R.Fold.fold folded.old).size }
         ensures begins { BeginsAs (R.Fold.fold folded.old) (R.Fold.fold folded.new) kept }
         ensures nodes { nodes self.new ≡ nodes self.old }
         ensures grows { self.old.looks ≤ self.new.looks }
     {
         match self.slots.find(folded.root()) {
-            Known::Kept(place) => retell_at::<R>(&self.slots, place, folded, bytes, kept),
+            Known::Kept(place) => retell_at::<R>(&self.slots, place, folded, bytes, kept, asked),
             _ => {}
         }
     }
 
-    /// The nodes that can be kept by numbers alone once the last open node has this value over these bytes.
+    /// The nodes that can be kept by numbers alone once the last open node, which the one below asked for, has this value over these bytes.
     pub(crate) fn fold(
         &self,
         alloc: Global,
@@ -429,8 +435,9 @@ impl<R: Rules> Table<R> {
     ) -> Result<Option<R::Fold>, AllocError>
         ensures { IfOk result (λ found. IfSome found (λ nodes. IsFirst (R.Fold.fold nodes).root self.now.opened)) }
     {
-        match last_frame(self.frames.frames.as_slice()) {
-            Some(frame) => frame.fold(rules, alloc, value, bytes),
+        let frames = self.frames.frames.as_slice();
+        match last_frame(frames) {
+            Some(frame) => frame.fold(rules, alloc, value, bytes, frame_below(frames)),
             None => Ok(None),
         }
     }

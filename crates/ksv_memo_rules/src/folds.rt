@@ -1,5 +1,5 @@
 //! Nodes that an engine can keep by numbers alone.
-ghost use Rattle.std.specs.Prelude.{◌≡◌, ℕ, ◌-◌, ◌<◌, ◌≤◌, Ok, IfOk, IfSome, IfNone, Result};
+ghost use Rattle.std.specs.Prelude.{◌≡◌, ℕ, ◌-◌, ◌<◌, ◌≤◌, IfOk, IfSome, IfNone, Result};
 ghost use Rattle.ksv_memo_rules.specs.Folds.{BeginsAs, Fold, IsLaid, Leaves, calls_from, used_of};
 
 use ksv_bytes::{Buffer, Change, Use};
@@ -32,10 +32,10 @@ pub trait Folds<N, V, F> {
         requires { 0 < (fold self.now).size → place < (fold self.now).size }
         ensures { IfOk result (λ node. ((fold self.now).entry place).node ≡ node) };
 
-    /// The answer of the node of a number. Where there are no nodes, any number will do.
-    fn answer(&self, alloc: Global, place: u32) -> Result<V, AllocError>
+    /// The answer of the node of a number, a value or a fault. Where there are no nodes, any number will do.
+    fn answer(&self, alloc: Global, place: u32) -> Result<Result<V, F>, AllocError>
         requires { 0 < (fold self.now).size → place < (fold self.now).size }
-        ensures { IfOk result (λ value. ((fold self.now).entry place).answer ≡ Ok value) };
+        ensures { IfOk result (λ answer. ((fold self.now).entry place).answer ≡ answer) };
 
     /// The use by which an edit takes the node of a number, if there is one, unless it takes what its entry names. Where there are no nodes, any number will do.
     fn used(&self, place: u32) -> Option<Use>
@@ -58,8 +58,9 @@ pub trait Folds<N, V, F> {
         requires in_size { to ≤ (fold self.now).size }
         ensures { result ≡ calls_from (fold self.now).calls from (to - from) };
 
-    /// Tells the nodes anew over these bytes, where the root has this value: there may be more of them, or fewer. So many of the first stay as they are.
-    fn retell(&mut self, value: &V, bytes: &Buffer, kept: u32)
+    /// Tells the nodes anew over these bytes, where the root has this value: there may be more of them, or fewer. So many of the first stay as they are. Which
+    /// others there are may depend on the node that is asked next.
+    fn retell(&mut self, value: &V, bytes: &Buffer, kept: u32, asked: &N)
         requires { kept ≤ (fold self.old).size }
         ensures { BeginsAs (fold self.old) (fold self.new) kept };
 }
@@ -91,7 +92,7 @@ impl<N, V, F> Folds<N, V, F> for NoFold<N, V> {
         Err(AllocError)
     }
 
-    fn answer(&self, _alloc: Global, _place: u32) -> Result<V, AllocError> {
+    fn answer(&self, _alloc: Global, _place: u32) -> Result<Result<V, F>, AllocError> {
         Err(AllocError)
     }
 
@@ -111,5 +112,5 @@ impl<N, V, F> Folds<N, V, F> for NoFold<N, V> {
         0
     }
 
-    fn retell(&mut self, _value: &V, _bytes: &Buffer, _kept: u32) {}
+    fn retell(&mut self, _value: &V, _bytes: &Buffer, _kept: u32, _asked: &N) {}
 }

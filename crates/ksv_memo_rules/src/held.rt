@@ -45,17 +45,22 @@ impl<N> Held<N> {
         nodes.place(&self.node)
     }
 
-    /// The nodes that can be kept by numbers alone once the node has this value over these bytes.
+    /// The nodes that can be kept by numbers alone once the node has this value over these bytes, where this one asked for it.
     pub fn fold<R: Rules<Node = N>>(
         &self,
         rules: &R,
         alloc: Global,
         value: &R::Value,
         bytes: &Buffer,
+        asker: Option<&Held<N>>,
     ) -> Result<Option<R::Fold>, AllocError>
         ensures { IfOk result (λ found. IfSome found (λ nodes. (R.Fold.fold nodes).root ≡ self.now)) }
     {
-        rules.fold(alloc, &self.node, value, bytes)
+        let asker = match asker {
+            Some(held) => Some(&held.node),
+            None => None,
+        };
+        rules.fold(alloc, &self.node, value, bytes, asker)
     }
 }
 

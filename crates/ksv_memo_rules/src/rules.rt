@@ -86,13 +86,15 @@ pub trait Rules {
     /// changes no answer.
     fn may_fold(&self, value: &Self::Value) -> bool;
 
-    /// The nodes that can be kept by numbers alone once this one has this value over these bytes, if there are such.
+    /// The nodes that can be kept by numbers alone once this one has this value over these bytes, if there are such. Which there are may depend on the node that
+    /// asked for it.
     fn fold(
         &self,
         alloc: Global,
         root: &Self::Node,
         value: &Self::Value,
         bytes: &Buffer,
+        asker: Option<&Self::Node>,
     ) -> Result<Option<Self::Fold>, AllocError>
         ensures { IfOk result (λ found. IfSome found (λ nodes. (Self.Fold.fold nodes).root ≡ root.now)) };
 

@@ -32,13 +32,15 @@ pub trait NodeRules {
     fn rule(turn: &mut Turn, desc: &Desc, node: &Node) -> Result<Given, Halt>
         ensures { Runs (rule_of (plain_pieces desc.now) node.now) (λ given. given) turn.old turn.new result };
 
-    /// The nodes that can be kept by numbers alone once this one has this answer over these bytes, if there are such.
+    /// The nodes that can be kept by numbers alone once this one has this answer over these bytes, if there are such. Which there are may depend on the node
+    /// that asked for it.
     fn fold(
         alloc: Global,
         desc: &Desc,
         root: &Node,
         given: &Given,
         bytes: &Buffer,
+        asker: Option<&Node>,
     ) -> Result<Option<Self::Fold>, AllocError>
         ensures { IfOk result (λ found. IfSome found (λ nodes. (Self.Fold.fold nodes).root ≡ root.now)) };
 
@@ -160,8 +162,9 @@ impl<N: NodeRules> Rules for Described<N> {
         root: &Node,
         value: &Given,
         bytes: &Buffer,
+        asker: Option<&Node>,
     ) -> Result<Option<N::Fold>, AllocError> {
-        N::fold(alloc, &self.desc, root, value, bytes)
+        N::fold(alloc, &self.desc, root, value, bytes, asker)
     }
 
     fn foldable(

@@ -65,8 +65,9 @@ impl NodeRules for DescriptionRules {
         root: &Node,
         given: &Given,
         bytes: &Buffer,
+        asker: Option<&Node>,
     ) -> Result<Option<PlainList>, AllocError> {
-        PlainList::of(alloc, desc, root, given, bytes)
+        PlainList::of(alloc, desc, root, given, bytes, asker)
     }
 
     fn foldable(

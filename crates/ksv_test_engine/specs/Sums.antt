@@ -16,38 +16,45 @@ use Rattle.ksv_test_engine.specs.Rows.{Reply, read_uses, read_same, read_can}
 use Rattle.ksv_test_engine.specs.declared.samples.link.Link.{Link}
 use Rattle.ksv_test_engine.specs.declared.samples.sum_list.SumList.{SumList}
 
+-- a sum with the next byte, which is missing where it is 255
+abbrev pub summed : ℕ → ℕ → Reply
+summed sum b = if b == 255 then Err (record {}) else Ok (min (sum + b) (2 ^ 32 - 1))
+
 -- a sum with the byte behind what it is of
 abbrev pub with_byte : ℕ → Option ℕ → Reply
 with_byte sum None = Err (record {})
-with_byte sum (Some b) = Ok (min (sum + b) (2 ^ 32 - 1))
+with_byte sum (Some b) = summed sum b
+
+-- the sum that an answer is, or 0 where a byte is missing
+abbrev pub so_far : Reply → ℕ
+so_far (Ok sum) = sum
+so_far (Err e) = 0
 
 -- what a link answers, if the one before it answers this
 abbrev pub added_to : Option ℕ → Reply → Reply
-added_to byte (Ok sum) = with_byte sum byte
-added_to byte (Err e) = Err e
+added_to byte reply = with_byte (so_far reply) byte
 
 -- what a link does next: without replies link 0 answers 0, and each other link asks the one before it
-abbrev pub summed : Link → Option ℕ → List Reply → Next Link Reply
-summed link byte [] = if link.number == 0 then Done (Ok 0) else Need (link_before link)
-summed link byte (reply ∷ replies) = Done (added_to byte reply)
+abbrev pub next_of : Link → Option ℕ → List Reply → Next Link Reply
+next_of link byte [] = if link.number == 0 then Done (Ok 0) else Need (link_before link)
+next_of link byte (reply ∷ replies) = Done (added_to byte reply)
 
--- the byte is read once there is a sum before it
+-- the byte is read once there is an answer before it
 abbrev pub sum_uses : ℕ → Option ℕ → List Reply → List Use
 sum_uses place byte [] = []
-sum_uses place byte (Ok sum ∷ replies) = read_uses place byte
-sum_uses place byte (Err e ∷ replies) = []
+sum_uses place byte (reply ∷ replies) = read_uses place byte
 
 -- what the sums mean
 abbrev pub sums_meaning : Meaning Link Reply
 sums_meaning = record {
-  follow = λ bytes link replies. summed link (slice_get bytes (link.number - 1)) replies;
+  follow = λ bytes link replies. next_of link (slice_get bytes (link.number - 1)) replies;
   added = λ bytes link replies. sum_uses (link.number - 1) (slice_get bytes (link.number - 1)) replies;
   number = λ link. link.number;
   nodes = 2 ^ 32;
   replies = 1;
 }
 
--- what a link answers: the sum of so many bytes, if they are there
+-- what a link answers: the sum of so many bytes from the last that is missing on
 abbrev pub sum_of : List ℕ → ℕ → Reply
 sum_of bytes zero = Ok 0
 sum_of bytes (suc n) = added_to (slice_get bytes n) (sum_of bytes n)
@@ -74,44 +81,41 @@ asked_at root zero = root
 asked_at root (suc j) = link_at j
 
 abbrev pub entry_of : SumList → ℕ → Entry Link Reply
-entry_of s j = record { node = link_at j; answer = Ok (get_or s.sums.items j 0); asked = asked_at s.root j ∷ []; uses = Bytes j (number_at j) ∷ [] }
+entry_of s j = record { node = link_at j; answer = get_or s.sums.items j (Ok 0); asked = asked_at s.root j ∷ []; uses = Bytes j (number_at j) ∷ [] }
 
 abbrev pub fold_of : SumList → Fold Link Reply
 fold_of s = record { root = s.root; size = length s.sums.items; entry = entry_of s; prior = prior_of; whole = number_at; calls = λ j. 2 }
 
--- so many of the first sums are those of these bytes
-abbrev pub AreSums : List ℕ → List ℕ → ℕ → Type 0
-AreSums bytes sums count = (j : ℕ) → j < count → sum_of bytes (suc j) ≡ Ok (get_or sums j 0)
+-- so many of the first answers are those of these bytes
+abbrev pub AreSums : List ℕ → List Reply → ℕ → Type 0
+AreSums bytes sums count = (j : ℕ) → j < count → sum_of bytes (suc j) ≡ get_or sums j (Ok 0)
 
 -- the sum before one of a number
-abbrev pub sum_before : List ℕ → ℕ → ℕ
+abbrev pub sum_before : List Reply → ℕ → ℕ
 sum_before sums zero = 0
-sum_before sums (suc j) = get_or sums j 0
+sum_before sums (suc j) = so_far (get_or sums j (Ok 0))
 
 -- ---- the laws
-summed_done : (link : Link) (byte : Option ℕ) (replies : List Reply) → 1 ≤ length replies → IsDone (summed link byte replies)
+summed_done : (link : Link) (byte : Option ℕ) (replies : List Reply) → 1 ≤ length replies → IsDone (next_of link byte replies)
 summed_done link byte [] le = absurd (omega arith)
 summed_done link byte (reply ∷ replies) le = tt
 
 step_same : (bytes others : List ℕ) (link : Link) (place : ℕ) (replies : List Reply)
     → AllByRecursion (AgreeOn bytes others) (sum_uses place (slice_get bytes place) replies)
-    → summed link (slice_get others place) replies ≡ summed link (slice_get bytes place) replies
+    → next_of link (slice_get others place) replies ≡ next_of link (slice_get bytes place) replies
 step_same bytes others link place [] agree = refl
-step_same bytes others link place (Ok sum ∷ replies) agree =
-    ap (λ byte. Done (with_byte sum byte)) (read_same bytes others place (slice_get bytes place) refl agree)
-step_same bytes others link place (Err e ∷ replies) agree = refl
+step_same bytes others link place (reply ∷ replies) agree =
+    ap (λ byte. Done (with_byte (so_far reply) byte)) (read_same bytes others place (slice_get bytes place) refl agree)
 
 uses_same : (bytes others : List ℕ) (place : ℕ) (replies : List Reply)
     → AllByRecursion (AgreeOn bytes others) (sum_uses place (slice_get bytes place) replies)
     → sum_uses place (slice_get others place) replies ≡ sum_uses place (slice_get bytes place) replies
 uses_same bytes others place [] agree = refl
-uses_same bytes others place (Ok sum ∷ replies) agree = ap (read_uses place) (read_same bytes others place (slice_get bytes place) refl agree)
-uses_same bytes others place (Err e ∷ replies) agree = refl
+uses_same bytes others place (reply ∷ replies) agree = ap (read_uses place) (read_same bytes others place (slice_get bytes place) refl agree)
 
 uses_can : (bytes : List ℕ) (place : ℕ) (replies : List Reply) → AllByRecursion (CanUse bytes) (sum_uses place (slice_get bytes place) replies)
 uses_can bytes place [] = tt
-uses_can bytes place (Ok sum ∷ replies) = read_can bytes place (slice_get bytes place) refl
-uses_can bytes place (Err e ∷ replies) = tt
+uses_can bytes place (reply ∷ replies) = read_can bytes place (slice_get bytes place) refl
 
 pub sums_lawful : IsLawful sums_meaning
 sums_lawful = record {

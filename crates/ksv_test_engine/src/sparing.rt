@@ -133,6 +133,7 @@ impl Rules for Leaves {
         _root: &Link,
         _value: &u32,
         _bytes: &Buffer,
+        _asker: Option<&Link>,
     ) -> Result<Option<NoFold<Link, u32>>, AllocError> {
         Ok(None)
     }

@@ -71,13 +71,17 @@ fn ask_of<R: Rules<Node = Link, Value = u32, Fault = Missing>>(
     })
 }
 
-/// A sum and some bytes.
-fn total(sum: u32, bytes: &[u8]) -> u32 {
-    let mut so_far = sum;
+/// The sum of some bytes, after such a one; 255 is missing, and the next sum begins anew.
+fn total(before: Heard, bytes: &[u8]) -> Heard {
+    let mut heard = before;
     for byte in bytes {
-        so_far = so_far.saturating_add(u32::from(*byte));
+        heard = match (heard, *byte) {
+            (_, 255) => Heard::Missing,
+            (Heard::Sum(sum), byte) => Heard::Sum(sum.saturating_add(u32::from(byte))),
+            (_, byte) => Heard::Sum(u32::from(byte)),
+        };
     }
-    so_far
+    heard
 }
 
 /// What a link answers by a pass over the bytes.
@@ -87,7 +91,7 @@ fn plainly(bytes: &Buffer, number: u32) -> Heard {
         return Heard::Missing;
     }
     let (front, back) = bytes.parts(Window { from: 0, to });
-    Heard::Sum(total(total(0, front), back))
+    total(total(Heard::Sum(0), front), back)
 }
 
 /// Whether both engines tell the same of a link, and its sum is that of the bytes.
@@ -184,8 +188,8 @@ static STEPS: [Step; 9] = [
     (How::Overwrite, 1_199, b"\x01", (2, false), (1_000, Some(1_000), 1_001, 1_998)),
     // It takes links 501 to 1,000: no link asked one of them of the engine, and the question was for the last.
     (How::Overwrite, 500, b"\x03", (501, true), (1_000, Some(1_002), 1_001, 1_000)),
-    // What is known by numbers of the links behind the overwritten byte isn't so any more: these got slots.
-    (How::Insert, 100, b"\x05", (101, false), (1_000, Some(1_006), 1_001, 1_800)),
+    // The links behind the overwritten byte were told anew, and got no slots.
+    (How::Insert, 100, b"\x05", (101, true), (1_000, Some(1_006), 1_001, 1_800)),
     (How::Delete, 300, b"\x01\x01\x01", (301, true), (1_000, Some(1_006), 1_001, 1_400)),
     // No link that is kept uses the size, or reads behind the end.
     (How::Append, 0, b"\x09", (1_001, false), (1_199, Some(1_213), 1_200, 398)),
@@ -193,6 +197,20 @@ static STEPS: [Step; 9] = [
     // Link 1,201 does, for which there was no byte.
     (How::Append, 0, b"\x04", (1_201, false), (1_201, Some(1_219), 1_202, 2)),
     (How::Overwrite, 0, b"\0", (1, false), (1_201, Some(1_218), 1_202, 2_402)),
+];
+
+/// Edits of such a file but that its bytes at places 499 and 1,199 are 255.
+#[rattlefmt::skip]
+static FAULTS: [Step; 7] = [
+    // Link 500 is open before the root has its answer, and is kept by its number too, as those behind it.
+    (How::Overwrite, 600, b"\x01", (0, false), (1_000, Some(500), 1_001, 2_001)),
+    (How::Overwrite, 600, b"\x01", (601, false), (1_000, Some(500), 1_001, 800)),
+    (How::Overwrite, 600, b"\x01", (601, true), (1_000, Some(500), 1_001, 800)),
+    (How::Overwrite, 450, b"\x01", (451, false), (500, None, 501, 100)),
+    // The last link is kept by its number alone, and asked by the one behind the end.
+    (How::Overwrite, 1_199, b"\xff", (501, false), (1_201, None, 1_202, 1_402)),
+    (How::Append, 0, b"\x05", (1_201, false), (1_201, Some(5), 1_202, 2)),
+    (How::Overwrite, 1_199, b"\x06", (1_200, false), (1_201, Some(710), 1_202, 4)),
 ];
 
 /// Whether an edit took links without slots with a look each, where they had none, and where they have slots with more.
@@ -240,11 +258,12 @@ fn unlike(
     first: &mut Engine<Sums>,
     second: &mut Engine<SlottedSums>,
     bytes: &mut Buffer,
+    steps: &[Step],
 ) -> Result<Option<usize>, AllocError>
     requires first { IsRight (on sums_meaning bytes.old) first.old.kept }
     requires second { IsRight (on sums_meaning bytes.old) second.old.kept }
 {
-    for (number, step) in STEPS.iter().enumerate() {
+    for (number, step) in steps.iter().enumerate() {
         if !is_as_worked(first, second, bytes, step)? {
             return Ok(Some(number));
         }
@@ -253,27 +272,59 @@ fn unlike(
 }
 
 /// The same of new engines.
-fn unlike_anew(alloc: Global, bytes: &mut Buffer) -> Result<Option<usize>, AllocError> {
+fn unlike_anew(
+    alloc: Global,
+    bytes: &mut Buffer,
+    steps: &[Step],
+) -> Result<Option<usize>, AllocError> {
     let mut first = new_engine(alloc, &Sums, bytes);
     let mut second = new_engine(alloc, &SlottedSums, bytes);
-    let unlike = unlike(&mut first, &mut second, bytes);
+    let unlike = unlike(&mut first, &mut second, bytes, steps);
     drop(first);
     drop(second);
     unlike
 }
 
+/// The same of a file of 1,200 bytes of 1, of which those at these places are 255.
+fn unlike_of_ones(alloc: Global, missing: &[usize], steps: &[Step]) -> Result<Option<usize>, Fail> {
+    let mut file = vec![in alloc; 1u8; 1_200]?;
+    for place in missing {
+        if let Some(byte) = file.get_mut(*place) {
+            *byte = 255;
+        }
+    }
+    let mut bytes = Buffer::new(file)?;
+    let unlike = unlike_anew(alloc, &mut bytes, steps);
+    drop(bytes);
+    Ok(unlike?)
+}
+
 #[test]
 fn edits_take_links_without_slots_as_worked(rt: HostRuntime) -> Result<(), Fail> {
-    let mut bytes = Buffer::new(vec![in rt.alloc(); 1u8; 1_200]?)?;
-    let unlike = unlike_anew(rt.alloc(), &mut bytes)?;
-    drop(bytes);
-    if let Some(number) = unlike {
+    if let Some(number) = unlike_of_ones(rt.alloc(), &[], &STEPS)? {
+        assert!(rt; false, "step {number}");
+    }
+    Ok(())
+}
+
+#[test]
+fn links_whose_byte_is_missing_are_kept_by_their_numbers_too(rt: HostRuntime) -> Result<(), Fail> {
+    if let Some(number) = unlike_of_ones(rt.alloc(), &[499, 1_199], &FAULTS)? {
         assert!(rt; false, "step {number}");
     }
     Ok(())
 }
 
 // ---- random questions
+
+/// 0 or 1, or one in sixteen times 255.
+fn random_byte(random: &mut Random) -> u8 {
+    if random.below(16) == 0 {
+        255
+    } else {
+        random.below(2)
+    }
+}
 
 /// The place of an edit: one in four times among the first hundred bytes.
 fn random_place(bytes: &Buffer, random: &mut Random) -> usize {
@@ -305,7 +356,11 @@ fn random_edit(
     ensures first { IsRight (on sums_meaning bytes.new) first.new.kept }
     ensures second { IsRight (on sums_meaning bytes.new) second.new.kept }
 {
-    let new = [random.below(2), random.below(2), random.below(2)];
+    let new = [
+        random_byte(random),
+        random_byte(random),
+        random_byte(random),
+    ];
     let count = random.below(3) as usize + 1;
     let edit = Edit {
         how: random_how(random),
@@ -366,11 +421,11 @@ fn watch_anew(alloc: Global, bytes: &mut Buffer, random: &mut Random) -> Result<
     seen
 }
 
-/// A file of 1,400 to 1,599 bytes, which are 0 or 1.
+/// A file of 1,400 to 1,599 bytes.
 fn random_file(alloc: Global, random: &mut Random) -> Result<Vec<u8>, AllocError> {
     let mut bytes = Vec::new(alloc);
     for _ in 0..1_400 + random.place(200) {
-        bytes.push(random.below(2))?;
+        bytes.push(random_byte(random))?;
     }
     Ok(bytes)
 }

@@ -90,6 +90,7 @@ impl Rules for Tower {
         _root: &Link,
         _value: &u32,
         _bytes: &Buffer,
+        _asker: Option<&Link>,
     ) -> Result<Option<NoFold<Link, u32>>, AllocError> {
         Ok(None)
     }

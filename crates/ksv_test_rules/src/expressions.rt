@@ -3,8 +3,10 @@
 //! Values are by hand: the names of faults as docs/REFERENCE.md lists them, the limits of paths and of integers that it
 //! states, é in UTF-8 as the bytes c3 a9, and refusals by the grammar, with the byte at which a reader stops.
 
+use ksv_desc::ByteOrder;
 use ksv_expr_eval::{Encoding, FaultKind, Integer, Parts, Path, Step};
 use ksv_expr_syntax::{ExprFault, ExprFaultKind, parse, parse_type};
+use ksv_rule_meaning::integer_value;
 use std::alloc::{AllocError, Global};
 use std::collections::HashMap;
 use std::fmt::Write;
@@ -174,6 +176,25 @@ fn integers_have_a_range(rt: HostRuntime) -> Result<(), Fail> {
         && Integer::from(u64::MAX).get() == 0xffff_ffff_ffff_ffff;
     let is_outside = again(Integer::MIN - 1).is_none() && again(Integer::MAX + 1).is_none();
     assert!(rt; is_inside && is_outside);
+    Ok(())
+}
+
+/// The integer that a few bytes in two parts say.
+fn said(is_signed: bool, order: ByteOrder, front: &[u8], back: &[u8]) -> Option<i128> {
+    if front.len() > 4 || back.len() > 4 {
+        return None;
+    }
+    Some(integer_value(is_signed, order, Parts { front, back }))
+}
+
+#[test]
+fn bytes_in_two_parts_say_integers(rt: HostRuntime) -> Result<(), Fail> {
+    let is_right = said(true, ByteOrder::Big, b"\xff", b"\xfe") == Some(-2)
+        && said(false, ByteOrder::Big, b"\xff", b"\xfe") == Some(65_534)
+        && said(false, ByteOrder::Little, b"\x01\x02", b"\x03") == Some(0x03_0201)
+        && said(true, ByteOrder::Little, b"", b"\x80") == Some(-128)
+        && said(false, ByteOrder::Big, b"", b"") == Some(0);
+    assert!(rt; is_right);
     Ok(())
 }
 

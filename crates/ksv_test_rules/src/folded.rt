@@ -11,10 +11,10 @@ ghost use Rattle.ksv_memo_rules.specs.Right.{IsRight};
 use crate::nodes::{add_written, described};
 use ksv_bytes::{Buffer, Change};
 use ksv_desc::Desc;
-use ksv_expr_value::Fault;
-use ksv_memo::{Engine, Rules};
+use ksv_expr_value::{Fault, Value};
+use ksv_memo::{Answer, Engine, Rules};
 use ksv_memo_rules::NoFold;
-use ksv_nodes::{Halt, Turn};
+use ksv_nodes::{Halt, Head, Turn};
 use ksv_rule_meaning::NodeRules;
 use ksv_rules::{Described, DescriptionRules, Given, Node, NodeKind, path_of};
 use std::alloc::{AllocError, Global};
@@ -37,6 +37,7 @@ impl NodeRules for Slotted {
         _root: &Node,
         _given: &Given,
         _bytes: &Buffer,
+        _asker: Option<&Node>,
     ) -> Result<Option<NoFold<Node, Given>>, AllocError> {
         Ok(None)
     }
@@ -56,54 +57,161 @@ impl NodeRules for Slotted {
 
 type SlottedRules = ksv_rule_meaning::Described<Slotted>;
 
+/// How many files of each sample there are.
+const ROUNDS: usize = 40;
+
 /// How many questions are asked about a file, and how many there are between two edits, about.
 const QUESTIONS: usize = 420;
 
 const QUESTIONS_BETWEEN: usize = 20;
+
+/// Which bytes are drawn.
+#[derive(Clone, Copy)]
+struct Drawn {
+    /// The largest.
+    most: u8,
+    /// How many there are for one that may be other than 0, about.
+    apart: usize,
+}
+
+/// Any bytes.
+const ANY: Drawn = Drawn {
+    most: 255,
+    apart: 1,
+};
+
+/// Bytes that say small sizes.
+const SMALL: Drawn = Drawn { most: 3, apart: 1 };
+
+/// Bytes of which two mostly say 0, and now and then 1, 256 or 257.
+const RARE: Drawn = Drawn { most: 1, apart: 64 };
 
 /// A description with long lists, the first bytes of its file, and paths in it, where `#` is an element's number.
 struct Sample {
     text: &'static str,
     first: &'static [u8],
     paths: &'static [&'static str],
+    /// The other bytes of its file, and those of most edits.
+    drawn: Drawn,
+    /// Elements from this number on aren't asked.
+    elements: usize,
 }
 
+/// Lists of elements of one size.
 static SAMPLES: [Sample; 6] = [
     // Bytes to the file's end.
     Sample {
         text: "meta: {id: t}\nseq:\n  - {id: xs, type: u1, repeat: eos}\n",
         first: b"",
         paths: &["/xs", "/xs/#"],
+        drawn: ANY,
+        elements: 1_800,
     },
     // 1,024 bytes, or as many as two bytes say, and then numbers of two bytes.
     Sample {
         text: "meta: {id: t, endian: be}\nseq:\n  - {id: n, type: u2}\n  - {id: xs, type: u1, repeat: expr, repeat-expr: n}\n  - {id: ys, type: u2, repeat: eos}\n",
         first: b"\x04\x00",
         paths: &["/xs", "/xs/#", "/ys", "/ys/#", "/n"],
+        drawn: ANY,
+        elements: 1_800,
     },
     // Points.
     Sample {
         text: "meta: {id: t, endian: le}\nseq:\n  - {id: xs, type: point, repeat: eos}\ntypes:\n  point:\n    seq:\n      - {id: a, type: u1}\n      - {id: b, type: u2}\n",
         first: b"",
         paths: &["/xs", "/xs/#", "/xs/#/a", "/xs/#/b"],
+        drawn: ANY,
+        elements: 1_800,
     },
     // Objects of which one field's bytes are mostly other ones than they must be.
     Sample {
         text: "meta: {id: t}\nseq:\n  - {id: xs, type: marked, repeat: eos}\ntypes:\n  marked:\n    seq:\n      - {id: mark, contents: [7]}\n      - {id: b, type: u1}\n",
         first: b"",
         paths: &["/xs", "/xs/#", "/xs/#/mark", "/xs/#/b"],
+        drawn: ANY,
+        elements: 1_800,
     },
     // A list in a window of 1,200 bytes, and one behind it.
     Sample {
         text: "meta: {id: t, endian: le}\nseq:\n  - {id: w, type: inner, size: 1200}\n  - {id: ys, type: u1, repeat: eos}\ntypes:\n  inner:\n    seq:\n      - {id: xs, type: u2, repeat: eos}\n",
         first: b"",
         paths: &["/w", "/w/xs", "/w/xs/#", "/ys", "/ys/#"],
+        drawn: ANY,
+        elements: 1_800,
     },
     // A list whose elements ask those of another.
     Sample {
         text: "meta: {id: t}\nseq:\n  - {id: xs, type: u1, repeat: expr, repeat-expr: 900}\n  - {id: ys, type: pick, repeat: eos}\ntypes:\n  pick:\n    seq:\n      - {id: at, type: u1}\n      - {id: body, size: '_root.xs[at * 3] % 3'}\n",
         first: b"",
         paths: &["/xs", "/xs/#", "/ys", "/ys/#/body", "/ys/#"],
+        drawn: ANY,
+        elements: 1_800,
+    },
+];
+
+/// Lists whose elements say the size of their last field.
+static SIZED: [Sample; 5] = [
+    // Items to the file's end, and a value of two of them.
+    Sample {
+        text: "meta: {id: t}\nseq:\n  - {id: xs, type: item, repeat: eos}\ninstances:\n  sum: {value: 'xs[250].len + xs[40].body.size'}\ntypes:\n  item:\n    seq:\n      - {id: len, type: u1}\n      - {id: body, size: len}\n",
+        first: b"",
+        paths: &["/xs", "/xs/#", "/xs/#/len", "/xs/#/body", "/sum"],
+        drawn: SMALL,
+        elements: 720,
+    },
+    // A field before the size, which takes two bytes; and a value of both.
+    Sample {
+        text: "meta: {id: t, endian: be}\nseq:\n  - {id: xs, type: item, repeat: eos}\ntypes:\n  item:\n    seq:\n      - {id: kind, type: u1}\n      - {id: len, type: u2}\n      - {id: body, size: len}\n    instances:\n      both: {value: kind + len}\n",
+        first: b"",
+        paths: &[
+            "/xs",
+            "/xs/#",
+            "/xs/#/kind",
+            "/xs/#/len",
+            "/xs/#/body",
+            "/xs/#/both",
+        ],
+        drawn: RARE,
+        elements: 360,
+    },
+    // 400 items, or as many as two bytes say, and bytes behind them.
+    Sample {
+        text: "meta: {id: t, endian: be}\nseq:\n  - {id: n, type: u2}\n  - {id: xs, type: item, repeat: expr, repeat-expr: n}\n  - {id: ys, type: u1, repeat: eos}\ntypes:\n  item:\n    seq:\n      - {id: len, type: u1}\n      - {id: body, size: len}\n",
+        first: b"\x01\x90",
+        paths: &[
+            "/xs",
+            "/xs/#",
+            "/xs/#/len",
+            "/xs/#/body",
+            "/ys",
+            "/ys/#",
+            "/n",
+        ],
+        drawn: SMALL,
+        elements: 460,
+    },
+    // Items in a window of 1,200 bytes, and a list behind it. Their sizes may be below 0.
+    Sample {
+        text: "meta: {id: t}\nseq:\n  - {id: w, type: inner, size: 1200}\n  - {id: ys, type: u1, repeat: eos}\ntypes:\n  inner:\n    seq:\n      - {id: xs, type: item, repeat: eos}\n  item:\n    seq:\n      - {id: len, type: s1}\n      - {id: body, size: len}\n",
+        first: b"",
+        paths: &[
+            "/w",
+            "/w/xs",
+            "/w/xs/#",
+            "/w/xs/#/len",
+            "/w/xs/#/body",
+            "/ys/#",
+        ],
+        drawn: SMALL,
+        elements: 540,
+    },
+    // Sizes of two bytes, the lowest first, behind two that must be as they mostly are.
+    Sample {
+        text: "meta: {id: t, endian: le}\nseq:\n  - {id: xs, type: item, repeat: eos}\ntypes:\n  item:\n    seq:\n      - {id: mark, contents: [0, 0]}\n      - {id: len, type: s2}\n      - {id: body, size: len}\n",
+        first: b"",
+        paths: &["/xs", "/xs/#", "/xs/#/mark", "/xs/#/len", "/xs/#/body"],
+        drawn: RARE,
+        elements: 300,
     },
 ];
 
@@ -132,16 +240,24 @@ impl Random {
         }
     }
 
-    fn byte(&mut self) -> u8 {
-        (self.next() % 256) as u8
+    fn byte(&mut self, drawn: Drawn) -> u8 {
+        if self.below(drawn.apart) > 0 {
+            return 0;
+        }
+        (self.next() % (u64::from(drawn.most) + 1)) as u8
     }
 }
 
 /// So many random bytes.
-fn random_bytes(alloc: Global, random: &mut Random, count: usize) -> Result<Vec<u8>, AllocError> {
+fn random_bytes(
+    alloc: Global,
+    random: &mut Random,
+    drawn: Drawn,
+    count: usize,
+) -> Result<Vec<u8>, AllocError> {
     let mut bytes = Vec::new(alloc);
     for _ in 0..count {
-        bytes.push(random.byte())?;
+        bytes.push(random.byte(drawn))?;
     }
     Ok(bytes)
 }
@@ -150,7 +266,7 @@ fn random_bytes(alloc: Global, random: &mut Random, count: usize) -> Result<Vec<
 fn random_file(alloc: Global, sample: &Sample, random: &mut Random) -> Result<Vec<u8>, AllocError> {
     let mut bytes = sample.first.to_vec(alloc)?;
     let count = 1_300 + random.below(400);
-    let more = random_bytes(alloc, random, count)?;
+    let more = random_bytes(alloc, random, sample.drawn, count)?;
     bytes.extend_from_slice(more.as_slice())?;
     Ok(bytes)
 }
@@ -164,7 +280,7 @@ fn random_path(alloc: Global, sample: &Sample, random: &mut Random) -> Result<St
     let mut text = String::new(alloc);
     for part in chosen.split('#') {
         if !text.as_str().is_empty() {
-            write!(text, "{}", random.below(1_800))?;
+            write!(text, "{}", random.below(sample.elements))?;
         }
         text.push_str(part)?;
     }
@@ -207,18 +323,31 @@ fn edited(bytes: &mut Buffer, how: usize, at: usize, new: &[u8]) -> Option<Chang
     }
 }
 
-/// The place of a random edit: one in eight times among the first bytes, which say how many elements there are.
-fn random_place(bytes: &Buffer, random: &mut Random) -> usize {
-    if random.below(8) == 0 {
-        random.below(4)
-    } else {
-        random.below(bytes.len())
+/// The place of a random edit of so many bytes: one in eight times among the first bytes, which say how many elements there are, and one in eight times
+/// right before the end.
+fn random_place(bytes: &Buffer, random: &mut Random, count: usize) -> usize {
+    match random.below(8) {
+        0 => random.below(4),
+        1 => bytes.len().saturating_sub(count),
+        _ => random.below(bytes.len()),
     }
 }
 
-/// Makes a random edit; which it was, unless the bytes refuse it.
+/// The bytes of a random edit: one in eight times any.
+fn edit_bytes(alloc: Global, sample: &Sample, random: &mut Random) -> Result<Vec<u8>, AllocError> {
+    let drawn = if random.below(8) == 0 {
+        ANY
+    } else {
+        sample.drawn
+    };
+    let count = 1 + random.below(3);
+    random_bytes(alloc, random, drawn, count)
+}
+
+/// Makes a random edit of a sample's file; which it was, unless the bytes refuse it.
 fn random_edit(
     alloc: Global,
+    sample: &Sample,
     bytes: &mut Buffer,
     random: &mut Random,
 ) -> Result<Option<Change>, AllocError>
@@ -226,11 +355,26 @@ fn random_edit(
     ensures none { IfOk result (λ made. IfNone made (bytes.new ≡ bytes.old)) }
     ensures err { OnErr result (bytes.new ≡ bytes.old) }
 {
-    let at = random_place(bytes, random);
-    let count = 1 + random.below(3);
-    let new = random_bytes(alloc, random, count)?;
+    let new = edit_bytes(alloc, sample, random)?;
+    let at = random_place(bytes, random, new.len());
     let how = random.below(5);
     Ok(edited(bytes, how, at, new.as_slice()))
+}
+
+/// Adds more of what a node answers: which member is read, an integer, and where bytes are.
+fn add_more(answer: &Answer<Node, Given, Fault>, out: &mut String) -> Result<(), AllocError> {
+    match answer {
+        Answer::Value(Given::Head(Head::Leaf(leaf))) => {
+            let (type_number, member) = (leaf.origin.member.type_number, leaf.origin.member.member);
+            write!(out, ", member {member} of type {type_number}")
+        }
+        Answer::Value(Given::Value(Value::Int(number))) => write!(out, " {}", number.get()),
+        Answer::Value(Given::Value(Value::Bytes { from, to })) => {
+            let (from, to) = (*from, *to);
+            write!(out, " from {from} to {to}")
+        }
+        _ => Ok(()),
+    }
 }
 
 /// What an engine answers to a question, keeps and counts, in words.
@@ -249,6 +393,7 @@ fn told<R: Rules<Node = Node, Value = Given, Fault = Fault>>(
     let answer = engine.ask(rules, bytes, node)?;
     let mut out = String::new(alloc);
     add_written(desc, &answer, &mut out)?;
+    add_more(&answer, &mut out)?;
     let turns = engine.turns().unwrap_or(0);
     write!(out, ", {} kept, {turns} turns", engine.kept())?;
     Ok(out)
@@ -300,6 +445,7 @@ fn edit_for<A: Rules, B: Rules>(
     rules: &Both<'_, A, B>,
     first: &mut Engine<A>,
     second: &mut Engine<B>,
+    sample: &Sample,
     bytes: &mut Buffer,
     random: &mut Random,
 ) -> Result<(), AllocError>
@@ -308,7 +454,7 @@ fn edit_for<A: Rules, B: Rules>(
     ensures first { IsRight (on (A.meaning rules.now.first.now) bytes.new) first.new.kept }
     ensures second { IsRight (on (B.meaning rules.now.second.now) bytes.new) second.new.kept }
 {
-    match random_edit(alloc, bytes, random) {
+    match random_edit(alloc, sample, bytes, random) {
         Ok(Some(change)) => {
             first.forget(change);
             second.forget(change);
@@ -338,7 +484,7 @@ fn are_alike<
         let asked = (random_kind(random), path.as_str());
         are_alike &= are_told_alike(alloc, rules, &mut first, &mut second, bytes, asked)?;
         if random.below(QUESTIONS_BETWEEN) == 0 {
-            edit_for(alloc, rules, &mut first, &mut second, bytes, random)?;
+            edit_for(alloc, rules, &mut first, &mut second, sample, bytes, random)?;
         }
         are_alike &= first.kept() == second.kept();
     }
@@ -359,16 +505,40 @@ fn is_alike(alloc: Global, sample: &Sample, random: &mut Random) -> Result<bool,
     are_alike(alloc, &rules, sample, &mut bytes, random)
 }
 
+/// The description of a sample for which engines with and without folded nodes answer otherwise, over random files of each.
+fn first_unlike(
+    alloc: Global,
+    samples: &[Sample],
+    random: &mut Random,
+) -> Result<Option<&'static str>, Fail> {
+    for _ in 0..ROUNDS {
+        for sample in samples {
+            if !is_alike(alloc, sample, random)? {
+                return Ok(Some(sample.text));
+            }
+        }
+    }
+    Ok(None)
+}
+
 #[test]
 fn folded_nodes_are_told_as_those_that_have_slots(rt: HostRuntime) -> Result<(), Fail> {
     let mut random = Random {
         state: 88_172_645_463_325_252,
     };
-    for round in 0..40 {
-        for sample in &SAMPLES {
-            let is_alike = is_alike(rt.alloc(), sample, &mut random)?;
-            assert!(rt; is_alike, "round {round}: {}", sample.text);
-        }
-    }
+    let unlike = first_unlike(rt.alloc(), &SAMPLES, &mut random)?;
+    assert!(rt; unlike.is_none(), "{}", unlike.unwrap_or(""));
+    Ok(())
+}
+
+#[test]
+fn folded_nodes_that_say_sizes_are_told_as_those_that_have_slots(
+    rt: HostRuntime,
+) -> Result<(), Fail> {
+    let mut random = Random {
+        state: 2_463_534_242_521_288_629,
+    };
+    let unlike = first_unlike(rt.alloc(), &SIZED, &mut random)?;
+    assert!(rt; unlike.is_none(), "{}", unlike.unwrap_or(""));
     Ok(())
 }

@@ -1,19 +1,22 @@
--- The numbers of all nodes of a sequence, whether or not elements say sizes, and of rests.
-use Rattle.std.proofs.Common.{◌≡◌, ◌∙◌, ℕ, suc, ◌+◌, ◌-◌, ◌*◌, ◌/◌, ◌%◌, ◌<◌, ◌≤◌, ◌==◌, ◌⊎◌, inl, inr, nat_lt, Bool, true, false, if◌then◌else◌, length}
+-- The numbers of all nodes of a sequence, whether or not elements say sizes, and of those behind the elements.
+use Rattle.std.proofs.Common.{◌≡◌, ◌∙◌, ℕ, zero, suc, ◌+◌, ◌-◌, ◌*◌, ◌/◌, ◌%◌, ◌<◌, ◌≤◌, ◌==◌, ◌⊎◌, inl, inr, nat_lt, Bool, true, false, if◌then◌else◌, length}
 use Rattle.std.proofs.Common.{refl, sym, ap}
 use Rattle.std.proofs.Common.{subst, arith, Some, None, is_some}
 use Rattle.std.proofs.lemmas.Bool.{cases_lt}
 use Rattle.std.proofs.lemmas.Bool.Decides.{nat_tests}
 use Rattle.std.proofs.Math.Nat.{mul-suc, mul-le-mul_left}
+use Rattle.ksv_expr_value.specs.Trail.{element_limit}
+use Rattle.ksv_folds.specs.Lemmas.Missing.{even_at, odd_at, each_missing}
 use Rattle.ksv_folds.specs.Lemmas.Spots as plain
 use Rattle.ksv_folds.specs.Lemmas.Starts as starts
 use Rattle.ksv_folds.specs.Lemmas.Values as sized
 use Rattle.ksv_folds.specs.Parts.{Starts, nodes_in, are_starts}
 use Rattle.ksv_folds.specs.Sequence.{says_sizes, sizer, spot_in, IsIn, IsThere, index, index_of, spot_whole, elements_size, size_of, spot_at, numbered_at}
+use Rattle.ksv_folds.specs.Sequence.{behind_size, behind_at, missing_at}
 use Rattle.ksv_folds.specs.Sequence.{number_of}
 use Rattle.ksv_folds.specs.declared.plain_list.PlainList.{PlainList}
 use Rattle.ksv_folds.specs.declared.spot.Numbered.{Numbered}
-use Rattle.ksv_folds.specs.declared.spot.Numbered.TheVariants.{Of, Rest}
+use Rattle.ksv_folds.specs.declared.spot.Numbered.TheVariants.{Of, Rest, MissingHead, MissingEnd}
 use Rattle.ksv_folds.specs.declared.spot.Spot.{Spot}
 use Rattle.ksv_folds.specs.declared.spot.Spot.TheVariants.{ElementHead, ElementEnd, FieldHead, FieldEnd, Value}
 
@@ -194,7 +197,7 @@ module _ (p : PlainList) where
       let one = sized.past_last k p.per z.1 z.0 f last in
       subst (λ b. suc (index b p.per (Value i)) ≡ index b p.per (FieldHead i f)) (sym e) (omega (arith, one, last, wide))
 
-  -- ---- with rests
+  -- ---- with those behind the elements
 
   -- there is a node
   pub elements_some : 0 < elements_size p
@@ -202,60 +205,94 @@ module _ (p : PlainList) where
       let any = p.any in
       let wide = width_some.0 in let up = mul-le-mul_left {m = 1} {n = p.most} p.per (omega (arith, any)) in omega (arith, wide, up)
 
-  -- behind the elements there are rests
-  rest_there : (c : Bool) → p.closed ≡ c → (j : ℕ) → elements_size p ≤ j → j < elements_size p + (if c then p.most else 0)
-      → (p.closed ≡ true) × (j < elements_size p + p.most)
-  rest_there true e j up low = (e, low)
-  rest_there false e j up low = absurd (omega (arith, up, low))
+  -- behind the elements there are rests, or nodes of elements that aren't there
+  abbrev pub IsPast : Bool → ℕ → Type 0
+  IsPast false r = r < p.most
+  IsPast true r = r < 2 * (element_limit - p.most)
 
-  pub behind : (j : ℕ) → elements_size p ≤ j → j < size_of p → (p.closed ≡ true) × (j < elements_size p + p.most)
-  behind j up low = rest_there p.closed refl j up low
+  behind_by : (c m : Bool) → p.closed ≡ c → (j : ℕ) → elements_size p ≤ j → j < elements_size p + behind_size c m p.most
+      → (p.closed ≡ true) × IsPast m (j - elements_size p)
+  behind_by true false e j up low = (e, omega (arith, up, low))
+  behind_by true true e j up low = (e, omega (arith, up, low))
+  behind_by false m e j up low = absurd (omega (arith, up, low))
+
+  pub behind : (j : ℕ) → elements_size p ≤ j → j < size_of p → (p.closed ≡ true) × IsPast p.missing (j - elements_size p)
+  behind j up low = behind_by p.closed p.missing refl j up low
+
+  pub rests_low : (j : ℕ) → elements_size p ≤ j → j < size_of p → p.missing ≡ false → j - elements_size p < p.most
+  rests_low j up low e = subst (λ m. IsPast m (j - elements_size p)) e (behind j up low).1
+
+  there_by : (m : Bool) → p.missing ≡ m → (r : ℕ) → p.closed ≡ true → IsPast m r → IsThere p (behind_at m p.most r)
+  there_by false e r c low = (c, e, omega (arith, low))
+  there_by true e r c low = each_missing (λ n s. n < 2 * (element_limit - p.most) → IsThere p s)
+      (λ k less. (c, e, omega (arith, less))) (λ k less. (c, e, omega (arith, less))) r low
 
   pub numbered_there : (j : ℕ) → j < size_of p → IsThere p (numbered_at p j)
   numbered_there j low = by (nat_lt j (elements_size p)) refl
     where
-      by : (b : Bool) → nat_lt j (elements_size p) ≡ b → IsThere p (if b then Of (spot_at p j) else Rest (elements_size p + (p.most - 1) - j))
+      by : (b : Bool) → nat_lt j (elements_size p) ≡ b → IsThere p (if b then Of (spot_at p j) else behind_at p.missing p.most (j - elements_size p))
       by true e = spot_there p.most j (grind (arith, nat_tests))
-      by false e =
-          let up : elements_size p ≤ j = grind (arith, nat_tests) in let z = behind j up low in let less = z.1 in (z.0, omega (arith, up, less))
+      by false e = let z = behind j (grind (arith, nat_tests)) low in there_by p.missing refl (j - elements_size p) z.0 z.1
 
   -- the number of a number's node is that number
+  behind_number : (m : Bool) (r : ℕ) → IsPast m r → number_of p (behind_at m p.most r) ≡ elements_size p + r
+  behind_number false r low = omega (arith, low)
+  behind_number true r low = each_missing (λ n s. number_of p s ≡ elements_size p + n) (λ k. refl) (λ k. refl) r
+
   pub number_is : (j : ℕ) → j < size_of p → number_of p (numbered_at p j) ≡ j
   number_is j low = by (nat_lt j (elements_size p)) refl
     where
       by : (b : Bool) → nat_lt j (elements_size p) ≡ b
-          → number_of p (if b then Of (spot_at p j) else Rest (elements_size p + (p.most - 1) - j)) ≡ j
+          → number_of p (if b then Of (spot_at p j) else behind_at p.missing p.most (j - elements_size p)) ≡ j
       by true e = index_is j
-      by false e = let up : elements_size p ≤ j = grind (arith, nat_tests) in let less = (behind j up low).1 in omega (arith, up, less)
+      by false e =
+          let up : elements_size p ≤ j = grind (arith, nat_tests) in
+          behind_number p.missing (j - elements_size p) (behind j up low).1 ∙ (omega (arith, up))
 
-  -- of elements, and of rests
+  -- of elements, and behind them
   pub element_at : (j : ℕ) → j < elements_size p → numbered_at p j ≡ Of (spot_at p j)
   element_at j low =
       let e : nat_lt j (elements_size p) ≡ true = grind (arith, nat_tests) in
-      ap (λ b. if b then Of (spot_at p j) else Rest (elements_size p + (p.most - 1) - j)) e
+      ap (λ b. if b then Of (spot_at p j) else behind_at p.missing p.most (j - elements_size p)) e
 
-  pub rest_at : (j : ℕ) → elements_size p ≤ j → numbered_at p j ≡ Rest (elements_size p + (p.most - 1) - j)
-  rest_at j up =
+  pub past_elements : (j : ℕ) → elements_size p ≤ j → numbered_at p j ≡ behind_at p.missing p.most (j - elements_size p)
+  past_elements j up =
       let e : nat_lt j (elements_size p) ≡ false = grind (arith, nat_tests) in
-      ap (λ b. if b then Of (spot_at p j) else Rest (elements_size p + (p.most - 1) - j)) e
+      ap (λ b. if b then Of (spot_at p j) else behind_at p.missing p.most (j - elements_size p)) e
+
+  -- so many behind them
+  past_at : (r : ℕ) → numbered_at p (elements_size p + r) ≡ behind_at p.missing p.most r
+  past_at r =
+      let same : elements_size p + r - elements_size p ≡ r = omega arith in
+      past_elements (elements_size p + r) (omega arith) ∙ ap (behind_at p.missing p.most) same
+
+  size_by : (c m : Bool) → p.closed ≡ c → p.missing ≡ m → size_of p ≡ elements_size p + behind_size c m p.most
+  size_by c m e h = ap (λ b. elements_size p + behind_size b p.missing p.most) e ∙ ap (λ b. elements_size p + behind_size c b p.most) h
 
   pub number_low : (s : Numbered) → IsThere p s → number_of p s < size_of p
   number_low (Of s) h = let low = index_low p.most s h in omega (arith, low)
-  number_low (Rest i) h = subst (λ c. number_of p (Rest i) < elements_size p + (if c then p.most else 0)) (sym h.0) (let low = h.1 in omega (arith, low))
+  number_low (Rest i) h = let all = size_by true false h.0 h.1 in let low = h.2 in omega (arith, all, low)
+  number_low (MissingHead k) h = let all = size_by true true h.0 h.1 in let low = h.2 in omega (arith, all, low)
+  number_low (MissingEnd k) h = let all = size_by true true h.0 h.1 in let low = h.2 in omega (arith, all, low)
 
   -- the node of a node's number is that node
   pub numbered_is : (s : Numbered) → IsThere p s → numbered_at p (number_of p s) ≡ s
   numbered_is (Of s) h = element_at (number_of p (Of s)) (index_low p.most s h) ∙ ap Of (spot_is p.most s h)
   numbered_is (Rest i) h =
-      let low = h.1 in
-      let same : elements_size p + (p.most - 1) - (elements_size p + (p.most - 1 - i)) ≡ i = omega (arith, low) in
-      rest_at (number_of p (Rest i)) (omega arith) ∙ ap Rest same
+      let low = h.2 in
+      let same : p.most - 1 - (p.most - 1 - i) ≡ i = omega (arith, low) in
+      past_at (p.most - 1 - i) ∙ ap (λ m. behind_at m p.most (p.most - 1 - i)) h.1 ∙ ap Rest same
+  numbered_is (MissingHead k) h = past_at (2 * k) ∙ ap (λ m. behind_at m p.most (2 * k)) h.1 ∙ even_at k
+  numbered_is (MissingEnd k) h = past_at (2 * k + 1) ∙ ap (λ m. behind_at m p.most (2 * k + 1)) h.1 ∙ odd_at k
 
   -- ---- the node before
 
   abbrev pub prior_in : Numbered → Numbered
   prior_in (Of s) = Of (prior s)
   prior_in (Rest i) = if i + 1 == p.most then Of (ElementEnd i) else Rest (suc i)
+  prior_in (MissingHead zero) = Of (ElementEnd (p.most - 1))
+  prior_in (MissingHead (suc k)) = MissingEnd k
+  prior_in (MissingEnd k) = MissingHead k
 
   -- the last node of all elements is the end of the last
   pub last_element : (i : ℕ) → suc i ≡ p.most → spot_at p (elements_size p - 1) ≡ ElementEnd i
@@ -267,34 +304,51 @@ module _ (p : PlainList) where
       let same : elements_size p - 1 ≡ index_of p (ElementEnd i) = omega (arith, wide, all, more, number) in
       ap (spot_at p) same ∙ spot_is p.most (ElementEnd i) (omega (arith, e))
 
+  -- the first behind the elements, and each other one
+  first_behind : (m : Bool) → IsPast m 0 → Of (ElementEnd (p.most - 1)) ≡ prior_in (behind_at m p.most 0)
+  first_behind false low =
+      let so : (p.most - 1 - 0 + 1 == p.most) ≡ true = grind (arith, nat_tests) in
+      let same : p.most - 1 ≡ p.most - 1 - 0 = omega arith in
+      ap (λ i. Of (ElementEnd i)) same ∙ sym (ap (λ b. if b then Of (ElementEnd (p.most - 1 - 0)) else Rest (suc (p.most - 1 - 0))) so)
+  first_behind true low = sym (ap prior_in (even_at 0))
+
+  next_missing : (r : ℕ) → missing_at r ≡ prior_in (missing_at (suc r))
+  next_missing r = each_missing (λ n s. s ≡ prior_in (missing_at (suc n))) heads ends r
+    where
+      heads : (k : ℕ) → MissingHead k ≡ prior_in (missing_at (suc (2 * k)))
+      heads k = let same : 2 * k + 1 ≡ suc (2 * k) = omega arith in sym (ap (λ n. prior_in (missing_at n)) (sym same) ∙ ap prior_in (odd_at k))
+
+      ends : (k : ℕ) → MissingEnd k ≡ prior_in (missing_at (suc (2 * k + 1)))
+      ends k = let same : 2 * suc k ≡ suc (2 * k + 1) = omega arith in sym (ap (λ n. prior_in (missing_at n)) (sym same) ∙ ap prior_in (even_at (suc k)))
+
+  next_behind : (m : Bool) (r : ℕ) → IsPast m (suc r) → behind_at m p.most r ≡ prior_in (behind_at m p.most (suc r))
+  next_behind false r low =
+      let same : p.most - 1 - r ≡ suc (p.most - 1 - suc r) = omega (arith, low) in
+      let other : p.most - 1 - suc r + 1 < p.most = omega (arith, low) in
+      let so : (p.most - 1 - suc r + 1 == p.most) ≡ false = grind (arith, nat_tests) in
+      ap Rest same ∙ sym (ap (λ b. if b then Of (ElementEnd (p.most - 1 - suc r)) else Rest (suc (p.most - 1 - suc r))) so)
+  next_behind true r low = next_missing r
+
   -- the node of a number is the one before that of the next
   pub prior_of : (j : ℕ) → suc j < size_of p → numbered_at p j ≡ prior_in (numbered_at p (suc j))
   prior_of j low = elim (cases_lt (suc j) (elements_size p)) [
     | inl less ↦ element_at j (omega (arith, less)) ∙ ap Of (prior_is p.most j less).1 ∙ ap prior_in (sym (element_at (suc j) less))
-    | inr more ↦ behind_elements more (behind (suc j) more low).1
+    | inr more ↦ behind_elements more (behind (suc j) more low).1 ∙ ap prior_in (sym (past_elements (suc j) more))
   ]
     where
-      rest : ℕ
-      rest = elements_size p + (p.most - 1) - suc j
-
-      first_rest : elements_size p ≡ suc j → suc j < elements_size p + p.most → Of (spot_at p j) ≡ prior_in (Rest rest)
-      first_rest e less =
-          let last : suc rest ≡ p.most = omega (arith, e, less) in
-          let j_is : elements_size p - 1 ≡ j = omega (arith, e) in
-          let so : (rest + 1 == p.most) ≡ true = grind (arith, nat_tests) in
-          ap (λ n. Of (spot_at p n)) (sym j_is) ∙ ap Of (last_element rest last) ∙ sym (ap (λ b. if b then Of (ElementEnd rest) else Rest (suc rest)) so)
-
-      next_rest : elements_size p ≤ j → suc j < elements_size p + p.most → Rest (elements_size p + (p.most - 1) - j) ≡ prior_in (Rest rest)
-      next_rest up less =
-          let same : elements_size p + (p.most - 1) - j ≡ suc rest = omega (arith, up, less) in
-          let other : rest + 1 < p.most = omega (arith, up, less) in
-          let so : (rest + 1 == p.most) ≡ false = grind (arith, nat_tests) in
-          ap Rest same ∙ sym (ap (λ b. if b then Of (ElementEnd rest) else Rest (suc rest)) so)
-
-      behind_elements : elements_size p ≤ suc j → suc j < elements_size p + p.most → numbered_at p j ≡ prior_in (numbered_at p (suc j))
+      behind_elements : elements_size p ≤ suc j → IsPast p.missing (suc j - elements_size p)
+          → numbered_at p j ≡ prior_in (behind_at p.missing p.most (suc j - elements_size p))
       behind_elements more less = elim (cases_lt j (elements_size p)) [
-        | inl low ↦ element_at j low ∙ first_rest (omega (arith, more, low)) less ∙ ap prior_in (sym (rest_at (suc j) more))
-        | inr up ↦ rest_at j up ∙ next_rest up less ∙ ap prior_in (sym (rest_at (suc j) more))
+        | inl few ↦ (
+            let any = p.any in
+            let none : suc j - elements_size p ≡ 0 = omega (arith, more, few) in
+            let end : j ≡ elements_size p - 1 = omega (arith, more, few) in
+            element_at j few ∙ ap (λ n. Of (spot_at p n)) end ∙ ap Of (last_element (p.most - 1) (omega (arith, any)))
+            ∙ first_behind p.missing (subst (IsPast p.missing) none less) ∙ ap (λ n. prior_in (behind_at p.missing p.most n)) (sym none))
+        | inr up ↦ (
+            let one : suc j - elements_size p ≡ suc (j - elements_size p) = omega (arith, up) in
+            past_elements j up ∙ next_behind p.missing (j - elements_size p) (subst (IsPast p.missing) one less)
+            ∙ ap (λ n. prior_in (behind_at p.missing p.most n)) (sym one))
       ]
 
   -- ---- values

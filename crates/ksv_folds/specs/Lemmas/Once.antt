@@ -1,5 +1,6 @@
 -- Each node of a sequence comes once, and none is the list's head.
-use Rattle.std.proofs.Common.{◌≡◌, ◌∙◌, inl, inr, ℕ, zero, suc, ◌*◌, ◌==◌, ◌<◌, ◌≤◌, Bool, true, false, if◌then◌else◌, List, [], ◌∷◌, length, refl, sym, ap}
+use Rattle.std.proofs.Common.{◌≡◌, ◌∙◌, inl, inr, ℕ, zero, suc, ◌+◌, ◌*◌, ◌==◌, ◌<◌, ◌≤◌, Bool, true, false, if◌then◌else◌, List, [], ◌∷◌}
+use Rattle.std.proofs.Common.{length, refl, sym, ap}
 use Rattle.std.proofs.Common.{subst, arith}
 use Rattle.std.proofs.lemmas.Bool.Decides.{nat_tests}
 use Rattle.std.specs.Prelude.{Option, Some, None, IfSome, IfNone, ◌&&◌}
@@ -16,11 +17,11 @@ use Rattle.ksv_folds.specs.Lemmas.Values.{past_last, past_none}
 use Rattle.ksv_folds.specs.Lemmas.Parts.{own_name}
 use Rattle.ksv_folds.specs.Parts.{part}
 use Rattle.ksv_folds.specs.Sequence.{says_sizes, sizer, IsAt, member_spot, IsOne, IsThere, IsNumbered, kind_of, steps_of, node_in, index, index_of}
-use Rattle.ksv_folds.specs.Sequence.{number_of, size_of, numbered_at}
+use Rattle.ksv_folds.specs.Sequence.{number_of, elements_size, size_of, numbered_at}
 use Rattle.ksv_folds.specs.Sequence.{value_before, spot_guard, guard_in, guard_of, guard_node, whole_in, fold_of}
 use Rattle.ksv_folds.specs.declared.plain_list.PlainList.{PlainList}
 use Rattle.ksv_folds.specs.declared.spot.Numbered.{Numbered}
-use Rattle.ksv_folds.specs.declared.spot.Numbered.TheVariants.{Of, Rest}
+use Rattle.ksv_folds.specs.declared.spot.Numbered.TheVariants.{Of, Rest, MissingHead, MissingEnd}
 use Rattle.ksv_folds.specs.declared.spot.Spot.{Spot}
 use Rattle.ksv_folds.specs.declared.spot.Spot.TheVariants.{ElementHead, ElementEnd, FieldHead, FieldEnd, Value}
 
@@ -106,15 +107,44 @@ module _ (p : PlainList) where
   other_kind (FieldEnd i f) e = cc
   other_kind (Value i) e = cc
 
+  -- an element that isn't there has another index
+  off_missing : (k : ℕ) (s : Spot) → Is s → steps_of p s ≡ Index (p.most + k) ∷ up → ⊥
+  off_missing k (ElementHead i) low e = let same = same_index i (p.most + k) up e in omega (arith, low, same)
+  off_missing k (ElementEnd i) low e = let same = same_index i (p.most + k) up e in omega (arith, low, same)
+  off_missing k (FieldHead i f) low e = unlike (name f) (p.most + k) i up (sym e)
+  off_missing k (FieldEnd i f) low e = unlike (name f) (p.most + k) i up (sym e)
+  off_missing k (Value i) low e = unlike (name (sizer p)) (p.most + k) i up (sym e)
+
+  same_missing : (i j : ℕ) → ◌≡◌ {A = List Step} (Index (p.most + i) ∷ up) (Index (p.most + j) ∷ up) → i ≡ j
+  same_missing i j e = let same = same_index (p.most + i) (p.most + j) up e in omega (arith, same)
+
+  -- rests have numbers, or elements that aren't there have
+  no_both : {X : Type 0} → p.missing ≡ false → p.missing ≡ true → X
+  no_both e h = absurd (let bad : false ≡ true = sym e ∙ h in cc)
+
   same_numbered : (n : Node) (s t : Numbered) → IsNumbered p n s → IsNumbered p n t → s ≡ t
   same_numbered n (Of s) (Of t) a b = ap Of (same_spot s t a.there b.there (sym a.kind ∙ b.kind) (sym a.steps ∙ b.steps))
   same_numbered n (Of s) (Rest j) a b = absurd (other_kind s (sym a.kind ∙ b.kind))
   same_numbered n (Rest i) (Of t) a b = absurd (other_kind t (sym b.kind ∙ a.kind))
   same_numbered n (Rest i) (Rest j) a b = ap Rest (same_index i j up (sym a.steps ∙ b.steps))
+  same_numbered n (Of s) (MissingHead j) a b = absurd (off_missing j s a.there (sym a.steps ∙ b.steps))
+  same_numbered n (Of s) (MissingEnd j) a b = absurd (off_missing j s a.there (sym a.steps ∙ b.steps))
+  same_numbered n (MissingHead i) (Of t) a b = absurd (off_missing i t b.there (sym b.steps ∙ a.steps))
+  same_numbered n (MissingEnd i) (Of t) a b = absurd (off_missing i t b.there (sym b.steps ∙ a.steps))
+  same_numbered n (Rest i) (MissingHead j) a b = no_both (a.there).1 (b.there).1
+  same_numbered n (Rest i) (MissingEnd j) a b = no_both (a.there).1 (b.there).1
+  same_numbered n (MissingHead i) (Rest j) a b = no_both (b.there).1 (a.there).1
+  same_numbered n (MissingEnd i) (Rest j) a b = no_both (b.there).1 (a.there).1
+  same_numbered n (MissingHead i) (MissingHead j) a b = ap MissingHead (same_missing i j (sym a.steps ∙ b.steps))
+  same_numbered n (MissingEnd i) (MissingEnd j) a b = ap MissingEnd (same_missing i j (sym a.steps ∙ b.steps))
+  same_numbered n (MissingHead i) (MissingEnd j) a b = absurd (let bad = sym a.kind ∙ b.kind in cc)
+  same_numbered n (MissingEnd i) (MissingHead j) a b = absurd (let bad = sym a.kind ∙ b.kind in cc)
 
   off_root_by : (s : Numbered) → IsNumbered p p.root s → ⊥
   off_root_by (Of s) h = off_root s h.steps
   off_root_by (Rest i) h = longer (Index i) up h.steps
+  off_root_by (MissingHead k) h = longer (Index (p.most + k)) up h.steps
+  off_root_by (MissingEnd k) h = longer (Index (p.most + k)) up h.steps
 
   once : (i j : ℕ) → i < size_of p → j < size_of p → node_in p (numbered_at p i) ≡ node_in p (numbered_at p j) → i ≡ j
   once i j low less e =
@@ -204,18 +234,20 @@ module _ (p : PlainList) where
       let none = past_none (length p.parts.items) p.per z.1 z.0 (sizer p) (omega (arith, some)) in
       subst (λ b. index b p.per (FieldHead i (sizer p)) < index b p.per (Value i)) (sym e) (omega (arith, none, wide, some))
 
+  -- and so has each behind all elements
+  last : says_sizes p ≡ true → (j : ℕ) → elements_size p ≤ j → (n : ℕ) → p.most ≡ n → IfSome (value_before p n) (λ v. v < j)
+  last e j up zero same = tt
+  last e j up (suc n) same = let v = value_low n p.most (omega (arith, same)) e in omega (arith, v, up)
+
   numbered_earlier : (s : Numbered) → IsThere p s → IfSome (guard_of p s) (λ v. v < number_of p s)
   numbered_earlier s there = by (says_sizes p) refl s there
     where
       by : (b : Bool) → says_sizes p ≡ b → (t : Numbered) → IsThere p t → IfSome (if b then guard_in p t else None) (λ v. v < number_of p t)
       by false e t h = tt
       by true e (Of s) h = spot_earlier s e h
-      by true e (Rest i) h = last p.most refl
-        where
-          last : (n : ℕ) → p.most ≡ n → IfSome (value_before p n) (λ v. v < number_of p (Rest i))
-          last zero same = tt
-          last (suc n) same =
-              let v = value_low n p.most (omega (arith, same)) e in omega (arith, v)
+      by true e (Rest i) h = last e (number_of p (Rest i)) (omega arith) p.most refl
+      by true e (MissingHead k) h = last e (number_of p (MissingHead k)) (omega arith) p.most refl
+      by true e (MissingEnd k) h = last e (number_of p (MissingEnd k)) (omega arith) p.most refl
 
   earlier : (j : ℕ) → j < size_of p → IfSome (guard_of p (numbered_at p j)) (λ i. i < j)
   earlier j low = subst (λ n. IfSome (guard_of p (numbered_at p j)) (λ i. i < n))
@@ -228,6 +260,8 @@ module _ (p : PlainList) where
   whole j (Of (FieldEnd i f)) = (omega arith, omega arith)
   whole j (Of (Value i)) = (omega arith, omega arith)
   whole j (Rest i) = (omega arith, omega arith)
+  whole j (MissingHead k) = (omega arith, omega arith)
+  whole j (MissingEnd k) = (omega arith, omega arith)
 
 -- the sequence of a list is laid out so
 pub sequence_laid : (p : PlainList) → IsLaid (fold_of p)

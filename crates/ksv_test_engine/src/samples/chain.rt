@@ -85,6 +85,7 @@ impl Rules for Chain {
         _root: &Link,
         _value: &u32,
         _bytes: &Buffer,
+        _asker: Option<&Link>,
     ) -> Result<Option<NoFold<Link, u32>>, AllocError> {
         Ok(None)
     }

@@ -190,6 +190,7 @@ impl Rules for Rows {
         _root: &RowNumber,
         _value: &u32,
         _bytes: &Buffer,
+        _asker: Option<&RowNumber>,
     ) -> Result<Option<NoFold<RowNumber, u32>>, AllocError> {
         Ok(None)
     }

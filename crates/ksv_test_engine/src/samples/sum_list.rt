@@ -3,14 +3,15 @@
 ghost use Rattle.std.specs.Prelude.{◌≡◌, ◌^◌, ◌<◌, length};
 
 use crate::samples::link::Link;
+use crate::samples::row::Reply;
 
-/// The sums of the first bytes of a file, from that of the first byte on, and link 0, which is their root.
+/// What the links of the first bytes of a file answer, from that of the first byte on, and link 0, which is their root.
 #[derive(Drop)]
 pub struct SumList {
     /// Link 0.
     pub(crate) root: Link,
-    /// The sums.
-    pub(crate) sums: Vec<u32>,
+    /// The answers: sums, or that a byte is missing.
+    pub(crate) sums: Vec<Reply>,
     ghost first: { root.number ≡ 0 },
     ghost few: { length sums.items < 2 ^ 32 },
 }

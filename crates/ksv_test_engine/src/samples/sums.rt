@@ -10,13 +10,15 @@ use crate::samples::hashed::Hashed;
 use crate::samples::link::Link;
 use crate::samples::row::{Missing, Reply, copied};
 use crate::samples::rows::byte_at;
+use crate::samples::sum_folds::{so_far, summed};
 use crate::samples::sum_list::SumList;
 use ksv_bytes::{Buffer, Use};
 use ksv_memo_rules::{Lent, Next, NoFold, Replies, Rules};
 use std::alloc::{AllocError, Global};
 
-/// Sums: link 0 answers 0, and each other link what the one before it answers and the byte of that one's number. So link n answers the sum of the first n
-/// bytes, at most the largest number. An engine can keep all but link 0 by their numbers alone.
+/// Sums: link 0 answers 0, and each other link what the one before it answers and the byte of that one's number; its byte is missing where it is 255, or isn't
+/// there, and the next sum begins anew. So link n answers the sum of the bytes before place n from the last 255 on, at most the largest number. An engine can
+/// keep all but link 0 by their numbers alone, where their bytes are there, those too that answer that a byte is missing.
 #[derive(Drop)]
 pub struct Sums;
 
@@ -24,7 +26,7 @@ pub struct Sums;
 #[derive(Drop)]
 pub struct SlottedSums;
 
-/// A sum with the byte at a place, which is behind what it is of.
+/// A sum with the byte at a place, which is behind what it is of, if it isn't missing.
 fn with_byte(sum: u32, place: u32, bytes: &Buffer, uses: &mut Vec<Use>) -> Result<Reply, AllocError>
     ensures reply { IfOk result (λ reply. reply ≡ spec.with_byte sum (slice_get bytes.now place)) }
     ensures uses { OnOk result (uses.new.items ≡ uses.old.items ++ read_uses place (slice_get bytes.now place)) }
@@ -37,7 +39,7 @@ fn with_byte(sum: u32, place: u32, bytes: &Buffer, uses: &mut Vec<Use>) -> Resul
         }
         Some(byte) => {
             uses.push(Use::Bytes(place, place + 1))?;
-            Ok(Ok(sum.saturating_add(u32::from(byte))))
+            Ok(summed(sum, byte))
         }
     }
 }
@@ -56,11 +58,11 @@ fn next_of(
     match replies.get(0) {
         None if link.number == 0 => Ok(Next::Done(Ok(0))),
         None => Ok(Next::Need(link_before(link))),
-        Some(Ok(sum)) => {
+        Some(before) => {
             let place = link.number.saturating_sub(1);
-            Ok(Next::Done(with_byte(*sum, place, bytes, uses)?))
+            let sum = so_far(copied(before));
+            Ok(Next::Done(with_byte(sum, place, bytes, uses)?))
         }
-        Some(Err(missing)) => Ok(Next::Done(Err(*missing))),
     }
 }
 
@@ -110,6 +112,7 @@ impl Rules for Sums {
         root: &Link,
         _value: &u32,
         bytes: &Buffer,
+        _asker: Option<&Link>,
     ) -> Result<Option<SumList>, AllocError> {
         SumList::of(alloc, root, bytes)
     }
@@ -176,6 +179,7 @@ impl Rules for SlottedSums {
         _root: &Link,
         _value: &u32,
         _bytes: &Buffer,
+        _asker: Option<&Link>,
     ) -> Result<Option<NoFold<Link, u32>>, AllocError> {
         Ok(None)
     }

@@ -11,9 +11,9 @@ use Rattle.ksv_memo.proofs.folded.absorb.Goals as goal
 -- it isn't kept
 pub returns-in_err-is_heard-clause-run : goal.returns-in_err-is_heard-clause-run
 returns-in_err-is_heard-clause-run g c =
-    (loses-run g.R.Node.PartialEq.eq g.met.R.Node.Eq.laws g.met.R.Rules.exact g.R.Fold.Folds.fold c.args.run.now c.args.place c.in_ok-value.value
+    (loses-run g.R.Node.PartialEq.eq g.met.R.Node.Eq.laws g.met.R.Rules.exact g.R.Fold.Folds.fold c.args.run.now c.args.place c.in_ok-answer.answer
     (nodes c.args.table.now) (nodes c.keep_beside.new.table) c.requires.run
-    (subst (λ a. IsNext g.R.Fold.Folds.fold c.args.run.now c.args.place a c.args.table.now.opened) c.in_ok-value.ensures c.requires.next)
+    (subst (λ a. IsNext g.R.Fold.Folds.fold c.args.run.now c.args.place a c.args.table.now.opened) c.in_ok-answer.ensures c.requires.next)
     c.keep_beside.new.run c.in_err-is_heard.ensures.same
     c.in_err-is_heard.ensures.err).0
 
@@ -26,6 +26,7 @@ last g c = record {
   far = c.keep_beside.new.run.far;
   lent = c.keep_beside.new.run.lent;
   moved = c.keep_beside.new.run.moved;
+  has_lost = c.keep_beside.new.run.has_lost;
 }
 
 absorbed : (g : Given.Over) (c : After-max-run g) → IsFolding g.R.Node.PartialEq.eq g.R.Fold.Folds.fold (Some (last g c)) (nodes c.keep_beside.new.table)
@@ -37,9 +38,9 @@ absorbed g c =
     let f = g.R.Fold.Folds.fold in
     let far = same.far in
     let within = c.least_open.ensures.within in
-    absorbs g.R.Node.PartialEq.eq g.met.R.Node.Eq.laws g.met.R.Rules.exact f c.args.run.now c.args.place c.in_ok-value.value
+    absorbs g.R.Node.PartialEq.eq g.met.R.Node.Eq.laws g.met.R.Rules.exact f c.args.run.now c.args.place c.in_ok-answer.answer
     (nodes c.args.table.now) (nodes c.keep_beside.new.table) c.requires.run
-    (subst (λ a. IsNext g.R.Fold.Folds.fold c.args.run.now c.args.place a c.args.table.now.opened) c.in_ok-value.ensures c.requires.next)
+    (subst (λ a. IsNext g.R.Fold.Folds.fold c.args.run.now c.args.place a c.args.table.now.opened) c.in_ok-answer.ensures c.requires.next)
     (last g c) c.least_open.result c.in_ok-is_heard.is_heard same.nodes
     refl c.max-run.ensures far same.lent (omega arith)
     (subst (λ ns. AllByRecursion (λ w. IsNoneBelow (f ns) c.least_open.result w.node) c.keep_beside.new.table.opened) same.nodes c.least_open.ensures.apart)

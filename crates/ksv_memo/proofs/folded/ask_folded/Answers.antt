@@ -47,7 +47,7 @@ opened-then g c =
     (rw c.holds.ensures.nodes at came)
 
 -- memory is refused
-failed : (g : Given.Over) (c : After-lend g) → FailsToLend g.R.Fold.Folds.fold c.args.place c.in_ok-value.value c.args.run.now c.lend.new.run
+failed : (g : Given.Over) (c : After-lend g) → FailsToLend g.R.Fold.Folds.fold c.args.place c.in_ok-answer.answer c.args.run.now c.lend.new.run
     (nodes c.ask-2.new.self) (nodes c.lend.new.table)
     → IsRun g.R.Node.PartialEq.eq (g.R.Fold.Folds.fold c.lend.new.run.nodes) c.lend.new.run.kept c.lend.new.run.wild c.lend.new.run.far
     c.lend.new.run.lent.items c.lend.new.table.kept c.lend.new.table.opened
@@ -56,8 +56,8 @@ failed : (g : Given.Over) (c : After-lend g) → FailsToLend g.R.Fold.Folds.fold
 failed g c fails =
     let run = c.args.run.now in
     fails-on g.R.Node.PartialEq.eq g.met.R.Node.Eq.laws g.met.R.Rules.exact (g.R.Fold.Folds.fold run.nodes) run.kept run.wild run.far run.lent.items
-    g.R.Fold.Folds.fold run c.lend.new.run refl refl refl refl refl c.args.place c.in_ok-value.value c.args.node c.requires.covered.0 c.requires.covered.1
-    c.in_ok-value.ensures (nodes c.args.table.now) (nodes c.ask-2.new.self) (nodes c.lend.new.table) c.requires.run (opened-then g c) fails
+    g.R.Fold.Folds.fold run c.lend.new.run refl refl refl refl refl c.args.place c.in_ok-answer.answer c.args.node c.requires.covered.0 c.requires.covered.1
+    c.in_ok-answer.ensures (nodes c.args.table.now) (nodes c.ask-2.new.self) (nodes c.lend.new.table) c.requires.run (opened-then g c) fails
 
 pub returns-in_err-lend-in-Ok-None-clause-run : goal.returns-in_err-lend-in-Ok-None-clause-run
 returns-in_err-lend-in-Ok-None-clause-run g c =
@@ -68,7 +68,7 @@ returns-in_err-lend-in-Ok-None-clause-err g c = on_err_always c.from_residual-in
     (failed g (goal.at.returns-in_err-lend-in-Ok-None-clause-err g c).After-lend c.in_err-lend-in-Ok-None.ensures.err).1
 
 -- it got its slot
-lent : (g : Given.Over) (c : After-lend g) → LendsTo g.R.Fold.Folds.fold c.args.place c.in_ok-value.value c.args.run.now c.lend.new.run
+lent : (g : Given.Over) (c : After-lend g) → LendsTo g.R.Fold.Folds.fold c.args.place c.in_ok-answer.answer c.args.run.now c.lend.new.run
     c.ask-2.new.self.opened (nodes c.ask-2.new.self) (nodes c.lend.new.table)
     → IsRun g.R.Node.PartialEq.eq (g.R.Fold.Folds.fold c.lend.new.run.nodes) c.lend.new.run.kept c.lend.new.run.wild c.lend.new.run.far
     c.lend.new.run.lent.items c.lend.new.table.kept c.lend.new.table.opened
@@ -77,8 +77,8 @@ lent : (g : Given.Over) (c : After-lend g) → LendsTo g.R.Fold.Folds.fold c.arg
 lent g c lends =
     let run = c.args.run.now in
     lends-on g.R.Node.PartialEq.eq g.met.R.Node.Eq.laws g.met.R.Rules.exact (g.R.Fold.Folds.fold run.nodes) run.kept run.wild run.far run.lent.items
-    g.R.Fold.Folds.fold run c.lend.new.run refl refl refl refl refl c.args.place c.in_ok-value.value c.args.node c.requires.covered.0 c.requires.covered.1
-    c.in_ok-value.ensures (nodes c.args.table.now) (nodes c.ask-2.new.self) (nodes c.lend.new.table) c.requires.run (opened-then g c) lends
+    g.R.Fold.Folds.fold run c.lend.new.run refl refl refl refl refl c.args.place c.in_ok-answer.answer c.args.node c.requires.covered.0 c.requires.covered.1
+    c.in_ok-answer.ensures (nodes c.args.table.now) (nodes c.ask-2.new.self) (nodes c.lend.new.table) c.requires.run (opened-then g c) lends
 
 pub returns-in_ok-lend-in-Ok-None-clause-run : goal.returns-in_ok-lend-in-Ok-None-clause-run
 returns-in_ok-lend-in-Ok-None-clause-run g c =

@@ -1,4 +1,4 @@
-use Rattle.std.proofs.Common.{◌≡◌, ◌∙◌, ◌-◌, ◌+◌, ◌<◌, ◌≤◌, ◌⊎◌, true, sym, ap, subst, arith, length, Some, inl, inr}
+use Rattle.std.proofs.Common.{◌≡◌, ◌∙◌, ◌-◌, ◌≤◌, true, sym, ap, subst, arith, length, inl, inr}
 use Rattle.std.proofs.lemmas.Bool.{cases_lt}
 use Rattle.ksv_expr_value.specs.Places.{end_limit}
 use Rattle.ksv_folds.proofs.Scanned.{starts_again, starts_room, fewer_of}

@@ -1,10 +1,9 @@
-use Rattle.ksv_memo.proofs.Common.{◌≡◌, ◌∙◌, ap, refl, sym, subst, length, slice_get_within, EndsWith, node_at, Some}
+use Rattle.ksv_memo.proofs.Common.{◌≡◌, ◌∙◌, ap, sym, subst, length, slice_get_within, EndsWith, node_at, Some}
 use Rattle.ksv_memo.proofs.Common.{entries_of, opens_of, [], ◌∷◌, true, false, IfOk, Result, nodes}
 use Rattle.ksv_memo.specs.Nodes.{Nodes}
-use Rattle.std.proofs.Common.{◌==◌, Ok}
+use Rattle.std.proofs.Common.{◌==◌}
 use Rattle.ksv_memo.specs.Folding.{ClosesAs, LosesFirst}
 use Rattle.ksv_memo_links.specs.Links.{Keeps as LinksKeep}
-use Rattle.ksv_memo_rules.specs.declared.replies.Slot.TheVariants.{Value}
 use Rattle.ksv_memo.proofs.Finding.{node_there}
 use Rattle.ksv_memo.proofs.Tabling.{looked-laid, looked-view, not_kept, keeps_or_not}
 use Rattle.ksv_memo.proofs.Topping.{IsShut, top, pops, shuts-laid, closes-as-last, closes-as-more, closes-as-deaf, shut-hears-laid, abandons-laid}
@@ -70,7 +69,7 @@ returns-in-Err-clause-err g c =
 
 -- it is kept with its answer, and taken out
 shut : (g : Given.Over) (c : After-take_last-2 g) → IsShut c.find.new.self.entries c.self.inside.links c.self.inside.frames c.take_last-2.new.self
-    c.in-Some.frame.now c.set-2.new.self.entries (Value c.args.value) (Ok c.args.value) c.keep_by.new.links (c.in-Kept.root ∷ [])
+    c.in-Some.frame.now c.set-2.new.self.entries c.slot_of.result c.args.answer c.keep_by.new.links (c.in-Kept.root ∷ [])
     ((g.R.Fold.Folds.fold c.args.folded.now).entry c.args.place).uses
 shut g c =
     let f = c.in-Some.frame.now in
@@ -80,7 +79,7 @@ shut g c =
     let root = c.in-Kept.ensures.knows in
     record {
       pops = pops _ _ _ _ _ _ _ l ends (c.take_last-2.ensures f ends) c.set-2.ensures.slots;
-      is = refl;
+      is = c.slot_of.ensures;
       asked = (root.1, tt);
       in_asked = k.in_asked;
       in_uses = k.in_uses;
@@ -106,7 +105,7 @@ invariant_of-self-then-is_empty g c = shuts-laid c.find.new.self.entries (shut g
 pub returns-then-is_empty-clause-ok : goal.returns-then-is_empty-clause-ok
 returns-then-is_empty-clause-ok g c =
     let t = (goal.at.returns-then-is_empty-clause-ok g c).After-take_last-2 in
-    subst (λ v. ClosesAs (g.R.Fold.Folds.fold c.args.folded.now) c.args.place c.args.value true v.opened v
+    subst (λ v. ClosesAs (g.R.Fold.Folds.fold c.args.folded.now) c.args.place c.args.answer true v.opened v
     (record { kept = entries_of c.set-2.new.self.entries c.keep_by.new.links; opened = opens_of c.set-2.new.self.entries c.take_last-2.new.self }))
     (view_at g t) (closes-as-last c.find.new.self.entries (g.R.Fold.Folds.fold c.args.folded.now) c.args.place (root_at g t) (shut g t)
     (no-items c.take_last-2.new.self.frames.items (ap (λ xs. length xs == 0) (sym c.as_slice-2.ensures.value) ∙ sym c.if-is_empty.ensures)))
@@ -130,11 +129,11 @@ returns-clause-ok g c =
     record { kept = entries_of c.set-2.new.self.entries c.keep_by.new.links; opened = opens_of c.set-2.new.self.entries c.hear.new.self } in
     elim c.match-hear.branch [
       | in-Ok-hear w ↦
-          subst (λ r. IfOk r (λ is_heard. ClosesAs f c.args.place c.args.value is_heard c.args.self.now.opened (nodes c.args.self.now) now)) (sym w.result-is)
-          (subst (λ v. ClosesAs f c.args.place c.args.value true v.opened v now) (view_at g t)
+          subst (λ r. IfOk r (λ is_heard. ClosesAs f c.args.place c.args.answer is_heard c.args.self.now.opened (nodes c.args.self.now) now)) (sym w.result-is)
+          (subst (λ v. ClosesAs f c.args.place c.args.answer true v.opened v now) (view_at g t)
           (closes-as-more ps f c.args.place (root_at g t) (shut g t) c.hear.new.self w.in-Ok-hear.ensures.ok))
       | in-Err-hear w ↦
-          subst (λ r. IfOk r (λ is_heard. ClosesAs f c.args.place c.args.value is_heard c.args.self.now.opened (nodes c.args.self.now) now)) (sym w.result-is)
-          (subst (λ v. ClosesAs f c.args.place c.args.value false v.opened v now) (view_at g t)
+          subst (λ r. IfOk r (λ is_heard. ClosesAs f c.args.place c.args.answer is_heard c.args.self.now.opened (nodes c.args.self.now) now)) (sym w.result-is)
+          (subst (λ v. ClosesAs f c.args.place c.args.answer false v.opened v now) (view_at g t)
           (closes-as-deaf ps f c.args.place (root_at g t) (shut g t) c.hear.new.self w.in-Err-hear.ensures.err))
     ]
