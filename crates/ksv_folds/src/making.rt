@@ -415,23 +415,24 @@ impl PlainList {
         }
     }
 
-    /// Whether a node is of an element behind those that have numbers, or below one: only elements that aren't there are, if these are all.
-    fn is_behind(&self, node: &Node) -> bool {
+    /// Whether a node is of an element, or below one, that is as far behind those that have numbers as these go, or farther: then more nodes of elements that
+    /// aren't there are before it, if these are all, than there are rests.
+    fn is_far_behind(&self, node: &Node) -> bool {
         match tail_of(&node.path, &self.root.path) {
-            Tail::Element(element) | Tail::Member(element, _) => element >= self.most,
+            Tail::Element(element) | Tail::Member(element, _) => element / 2 >= self.most,
             Tail::Other => false,
         }
     }
 
-    /// Whether the elements that have numbers are known to be all of the list. Then if this node is behind them, those that aren't there have numbers too; if it isn't,
-    /// rests have.
+    /// Whether the elements that have numbers are known to be all of the list. Then if this node is far behind them, those that aren't there have numbers too; if it
+    /// isn't, rests have.
     fn close_if(&mut self, ends: bool, asked: Option<&Node>)
         ensures alike { IsAlike self.old self.new }
         ensures most { self.new.most ≡ self.old.most }
         ensures starts { (i : ℕ) → start_of self.new i ≡ start_of self.old i }
     {
         self.missing = match asked {
-            Some(node) => self.list.count.get().is_none() && self.is_behind(node),
+            Some(node) => self.list.count.get().is_none() && self.is_far_behind(node),
             None => false,
         };
         self.closed = ends;
