@@ -84,12 +84,17 @@ class Edits:
         for it in self.holding():
             yield from it.edit.effect
 
+    def taken_away(self) -> List[Undone]:
+        """The edits that `redo` can make again, the one first that it makes first."""
+        found, at = [], self.undone
+        while at:
+            found.append(at)
+            at = at.before
+        return found
+
     def num_undone(self) -> int:
         """How many edits `redo` can make again."""
-        count, at = 0, self.undone
-        while at:
-            count, at = count + 1, at.before
-        return count
+        return len(self.taken_away())
 
 
 def edits_of(count: int) -> str:

@@ -81,10 +81,21 @@ def after(edits: Edits, event: dict) -> Edits:
     return edits if "saving" in event else edits.taken_back() if event.get("step") == "undo" else edits.again()
 
 
+def is_possible(edits: Edits, event: dict) -> bool:
+    """Whether there is the edit that a record takes back or makes again, if it does one of these."""
+    step = event.get("step")
+    return not step or bool(edits.last if step == "undo" else edits.undone)
+
+
 def events_of(edits: Edits, saves: Iterable[dict] = ()) -> Iterator[dict]:
-    """Records that lead to the same edits that hold and the same state that is saved, with none taken back, and the records of saves."""
+    """Records that lead to the same edits, also those that were taken back, and to the same state that is saved; and the records of saves."""
     for it in edits.holding():
         yield made(it.edit, it.version)
+    undone = edits.taken_away()
+    for it in undone:
+        yield made(it.edit, it.version)
+    for _ in undone:
+        yield {"step": "undo"}
     yield from saves
     yield {"saved": edits.saved}
 
@@ -227,7 +238,7 @@ def parsed(number: int, path: str) -> Held:
         held = Held(head["file"], head["sum"], origin, Edits(), len(first) + len(origin))
         for line in file:
             event = event_of(line)
-            if event is None:
+            if event is None or not is_possible(held.edits, event):
                 break
             held = held.after(event, len(line))
         return held

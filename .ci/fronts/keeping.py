@@ -118,6 +118,38 @@ def flips() -> str:
     return ""
 
 
+def later() -> str:
+    """A journal that begins after some steps has the same edits as one that had each of them, also those that were taken back."""
+    with home() as folder:
+        for count, (_, edits) in enumerate(steps(), 1):
+            own = Journal.begun(f"{folder}/FILE", ORIGIN)
+            for event in journal.events_of(edits):
+                own.note(event)
+            number = os.open(own.path, os.O_RDONLY)
+            held = journal.parsed(number, own.path)
+            os.close(number)
+            own.close(is_kept=False)
+            if told(held.edits) != told(edits):
+                return f"after {count} steps: {told(held.edits)}, and not {told(edits)}"
+    return ""
+
+
+def no_step() -> str:
+    """A record that takes back or makes again what isn't there is where a journal is broken: what was before it is there."""
+    with home() as folder:
+        first, edits = steps()[0]
+        for records in ((), ({"step": "undo"},)):
+            own = Journal.begun(f"{folder}/FILE", ORIGIN)
+            for event in (first, *records, {"step": "undo" if records else "redo"}, steps()[1][0]):
+                own.note(event)
+            own.close(is_kept=True)
+            again, held = Journal.taken_up(journal.Left(own.path, "", 0, False, 0.0))
+            again.close(is_kept=False)
+            if told(held.edits) != told(edits.taken_back() if records else edits):
+                return f"{records}: {told(held.edits)}"
+    return ""
+
+
 class Failing:
     """The module os, one call of which fails, or writes a part first."""
 
@@ -425,6 +457,8 @@ CHECKS: Dict[str, Check] = {
     **{f"a journal whose {name} fails": failing_once(name, False) for name in CALLS},
     "a journal whose pwrite writes a part": failing_once("pwrite", True),
     "a journal whose pwrite writes a part, which can't be taken away": failing_once("pwrite", True, "ftruncate"),
+    "a journal that begins later": later,
+    "a journal with a step of nothing": no_step,
     "locks of journals": locks,
     "how many journals are kept": kept,
     "modes of journals": modes,
