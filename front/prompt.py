@@ -75,7 +75,9 @@ def prompted(shell: Shell, signals: Signals) -> None:
             shell.output.write("\n")
         else:
             history.keep()
-            shell.line(text)
+            # a text that was pasted may have several lines
+            for line in text.split("\n"):
+                shell.line(line)
 
 
 def served(shell: Shell, signals: Signals) -> None:

@@ -28,6 +28,16 @@ MORE: List[Tuple[str, str]] = [
 ]
 
 
+def lines_at_once(tree: Tree) -> str:
+    """A line end that is pasted into a line, or typed after ctrl-V, ends a line as others do: each is done."""
+    with room_of(tree, {"FILE": SMALL, "KSY": KSY}) as room, contextlib.closing(Terminal(room)) as shell:
+        for line, wanted in (("set 0 ff\x16\nbytes 0 1", "hex ff"), ("\x1b[200~set 1 ee\nbytes 0 2\n\x1b[201~", "hex ffee")):
+            told = shell.ask(line)
+            if shell.status is not None or told != f"ok 100\n{wanted}":
+                return f"{line!r}: {told[-200:]!r}, status {shell.status}"
+    return ""
+
+
 def line_that_ended(line: str, wanted: str) -> Case:
     """A line is refused, and the session goes on with its edits."""
 
@@ -185,6 +195,7 @@ SAVE = ("--save", "OUT", "FILE", "KSY")
 CASES: Dict[str, Case] = {
     **{f"4: the line {line[:20]!r}": line_that_ended(line, wanted) for line, wanted in LINES},
     **{f"more: the line {line[:20]!r}": line_that_ended(line, wanted) for line, wanted in MORE},
+    "more: lines at once": lines_at_once,
     "4: no memory under hex": no_memory_under_hex,
     "4: output in ASCII": encoded(PYTHONIOENCODING="ascii"),
     "4: output in C": encoded(LC_ALL="C", PYTHONUTF8="0", PYTHONCOERCECLOCALE="0"),
