@@ -58,6 +58,8 @@ def prompted(shell: Shell, signals: Signals) -> None:
     """Greets with the file's name and size, and reads lines at a prompt until the person leaves."""
     import readline
 
+    # what is typed may be no text, as a letter of another encoding
+    sys.stdin.reconfigure(errors="surrogateescape")
     shell.output.write(f"{visible(shell.file)}: {shell.keeper.session.size()} bytes; `help` lists the commands\n")
     greeted(shell)
     history = History()

@@ -96,6 +96,21 @@ def encoded(**environ: str) -> Case:
     return case
 
 
+def typed(encoding: str) -> Case:
+    """Bytes that are typed and are no text of the terminal's encoding end nothing: they are read as through a pipe."""
+
+    def case(tree: Tree) -> str:
+        """What is wrong with it."""
+        with room_of(tree, {"FILE": SMALL, "KSY": KSY}) as room, contextlib.closing(Terminal(room, PYTHONIOENCODING=encoding)) as shell:
+            for line, wanted in (('set 0 "\udcff\xe4"', "ok 100"), ("bytes 0 3", "hex ffc3a4"), ("get \udcff", "error: bad path")):
+                told = shell.ask(line)
+                if shell.status is not None or not told.startswith(wanted):
+                    return f"{line!r}: {told[-200:]!r}, status {shell.status}"
+        return ""
+
+    return case
+
+
 def broken_pipe(tree: Tree) -> str:
     """Where nobody reads what is told, the edits stay, and the shell tells that it ended."""
     with room_of(tree, {"FILE": SMALL, "KSY": KSY}) as room:
@@ -200,6 +215,7 @@ CASES: Dict[str, Case] = {
     "4: output in ASCII": encoded(PYTHONIOENCODING="ascii"),
     "4: output in C": encoded(LC_ALL="C", PYTHONUTF8="0", PYTHONCOERCECLOCALE="0"),
     "4: output in Latin 1": encoded(PYTHONIOENCODING="latin1"),
+    **{f"more: no text of {it} typed": typed(it) for it in ("utf-8:strict", "ascii")},
     "4: a broken pipe": broken_pipe,
     "4: full output": full_output,
     **{f"4: {signal.Signals(signum).name}{' at a terminal' if is_terminal else ''} {' '.join(words[:2])}": signalled(signum, is_terminal, *words)
