@@ -32,6 +32,8 @@ class Shell:
         self.file, self.out, self.keeper, self.saver = opened.file, opened.out, opened.keeper, opened.saver
         self.opened, self.output, self.signals = opened, output, signals
         self.place, self.asked, self.is_warned, self.status = "/", "/", False, 0
+        # the line that is done
+        self.typed = ""
         # whether integers are shown as hexadecimal digits; the list of which `more` shows more, by its path and the next index
         self.is_hex = False
         self.more: Optional[Tuple[str, int]] = None
@@ -111,7 +113,7 @@ class Shell:
             self.raw(rest)
             return
         found = reader.words_of(text)
-        word, words = found[0].text, found[1:]
+        word, words, self.typed = found[0].text, found[1:], text
         if word in ("quit", "exit"):
             self.leave()
         elif word == "save":

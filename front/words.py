@@ -117,10 +117,18 @@ def bytes_of(words: List[Word]) -> str:
 
 def name_of(line: str, words: List[Word]) -> str:
     """The name of a file: the rest of a line after its first word as it is, spaces too, or one quoted text."""
-    if len(words) == 2 and words[1].quoted is not None:
-        name = words[1].quoted.decode(errors="surrogateescape")
-    else:
-        name = line[words[1].begin : words[-1].end] if len(words) > 1 else ""
+    if len(words) == 2:
+        return word_name(words[1])
+    return usable(line[words[1].begin : words[-1].end] if len(words) > 1 else "")
+
+
+def word_name(word: Word) -> str:
+    """The name of a file that one word is."""
+    return usable(word.text if word.quoted is None else word.quoted.decode(errors="surrogateescape"))
+
+
+def usable(name: str) -> str:
+    """The name of a file, which is refused where no file can have it."""
     if "\0" in name:
         raise Misread("a file's name has no byte 0")
     return name

@@ -25,6 +25,7 @@ MORE: List[Tuple[str, str]] = [
     ("tree / \u00b2", "tree [PATH] [DEPTH]:"), ("bytes \u00b2 1", "error: bad number"), ("del \u0664 1", "error: bad number"), (f"get /{DIGITS}", "error"), (f"raw del 0 {DIGITS}", "error"),
     (f"del 0 {DIGITS}", "error"), (f"bytes {DIGITS} 1", "error"), (f"put /a {DIGITS}", "error"), ('save "a\\0b"', "no byte 0"), ("get /a\0b", "error"), ("find \0", "find HEX"),
     ("cd \0", "error"), ("raw \0", "error"), ("\0", "no such command"), ("raw", ""), ("recover \0", "recover"), ('save ""', "save OUT"), ('"', "a quote"),
+    ('extract /b "a\\0b"', "no byte 0"), ('insert 0 "a\\0b"', "no byte 0"), ('replace /b "a\\0b"', "no byte 0"), ('diff "a\\0b"', "no byte 0"), ("extract /b a\0b", "no byte 0"),
 ]
 
 

@@ -1,7 +1,8 @@
 """Commands that look over all that is below a path, and at another file beside this one."""
 from typing import TYPE_CHECKING, List
 
-from front.commands.writing import file_name, read_file
+from front import words as reader
+from front.commands.writing import read_file
 from front.copies import Copy
 from front.look import MOST_ASKED, Explorer, Spent
 from front.session import Session
@@ -34,7 +35,7 @@ def show_differences(shell: "Shell", word: str, words: List[Word]) -> None:
         shell.usage(word)
         return
     session, found = shell.keeper.session, []
-    with Copy(read_file(file_name(words[0]))) as copy:
+    with Copy(read_file(reader.word_name(words[0]))) as copy:
         other = Session(session.program, copy, session.ksy, lambda: (), shell.signals, shell.output.tell)
         try:
             ours, theirs = shell.explorer(), Explorer(other, MOST_ASKED)

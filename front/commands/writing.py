@@ -37,10 +37,10 @@ def write(shell: "Shell", word: str, words: List[Word]) -> None:
 
 def extract(shell: "Shell", word: str, words: List[Word]) -> None:
     """Writes the bytes of what is at a path to a new file."""
-    if len(words) != 2:
+    if len(words) < 2:
         shell.usage(word)
         return
-    path, out = shell.path(words[0].text), file_name(words[1])
+    path, out = shell.path(words[0].text), reader.name_of(shell.typed, words)
     span = shell.explorer().span(path)
     if not span:
         shell.reply(f"at {path}")
@@ -53,20 +53,21 @@ def extract(shell: "Shell", word: str, words: List[Word]) -> None:
 
 def insert(shell: "Shell", word: str, words: List[Word]) -> None:
     """Puts the bytes of a file before a place."""
-    place = reader.place(words[0]) if len(words) == 2 else None
+    place = reader.place(words[0]) if len(words) > 1 else None
     if place is None:
         shell.usage(word)
         return
-    name, content = file_name(words[1]), read_file(file_name(words[1]))
+    name = reader.name_of(shell.typed, words)
+    content = read_file(name)
     shell.output.show([shell.made_all(f"insert {place} {name}", inserts(place, content)) if content else f"{name} is empty"])
 
 
 def replace(shell: "Shell", word: str, words: List[Word]) -> None:
     """Puts the bytes of a file in the place of what is at a path."""
-    if len(words) != 2:
+    if len(words) < 2:
         shell.usage(word)
         return
-    path, name = shell.path(words[0].text), file_name(words[1])
+    path, name = shell.path(words[0].text), reader.name_of(shell.typed, words)
     span = shell.explorer().span(path)
     if not span:
         shell.reply(f"at {path}")
@@ -83,11 +84,6 @@ def replace(shell: "Shell", word: str, words: List[Word]) -> None:
 def inserts(place: int, content: bytes) -> List[str]:
     """The lines that put bytes before a place."""
     return [f"ins {place + at} {content[at : at + some].hex()}" for at, some in pieces(0, len(content), WRITTEN)]
-
-
-def file_name(word: Word) -> str:
-    """The name of a file that a word is."""
-    return word.text if word.quoted is None else word.quoted.decode(errors="surrogateescape")
 
 
 def read_file(name: str) -> bytes:
