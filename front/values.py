@@ -3,9 +3,14 @@ import re
 from dataclasses import dataclass
 from typing import List, Optional, Tuple
 
-from front.description import Description
+from front.description import Description, Member
 from front.look import Explorer, span_of
+from front.mistaken import room_at
 from front.words import Word, bytes_of, number
+
+
+# What is told where only a number can be written.
+NUMBER = "a number is wanted here, as 7 or 0x1f"
 
 
 @dataclass(frozen=True)
@@ -40,22 +45,31 @@ class Writer:
         span = span_of(place)
         if not span:
             raise Unwritable(f"{path} is {place}: only what has bytes can be written")
-        if re.fullmatch(r"-?[0-9]+", told) or re.fullmatch(r"\S+::\S+ \(-?[0-9]+\)", told):
-            return f"put {path} {self.integer(told, words)}"
+        enum = self.enum(path, told)
+        if enum or re.fullmatch(r"-?[0-9]+", told):
+            return f"put {path} {self.integer(enum, words)}"
         if told in ("true", "false"):
             return self.truth(place, words)
         if told.startswith(("object ", "[")) or self.explorer.ask(f"ls {path}") != "no members":
             raise Unwritable(f"{path} is {told}: write what is in it")
+        if "." in place:
+            return self.bits(place, words)
         return self.plain(path, told, span, words)
 
-    def integer(self, told: str, words: List[Word]) -> str:
+    def enum(self, path: str, told: str) -> str:
+        """The name of the enum of the value at a path, by the reply of `get`, or by the description where that is a fault; the empty text where it has none."""
+        if re.fullmatch(r"\S+::\S+ \(-?[0-9]+\)", told):
+            return told.partition("::")[0]
+        member = self.member(path) if told.startswith("fault ") else None
+        return member.value.said("enum").rpartition("::")[2] if member else ""
+
+    def integer(self, enum: str, words: List[Word]) -> str:
         """A number, or that of an enum's member."""
         name = words[0].text
         if len(words) != 1 or words[0].quoted is not None:
-            raise Unwritable("a number is wanted here, as 7 or 0x1f")
+            raise Unwritable(NUMBER)
         if re.fullmatch(r"-?(?:0[xX][0-9a-fA-F]+|[0-9]+)", name):
             return number(words[0])
-        enum = told.partition("::")[0] if "::" in told else None
         found = self.description.number_of(enum, name.rpartition("::")[2]) if enum else None
         if found is None:
             raise Unwritable(f"{name} is no number" + (f", nor a member of {enum}" if enum else ""))
@@ -69,6 +83,12 @@ class Writer:
         byte, bit = int(found[1]), 0x80 >> int(found[2] or 0)
         was = self.explorer.session.content(byte, 1)[0]
         return f"set {byte} {was | bit if words[0].text in ('true', '1') else was & ~bit:02x}"
+
+    def bits(self, place: str, words: List[Word]) -> str:
+        """The line that writes over a faulty value that shares a byte with others: one bit is a truth value, and more are a number, which `put` writes."""
+        if room_at(place).bits > 1:
+            raise Unwritable(NUMBER)
+        return self.truth(place, words)
 
     def plain(self, path: str, told: str, span: Tuple[int, int], words: List[Word]) -> str:
         """The line that writes a text or bytes over as many as are there. What is left of a text's own room is filled with the byte that ends it."""
@@ -86,12 +106,16 @@ class Writer:
             raise Unwritable(f"{path} is {kind} of {wanted} byte{'' if wanted == 1 else 's'}, and these are {len(content) - after}: `ins` and `del` make room or take it")
         return f"set {span[0]} {content.hex()}"
 
-    def ending(self, path: str) -> Optional[Ending]:
-        """How a text at a path ends, if its description has a byte for that."""
+    def member(self, path: str) -> Optional[Member]:
+        """What the description has of what is at a path; None where that can't be told."""
         path = re.sub(r"(?:/\d+)+$", "", path)
         front, _, name = path.rpartition("/")
         kind = re.fullmatch(r"object (\S+)", self.explorer.ask(f"get {front or '/'}"))
-        member = self.description.member(kind[1] if front else None, name) if kind else None
+        return self.description.member(kind[1] if front else None, name) if kind else None
+
+    def ending(self, path: str) -> Optional[Ending]:
+        """How a text at a path ends, if its description has a byte for that."""
+        member = self.member(path)
         if not member:
             return None
         text = member.value.said("terminator")
