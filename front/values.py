@@ -15,11 +15,11 @@ NUMBER = "a number is wanted here, as 7 or 0x1f"
 
 @dataclass(frozen=True)
 class Ending:
-    """The byte that ends a text; whether the rest of its room is filled with it, and else whether it comes after the text."""
+    """The byte that ends a text; whether it is a part of it, and whether the rest of the text's room is filled with it."""
 
     byte: bytes
+    is_included: bool
     is_filled: bool
-    is_after: bool
 
 
 class Unwritable(Exception):
@@ -95,16 +95,22 @@ class Writer:
         digits = bytes_of(words)
         if not re.fullmatch(r"(?:[0-9a-fA-F]{2})*", digits):
             raise Unwritable('bytes are wanted here, as 01 02ff, or a "TEXT"')
-        content, room, ending = bytes.fromhex(digits), span[1] - span[0], self.ending(path)
-        if ending and any(it.quoted is not None for it in words):
+        content, room, after = bytes.fromhex(digits), span[1] - span[0], 0
+        ending = self.ending(path) if any(it.quoted is not None for it in words) else None
+        if ending:
+            content = content.removesuffix(ending.byte) if ending.is_included else content
             if content.find(ending.byte) >= 0:
                 raise Unwritable(f"{path} ends at its first byte {ending.byte[0]}: the text has one")
-            content = content.ljust(room, ending.byte) if ending.is_filled else content + ending.byte * ending.is_after
+            after = self.num_after(ending, span)
+            content = content.ljust(room, ending.byte) if ending.is_filled else content + ending.byte * after
         if len(content) != room:
-            after = 1 if ending and not ending.is_filled and ending.is_after and len(content) != len(digits) // 2 else 0
             kind, wanted = "a text" if told.startswith('"') else "bytes", room - after
             raise Unwritable(f"{path} is {kind} of {wanted} byte{'' if wanted == 1 else 's'}, and these are {len(content) - after}: `ins` and `del` make room or take it")
         return f"set {span[0]} {content.hex()}"
+
+    def num_after(self, ending: Ending, span: Tuple[int, int]) -> int:
+        """How many bytes at a text's place are no room for it: the one that ends it, where that is the last one there. It may be missing at the stream's end."""
+        return int(not ending.is_filled and span[0] < span[1] and self.explorer.session.content(span[1] - 1, 1) == ending.byte)
 
     def member(self, path: str) -> Optional[Member]:
         """What the description has of what is at a path; None where that can't be told."""
@@ -121,5 +127,4 @@ class Writer:
         text = member.value.said("terminator")
         byte = int(text, 0) if re.fullmatch(r"0x[0-9a-fA-F]{1,2}|[1-9][0-9]{0,2}|0", text) else 0 if member.value.said("type") == "strz" else 256
         is_filled = bool(member.value.said("size") or member.value.said("size-eos"))
-        is_after = member.value.said("include") != "true" and member.value.said("consume") != "false"
-        return Ending(bytes([byte]), is_filled, is_after) if byte < 256 else None
+        return Ending(bytes([byte]), member.value.said("include") == "true", is_filled) if byte < 256 else None
