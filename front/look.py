@@ -197,6 +197,7 @@ class Search:
             middle = (low + high) // 2
             span = self.near(path, middle, high)
             low, high = (middle + 1, high) if span and span[1] <= self.place else (low, middle)
+        low = self.present(path, low, len(below))
         found = [] if low == len(below) else [joined(path, low)]
         span = self.explorer.span(found[0]) if found else None
         if span and span[0] <= self.place or not below or self.explorer.ask(f"ls {joined(path, 0)}") == "no members":
@@ -211,3 +212,8 @@ class Search:
             if told != "absent":
                 return span_of(told)
         return None
+
+    def present(self, path: str, index: int, stop: int) -> int:
+        """The index of an element, or of the first after it that isn't absent, as `near` has its place."""
+        some = range(index, min(stop, index + ELEMENTS))
+        return next((it for it in some if self.explorer.ask(f"at {joined(path, it)}") != "absent"), index)
