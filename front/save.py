@@ -147,7 +147,8 @@ def barrier(out: str) -> str:
     if kind_of(out) or out.endswith("/"):
         return f"it is {kind_of(out) or 'a folder'}"
     if not os.path.isdir(place):
-        return f"there is no folder {os.path.dirname(out)}"
+        named = os.path.dirname(out) or "."
+        return f"there is no folder {place if os.path.isdir(named) else named}"
     if os.path.exists(out) and not os.access(out, os.W_OK):
         return "it may not be written"
     if not os.access(place, os.W_OK | os.X_OK):

@@ -129,7 +129,9 @@ def reasons(tree: Tree) -> str:
     """`save` tells why it can't write."""
     with room_of(tree, {"FILE": SMALL, "KSY": KSY}) as room, contextlib.closing(Piped(room)) as shell:
         shell.ask("set 0 00")
-        for name, wanted in (("none/OUT", "there is no folder none"), ("home", "it is a folder"), ("FILE/OUT", "there is no folder FILE"), ("OUT/", "it is a folder")):
+        os.symlink("none/OUT", room.path("LINK"))
+        for name, wanted in (("none/OUT", "there is no folder none"), ("home", "it is a folder"), ("FILE/OUT", "there is no folder FILE"), ("OUT/", "it is a folder"),
+                             ("LINK", f"there is no folder {os.path.realpath(room.folder)}/none")):
             told = shell.ask(f"save {name}")
             if wanted not in told:
                 return f"save {name}: {told!r}"
