@@ -5,7 +5,7 @@ Each walk goes level by level and has a budget of questions; where it gives up, 
 import re
 from collections import deque
 from itertools import islice
-from typing import Deque, Dict, Iterator, List, Optional, Tuple
+from typing import Callable, Deque, Dict, Iterator, List, Optional, Tuple
 
 from front.look import Explorer, Spent, steps_of
 from front.texts import cut
@@ -107,14 +107,14 @@ def expanded(explorer: Explorer, path: str) -> Iterator[str]:
         yield from expanded(explorer, "/".join([it, *steps[at + 1 :]]))
 
 
-def differences(ours: Explorer, theirs: Explorer, path: str) -> Iterator[str]:
-    """The paths whose values differ in two files by the same description, with both values."""
+def differences(ours: Explorer, theirs: Explorer, path: str, shown: Callable[[str], str]) -> Iterator[str]:
+    """The paths whose values differ in two files by the same description, with both values as they are shown."""
     rest: Deque[str] = deque([path])
     while rest:
         it = rest.popleft()
         told, other = ours.ask(f"get {it}"), theirs.ask(f"get {it}")
         if told != other:
-            yield f"{it}  {cut(told, SHOWN)} | {cut(other, SHOWN)}"
+            yield f"{it}  {cut(shown(told), SHOWN)} | {cut(shown(other), SHOWN)}"
         if told.startswith(("object ", "[")) and re.match(r"object |\[", other):
             most = max(0, ours.num_left() + 1 - len(rest))
             below, beside = (list(islice(steps_of(it, one.children(it)), most)) for one in (ours, theirs))

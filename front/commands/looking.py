@@ -143,13 +143,13 @@ def where(shell: "Shell", word: str, words: List[Word]) -> None:
         shell.asked = found.best
         paths, notes = sharing(shell, found.best, place)
         explorer, lost = shell.explorer(), Lost(shell.description())
-        shell.output.show([f"{it}  {explorer.ask(f'at {it}')}  {with_lost(lost, explorer, it)}" for it in paths] + notes + found.notes())
+        shell.output.show([f"{it}  {explorer.ask(f'at {it}')}  {with_lost(shell, lost, explorer, it)}" for it in paths] + notes + found.notes())
 
 
-def with_lost(lost: Lost, explorer: Explorer, path: str) -> str:
+def with_lost(shell: "Shell", lost: Lost, explorer: Explorer, path: str) -> str:
     """The value at a path, and how it read before its description was mended."""
     told = explorer.value(path)
-    return "  ".join(it for it in (told, lost.said(explorer, path, told)) if it)
+    return "  ".join(it for it in (shell.shown(told), lost.said(explorer, path, told)) if it)
 
 
 def sharing(shell: "Shell", path: str, place: int) -> Tuple[List[str], List[str]]:

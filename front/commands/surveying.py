@@ -52,7 +52,7 @@ def show_differences(shell: "Shell", word: str, words: List[Word]) -> None:
         other = Session(session.program, copy, session.ksy, lambda: (), shell.signals, shell.output.tell)
         try:
             ours, theirs = shell.explorer(), Explorer(other, MOST_ASKED)
-            for it in differences(ours, theirs, path):
+            for it in differences(ours, theirs, path, shell.shown):
                 found.append(it)
         except Spent:
             found.append(f"  (there may be more: {MOST_ASKED} questions were asked)")
