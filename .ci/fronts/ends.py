@@ -133,6 +133,16 @@ def full_output(tree: Tree) -> str:
         return left_alone(room, b"\xff" + SMALL[1:], "   1  set 0 ff\nsaved: no")
 
 
+def full_disk(tree: Tree) -> str:
+    """Where a part can't be written to a new file as a whole, nothing is left of that, and the next try has the same end."""
+    with room_of(tree, {"FILE": SMALL, "KSY": b"meta: {id: t}\nseq: [{id: all, size-eos: true}]\n"}) as room:
+        lines = f"app {'00' * 2000}\n" * 5 + "extract all PART\n" * 2
+        words = f"ulimit -f 8; exec '{tree.shell}' FILE KSY"
+        ran = subprocess.run(["bash", "-c", words], cwd=room.folder, env=room.environ, input=lines, capture_output=True, text=True, check=False)
+        is_right = ran.stdout.count("File too large\n") == 2 and room.read("PART") is None
+        return "" if is_right else f"{ran.stdout[-200:]!r}, {ran.stderr[-200:]!r}, {len(room.read('PART') or b'')} bytes"
+
+
 def signalled(signum: int, is_terminal: bool, *words: str) -> Case:
     """A signal ends the shell while it waits for a line: OUT is as it was, and the edits are taken up by the next session."""
 
@@ -218,6 +228,7 @@ CASES: Dict[str, Case] = {
     "4: output in Latin 1": encoded(PYTHONIOENCODING="latin1"),
     **{f"more: no text of {it} typed": typed(it) for it in ("utf-8:strict", "ascii")},
     "4: a broken pipe": broken_pipe,
+    "more: a part that a disk has no room for": full_disk,
     "4: full output": full_output,
     **{f"4: {signal.Signals(signum).name}{' at a terminal' if is_terminal else ''} {' '.join(words[:2])}": signalled(signum, is_terminal, *words)
        for signum in (signal.SIGHUP, signal.SIGTERM, signal.SIGKILL) for is_terminal in (False, True) for words in ((), SAVE)},

@@ -1,4 +1,5 @@
 """Commands that write values, and files into the file and out of it."""
+import os
 from typing import TYPE_CHECKING, List
 
 from front import words as reader
@@ -46,9 +47,20 @@ def extract(shell: "Shell", word: str, words: List[Word]) -> None:
         shell.reply(f"at {path}")
         return
     content = shell.keeper.session.content(span[0], span[1] - span[0])
-    with open(out, "xb") as file:
-        file.write(content)
+    write_new(out, content)
     shell.output.show([f"{len(content)} bytes of {path} are in {out}"])
+
+
+def write_new(out: str, content: bytes) -> None:
+    """Writes a new file; where that fails, nothing is left of it."""
+    with open(out, "xb", buffering=0) as file:
+        try:
+            rest = memoryview(content)
+            while rest:
+                rest = rest[file.write(rest) :]
+        except OSError:
+            os.remove(out)
+            raise
 
 
 def insert(shell: "Shell", word: str, words: List[Word]) -> None:
