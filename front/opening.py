@@ -11,6 +11,7 @@ from front.copies import Copy, kind_of, read
 from front.description import Description
 from front.edits import edits_of
 from front.keeper import Keeper, lefts
+from front.output import Output, OutputFailed
 from front.parent import ends_with_parent
 from front.save import Saver, barrier, look_of
 from front.session import Died, Refused, Session
@@ -92,6 +93,16 @@ def told(message: str) -> None:
         print(visible(message), file=sys.stderr, flush=True)
     except OSError:
         pass
+
+
+def helped(shell: str, text: str) -> int:
+    """Tells what is asked for by `--help`; the status."""
+    try:
+        Output(sys.stdout, False).write(f"{text}\n")
+    except OutputFailed as error:
+        told(f"{shell}: output failed: {error}")
+        return 3
+    return 0
 
 
 def open_streams() -> None:

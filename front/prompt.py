@@ -14,7 +14,7 @@ from front.commands import COMMANDS, NUMBERS, WITH_PATH, listed
 from front.complete import Completer
 from front.copies import kind_of
 from front.edits import edits_of
-from front.opening import Opened, greetings, looked_at, open_streams, told, words_of
+from front.opening import Opened, greetings, helped, looked_at, open_streams, told, words_of
 from front.output import Output, OutputFailed
 from front.session import Died, Refused
 from front.shell import Leaving, Shell
@@ -139,8 +139,7 @@ def main(words: List[str]) -> int:
     """Opens a file by its description; the status."""
     open_streams()
     if "--help" in words or "-h" in words:
-        print(USAGE + "\n\n" + "\n".join(f"  {it}" for it in listed()) + "\n\n" + NUMBERS)
-        return 0
+        return helped("ksv-shell", USAGE + "\n\n" + "\n".join(f"  {it}" for it in listed()) + "\n\n" + NUMBERS)
     named = words_of(words)
     if not named:
         print(USAGE, file=sys.stderr)

@@ -133,6 +133,16 @@ def full_output(tree: Tree) -> str:
         return left_alone(room, b"\xff" + SMALL[1:], "   1  set 0 ff\nsaved: no")
 
 
+def full_help(tree: Tree) -> str:
+    """Where help can't be written, that is told, with the status that the program has then."""
+    for name in ("ksv-shell", "ksv-view"):
+        for to in ("> /dev/full", ">&-"):
+            ran = subprocess.run(["bash", "-c", f"'{tree.folder}/bin/{name}' --help {to}"], capture_output=True, text=True, check=False)
+            if ran.returncode != 3 or not ran.stderr.startswith(f"{name}: output failed: ") or ran.stderr.count("\n") > 1:
+                return f"{name} {to}: status {ran.returncode}, {ran.stderr[-200:]!r}"
+    return ""
+
+
 def full_disk(tree: Tree) -> str:
     """Where a part can't be written to a new file as a whole, nothing is left of that, and the next try has the same end."""
     with room_of(tree, {"FILE": SMALL, "KSY": b"meta: {id: t}\nseq: [{id: all, size-eos: true}]\n"}) as room:
@@ -228,6 +238,7 @@ CASES: Dict[str, Case] = {
     "4: output in Latin 1": encoded(PYTHONIOENCODING="latin1"),
     **{f"more: no text of {it} typed": typed(it) for it in ("utf-8:strict", "ascii")},
     "4: a broken pipe": broken_pipe,
+    "more: help that can't be written": full_help,
     "more: a part that a disk has no room for": full_disk,
     "4: full output": full_output,
     **{f"4: {signal.Signals(signum).name}{' at a terminal' if is_terminal else ''} {' '.join(words[:2])}": signalled(signum, is_terminal, *words)

@@ -9,7 +9,7 @@ import sys
 from typing import List, Optional, Tuple
 
 from front.edits import edits_of
-from front.opening import Opened, looked_at, open_streams, told, words_of
+from front.opening import Opened, helped, looked_at, open_streams, told, words_of
 from front.session import Died, Refused
 from front.signals import Ending, Interrupted, Signals
 from front.view.filing import Leave
@@ -55,8 +55,7 @@ def main(words: List[str]) -> int:
     """Opens a file by its description; the status."""
     open_streams()
     if "--help" in words or "-h" in words:
-        print(USAGE + "\n\n" + "\n".join(f"  {key:<12} {what}".rstrip() for key, what in LINES))
-        return 0
+        return helped("ksv-view", USAGE + "\n\n" + "\n".join(f"  {key:<12} {what}".rstrip() for key, what in LINES))
     named = words_of(words)
     if not named:
         print(USAGE, file=sys.stderr)
