@@ -80,8 +80,10 @@ class Explainer:
         return self.description().member(kind[1] if front else None, name) if kind else None
 
     def lost(self, path: str) -> List[str]:
-        """Of a path with a name that isn't there, which names are."""
+        """Of a path with a name that isn't there, which names are. A line that is sent as it is may have a path without `/` at its front, which is none."""
         front = ""
+        if not path.startswith("/"):
+            return []
         for step in path.split("/")[1:]:
             told = self.explorer.ask(f"ls {front or '/'}")
             names = told.split()[1:] if told.startswith("members") else []
