@@ -133,6 +133,19 @@ def full_output(tree: Tree) -> str:
         return left_alone(room, b"\xff" + SMALL[1:], "   1  set 0 ff\nsaved: no")
 
 
+def broken_off_first(tree: Tree) -> str:
+    """Ctrl-C before the session begins, while Python reads the modules, ends the prompt and the view without a word."""
+    with room_of(tree, {"FILE": SMALL, "KSY": KSY}) as room:
+        own = Tree(room.path("own"), is_proxied=False)
+        for name, module in (("ksv-shell", "prompt.py"), ("ksv-view", "view/main.py")):
+            with open(f"{own.folder}/front/{module}", "a", encoding="utf-8") as file:
+                file.write("\nimport os, signal\nos.kill(os.getpid(), signal.SIGINT)\n")
+            ran = subprocess.run([f"{own.folder}/bin/{name}", "FILE", "KSY"], cwd=room.folder, env=room.environ, input="", capture_output=True, text=True, check=False)
+            if (ran.returncode, ran.stdout, ran.stderr) != (-signal.SIGINT, "", ""):
+                return f"{name}: status {ran.returncode}, {ran.stderr[-200:]!r}"
+    return ""
+
+
 def full_help(tree: Tree) -> str:
     """Where help can't be written, that is told, with the status that the program has then."""
     for name in ("ksv-shell", "ksv-view"):
@@ -238,6 +251,7 @@ CASES: Dict[str, Case] = {
     "4: output in Latin 1": encoded(PYTHONIOENCODING="latin1"),
     **{f"more: no text of {it} typed": typed(it) for it in ("utf-8:strict", "ascii")},
     "4: a broken pipe": broken_pipe,
+    "more: ctrl-C before the session": broken_off_first,
     "more: help that can't be written": full_help,
     "more: a part that a disk has no room for": full_disk,
     "4: full output": full_output,
