@@ -21,6 +21,8 @@ VIEW = f"{TOP}/bin/ksv-view"
 ICON = [f"{TOP}/examples/ico.bin", f"{TOP}/examples/ico.ksy"]
 # How long a screen is awaited, in seconds, how long nothing may come for it to be whole, and how long the end is awaited.
 PATIENCE, QUIET, END = 60, 0.15, 30
+# How often a key is pressed that has no name.
+NAMELESS = 6
 # What is told where something takes long, after how many seconds at the most (the best of some), and how often that is looked at.
 SIGN, SOON, TIMES = "ctrl-C breaks it off", 0.15, 4
 # What a terminal sends for keys.
@@ -288,6 +290,19 @@ def refused(room: str) -> Iterator[str]:
     yield "" if terminal.end() == 0 else f"q after a save: status {terminal.status}"
 
 
+def nameless(_room: str) -> Iterator[str]:
+    """Keys that have no name here, one after the other, and bytes that are no letter: they do nothing, and the view goes on."""
+    terminal = Terminal(ICON)
+    yield terminal.shown("", "? help  q quit")
+    for it in (b"\x01", b"\x1bOP", b"\xe4"):
+        for _ in range(NAMELESS):
+            os.write(terminal.ours, it)
+            terminal.until(lambda _: True)
+    yield terminal.shown("x", "kind  kind::icon (0x1)")
+    terminal.type("q")
+    yield "" if terminal.end() == 0 else f"keys without a name: status {terminal.status}"
+
+
 def write(path: str, content: bytes) -> None:
     """Writes a file."""
     with open(path, "wb") as file:
@@ -296,7 +311,7 @@ def write(path: str, content: bytes) -> None:
 
 def trials(room: str) -> Iterator[str]:
     """All trials on terminals. No session is left to the next one, but those that end in `broken_off` to `recovered`."""
-    for it in (repaired, without_colour, as_drawn, broken_off, recovered, refused):
+    for it in (repaired, without_colour, as_drawn, broken_off, recovered, refused, nameless):
         if it is not recovered:
             fresh.apart(room)
         yield from it(room)

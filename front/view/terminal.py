@@ -1,8 +1,11 @@
 """The view on a terminal, by curses: keys from it, rows of cells to it. Nothing is decided here."""
 import curses
+import fcntl
 import os
 import select
 import signal
+import sys
+import termios
 import time
 from typing import Dict, List, Optional, Tuple
 
@@ -12,7 +15,7 @@ from front.view.desk import Desk
 from front.view.draw import Screen
 
 # How often somebody looks whether a question takes long, after how many seconds a sign of it is given, and after how many it is given anew; after how many
-# empty readings the terminal is taken to be gone.
+# readings of no byte at all the terminal is taken to be gone.
 PATIENCE, LONG, OFTEN, EMPTY = 0.02, 0.07, 0.1, 5
 NAMES: Dict[int, str] = {
     curses.KEY_UP: "up", curses.KEY_DOWN: "down", curses.KEY_LEFT: "left", curses.KEY_RIGHT: "right", curses.KEY_PPAGE: "pgup", curses.KEY_NPAGE: "pgdn",
@@ -148,11 +151,19 @@ class Terminal:
             if self.is_resized():
                 found.append("resize")
             if 0 in ready:
+                self.empty = 0 if self.num_waiting() else self.empty + 1
                 found += self.pressed()
-                self.empty = 0 if found else self.empty + 1
                 if self.empty >= EMPTY:
                     raise Ending(signal.SIGHUP)
         return found
+
+    @staticmethod
+    def num_waiting() -> int:
+        """How many bytes wait to be read; none where the terminal is gone. Keys without a name have some too."""
+        try:
+            return int.from_bytes(fcntl.ioctl(0, termios.FIONREAD, bytes(4)), sys.byteorder)
+        except OSError:
+            return 0
 
     def pressed(self) -> List[str]:
         """All keys that wait."""
