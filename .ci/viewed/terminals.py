@@ -303,6 +303,17 @@ def nameless(_room: str) -> Iterator[str]:
     yield "" if terminal.end() == 0 else f"keys without a name: status {terminal.status}"
 
 
+def other_locale(room: str) -> Iterator[str]:
+    """A locale that this machine hasn't: letters are as in UTF-8."""
+    file, ksy = f"{room}/letters.bin", f"{room}/letters.ksy"
+    write(ksy, b"meta: {id: t, encoding: UTF-8}\nseq: [{id: word, type: strz}]\n")
+    write(file, "gr\u00fc\u00dfe \u4e2d".encode() + b"\0")
+    terminal = Terminal([file, ksy], LC_ALL="xx_XX.UTF-8")
+    yield terminal.shown("", "gr\u00fc\u00dfe \u4e2d")
+    terminal.type("q")
+    yield "" if terminal.end() == 0 else f"a locale that isn't there: status {terminal.status}"
+
+
 def write(path: str, content: bytes) -> None:
     """Writes a file."""
     with open(path, "wb") as file:
@@ -311,7 +322,7 @@ def write(path: str, content: bytes) -> None:
 
 def trials(room: str) -> Iterator[str]:
     """All trials on terminals. No session is left to the next one, but those that end in `broken_off` to `recovered`."""
-    for it in (repaired, without_colour, as_drawn, broken_off, recovered, refused, nameless):
+    for it in (repaired, without_colour, as_drawn, broken_off, recovered, refused, nameless, other_locale):
         if it is not recovered:
             fresh.apart(room)
         yield from it(room)

@@ -51,6 +51,16 @@ def viewed(named: Tuple[str, str, Optional[str]], signals: Signals) -> int:
     return status
 
 
+def begin_letters() -> None:
+    """Shows letters as the person's locale has them. One that isn't there, as where it came from another machine, is as UTF-8."""
+    for it in ("", "C.UTF-8"):
+        try:
+            locale.setlocale(locale.LC_ALL, it)
+            return
+        except locale.Error:
+            pass
+
+
 def main(words: List[str]) -> int:
     """Opens a file by its description; the status."""
     open_streams()
@@ -63,7 +73,7 @@ def main(words: List[str]) -> int:
     if not (sys.stdin.isatty() and sys.stdout.isatty()):
         told("ksv-view: it needs a terminal; ksv-shell reads lines")
         return 2
-    locale.setlocale(locale.LC_ALL, "")
+    begin_letters()
     os.environ.setdefault("TERM", "dumb")
     try:
         looked = looked_at("ksv-view", named)
