@@ -303,6 +303,20 @@ def nameless(_room: str) -> Iterator[str]:
     yield "" if terminal.end() == 0 else f"keys without a name: status {terminal.status}"
 
 
+def unknown_escapes(_room: str) -> Iterator[str]:
+    """Keys that the terminal's description hasn't, over bytes: ctrl-Right, shift-Down, F5, Home of other terminals. No digit of theirs is written."""
+    terminal = Terminal(ICON, TERM="vt100")
+    yield terminal.shown("", "? help  q quit")
+    yield terminal.shown(SENT["tab"], "0-9 a-f write  Tab tree")
+    for it in ("\x1b[1;5C", "\x1b[1;2B", "\x1b[15~", "\x1b[1~", "\x1bO5D"):
+        yield terminal.shown(f"{it}{it}g0\r", "0-9 a-f write  Tab tree")
+        rows = terminal.reader.lines()
+        yield "" if rows[0].startswith("ico.bin  350 bytes") and "0000[00 00]01" in rows[1] else f"{it!r} over bytes: {rows[:2]}"
+    yield terminal.shown(f"{SENT['right']}ab", "ok 350; u takes it back: set 1 ab")
+    terminal.type("qq")
+    yield "" if terminal.end() == 0 else f"unknown keys: status {terminal.status}"
+
+
 def other_locale(room: str) -> Iterator[str]:
     """A locale that this machine hasn't: letters are as in UTF-8."""
     file, ksy = f"{room}/letters.bin", f"{room}/letters.ksy"
@@ -322,7 +336,7 @@ def write(path: str, content: bytes) -> None:
 
 def trials(room: str) -> Iterator[str]:
     """All trials on terminals. No session is left to the next one, but those that end in `broken_off` to `recovered`."""
-    for it in (repaired, without_colour, as_drawn, broken_off, recovered, refused, nameless, other_locale):
+    for it in (repaired, without_colour, as_drawn, broken_off, recovered, refused, nameless, unknown_escapes, other_locale):
         if it is not recovered:
             fresh.apart(room)
         yield from it(room)

@@ -2,12 +2,13 @@
 import curses
 import fcntl
 import os
+import re
 import select
 import signal
 import sys
 import termios
 import time
-from typing import Dict, List, Optional, Tuple
+from typing import Dict, List, Optional, Tuple, Union
 
 from front.signals import Ending, Interrupted, Signals
 from front.view.cells import Row, Span, fitted, plain
@@ -26,6 +27,8 @@ LETTERS: Dict[str, str] = {
     "\t": "tab", "\n": "enter", "\r": "enter", "\x1b": "escape", "\x7f": "backspace", "\b": "backspace", "\x12": "ctrl-r", "\x0c": "ctrl-l", "\x15": "ctrl-u",
     "\x04": "ctrl-d", "\x03": "interrupt",
 }
+# What a terminal sends for a key that its description hasn't, as ctrl-Right on many: some of it would be digits over bytes.
+ESCAPE = re.compile(r"\x1b(?:\[[0-?]*[ -/]*[@-~]|O[0-9;]*[@-~])")
 # What each word of a style is, without colours and with them.
 ATTRIBUTES = {
     "chosen": curses.A_REVERSE, "mate": curses.A_BOLD, "cursor": curses.A_REVERSE | curses.A_BOLD, "marked": curses.A_BOLD, "found": curses.A_REVERSE,
@@ -34,6 +37,13 @@ ATTRIBUTES = {
 }
 COLOURS = {"fault": curses.COLOR_RED, "changed": curses.COLOR_GREEN, "written": curses.COLOR_GREEN, "marked": curses.COLOR_CYAN, "found": curses.COLOR_YELLOW,
            "note": curses.COLOR_YELLOW, "name": -1}
+
+
+def named(keys: List[Union[int, str]]) -> List[str]:
+    """The names of keys, as curses gives them: numbers, and letters. Those that have none are left out."""
+    letters = ESCAPE.sub(lambda found: "\0" * len(found[0]), "".join(it if isinstance(it, str) else "\0" for it in keys))
+    names = [NAMES.get(it, "") if isinstance(it, int) else LETTERS.get(letter, letter if letter.isprintable() else "") for it, letter in zip(keys, letters)]
+    return [it for it in names if it]
 
 
 class NoTerminal(Exception):
@@ -166,16 +176,13 @@ class Terminal:
             return 0
 
     def pressed(self) -> List[str]:
-        """All keys that wait."""
-        found: List[str] = []
+        """All keys that wait, by their names."""
+        found: List[Union[int, str]] = []
         while True:
             try:
-                key = self.window.get_wch()
+                found.append(self.window.get_wch())
             except curses.error:
-                return found
-            name = NAMES.get(key, "") if isinstance(key, int) else LETTERS.get(key, key if key.isprintable() else "")
-            if name:
-                found.append(name)
+                return named(found)
 
     # Rows
 
