@@ -32,7 +32,12 @@ def escape(letter: str) -> str:
 
 def columns(text: str) -> int:
     """How many columns of a terminal a text takes."""
-    return len(text) if text.isascii() else sum(0 if unicodedata.combining(it) else 2 if unicodedata.east_asian_width(it) in "WF" else 1 for it in text)
+    return len(text) if text.isascii() else sum(0 if is_above(it) else 2 if unicodedata.east_asian_width(it) in "WF" else 1 for it in text)
+
+
+def is_above(letter: str) -> bool:
+    """Whether a letter takes no column of its own: a mark above or below another one, as in Thai and Hindi, or the rest of a Korean syllable."""
+    return unicodedata.category(letter) in ("Mn", "Me") or "\u1160" <= letter <= "\u11ff"
 
 
 def hexed(reply: str) -> str:

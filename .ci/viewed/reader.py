@@ -54,7 +54,7 @@ class Reader:
 
     def write(self, it: str) -> None:
         """A letter at the cursor."""
-        if unicodedata.combining(it):
+        if unicodedata.category(it) in ("Mn", "Me") or "\u1160" <= it <= "\u11ff":
             return
         if self.column >= self.columns:
             self.column = 0

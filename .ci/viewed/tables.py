@@ -11,6 +11,9 @@ from front.view.state import Typed, fronts, parent
 
 CUTS = [("abc", 3, "abc"), ("abcd", 3, "ab~"), ("abcd", 1, "~"), ("abcd", 0, ""), ("", 0, ""), ("a\nb", 20, "a\\u000ab"), ("ab\x1b", 4, "ab\\~"),
         ("中文字", 6, "中文字"), ("中文字", 5, "中文~"), ("中文字", 4, "中~"), ("e\u0301e\u0301x", 2, "e\u0301~"), ("\udcff", 4, "\\xff")]
+# Texts, and the columns of a terminal that they take: marks of Thai and Hindi and the rest of a Korean syllable have none of their own.
+WIDTHS = [("abc", 3), ("中文", 4), ("e\u0301", 1), ("\u0e2a\u0e27\u0e31\u0e2a\u0e14\u0e35", 4), ("\u0928\u0941", 1), ("\u1112\u1161\u11ab", 2),
+          ("\u2764\ufe0f", 1), ("a\u20dd", 1)]
 ROWS = [(["ab", "cd"], 6, "abcd  "), (["ab", "cd"], 4, "abcd"), (["ab", "cd"], 3, "ab~"), (["abc"], 2, "a~"), (["", "x"], 1, "x"), ([], 3, "   "),
         (["ab", "cd", "e"], 4, "abc~")]
 FLOWS = [(["aa", "bb", "cc"], 6, ["aa  bb", "cc"]), (["aa", "bb"], 5, ["aa", "bb"]), ([], 5, []), (["long one"], 3, ["long one"])]
@@ -59,6 +62,7 @@ def trials() -> Iterator[str]:
     """All trials of the tables."""
     yield from different("cut", [(cut(text, width), wanted) for text, width, wanted in CUTS])
     yield from different("a cut is no wider", [(columns(cut(text, width)) <= width, True) for text, width, _ in CUTS])
+    yield from different("columns", [(columns(text), wanted) for text, wanted in WIDTHS])
     yield from different("fitted", [(plain(fitted([Span(it) for it in spans], width)), wanted) for spans, width, wanted in ROWS])
     yield from different("flowed", [(flowed(pieces, width), wanted) for pieces, width, wanted in FLOWS])
     yield from different("typed", [((typed(line).text, typed(line).at), (text, at)) for line, text, at in TYPED])
