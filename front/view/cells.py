@@ -70,14 +70,25 @@ def flowed(pieces: Iterable[str], width: int) -> List[str]:
     return lines
 
 
+def held(text: str, width: int) -> int:
+    """How many letters of a text n columns hold; at least one."""
+    room = width
+    for count, it in enumerate(text):
+        room -= columns(it)
+        if room < 0:
+            return max(1, count)
+    return len(text)
+
+
 def wrapped(text: str, width: int, most: int) -> List[str]:
     """A text in lines of a width, which are broken at spaces where there are some; at most n of them."""
     lines: List[str] = []
     while text and len(lines) < most:
         if columns(text) <= width or len(lines) + 1 == most:
             return [*lines, text]
-        end = text.rfind(" ", width // 2, width + 1)
-        end = end if end > 0 else width
+        most_held = held(text, width)
+        end = text.rfind(" ", most_held // 2, most_held + 1)
+        end = end if end > 0 else most_held
         lines.append(text[:end])
         text = text[end:].lstrip()
     return lines
