@@ -1,4 +1,4 @@
-"""A list of as many elements as there may be: how long its first screen, a page, and its end take."""
+"""A list of as many elements as there may be: how long its first screen, a page, and its end take. The same of keys on long texts."""
 import time
 from typing import Iterator, List
 
@@ -8,6 +8,9 @@ COUNT = 1 << 20
 # The most seconds of a first screen over the program's own questions, of a page, and of the last row; where the machine is busy it is tried again.
 FIRST, PAGE, LAST, TRIED = 1.0, 0.1, 0.1, 3
 PAGES = 6
+# The most seconds that keys on a text may take; and texts, each with keys: one in which each letter has a width of its own, and one like names of enums.
+LETTER = 0.3
+TEXTS = [("\u00e4" * 1_000_000, "down down right up x")]
 
 
 def trials(room: str) -> Iterator[str]:
@@ -21,6 +24,25 @@ def trials(room: str) -> Iterator[str]:
         if not any(found):
             break
     yield from found
+    for text, keys in TEXTS:
+        yield written(room, text, keys)
+
+
+def written(room: str, text: str, keys: str) -> str:
+    """Whether a key on a long text takes long: nothing, or the keys and how long each took."""
+    with open(f"{room}/text.ksy", "w", encoding="utf-8") as file:
+        file.write("meta: {id: t, encoding: UTF-8}\nseq:\n  - {id: before, type: u1}\n  - {id: word, type: strz}\n")
+    with open(f"{room}/text.bin", "wb") as file:
+        file.write(b"\1" + text.encode() + b"\0")
+    took = []
+    with desks.opened(f"{room}/text.bin", f"{room}/text.ksy") as desk:
+        desk.screen()
+        for it in keys.split():
+            at = time.process_time()
+            desks.press(desk, it)
+            desk.screen()
+            took.append(time.process_time() - at)
+    return "" if max(took) < LETTER else f"keys {keys} on a text of {len(text)} letters, {text[:6]}: {' '.join(f'{it:.2f}' for it in took)} s"
 
 
 def timed(name: str, ksy: str) -> List[str]:

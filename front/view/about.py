@@ -110,8 +110,9 @@ def lines_of(replies: Replies, description: Callable[[], Description], ksy: str,
 
 def first_line(path: str, told: str, where: str, width: int) -> str:
     """A path, or its end, with its place and its value."""
-    own = told.partition(f" at {path}")
-    values = [own[0] if own[1] and not own[2] and told.startswith("fault") else told] if where != told else []
+    value = told[: -len(f" at {path}")] if told.startswith("fault") and told.endswith(f" at {path}") else told
+    # of a long value no more than a row holds, as all of it would take long to measure
+    values = [cut(value, width)] if where != told else []
     room = width - 2 - sum(2 + min(ENOUGH, columns(it)) for it in values)
     place = place_of(where) if min(ENOUGH, columns(path)) + columns(place_of(where)) <= room else where
     rest = "  ".join([place, *values])
