@@ -10,7 +10,7 @@ from front.hints.node import Node
 from front.look import Explorer
 
 NUMBER = re.compile(r"-?(?:0[xX][0-9a-fA-F_]+|0[bB][01_]+|[0-9][0-9_]*)\Z")
-MEMBER = re.compile(r"(\S+::\S+) \(-?[0-9]+\)\Z")
+MEMBER = re.compile(r"(?!\")(\S+::\S+) \(-?[0-9]+\)\Z")
 
 
 class Switch:

@@ -42,7 +42,7 @@ def is_above(letter: str) -> bool:
 
 def hexed(reply: str) -> str:
     """A reply with its number as hexadecimal digits, if it is an integer or a member of an enum."""
-    found = re.fullmatch(r"(-?)([0-9]+)|(\S+::\S+ \()(-?)([0-9]+)\)", reply)
+    found = re.fullmatch(r"(-?)([0-9]+)|((?!\")\S+::\S+ \()(-?)([0-9]+)\)", reply)
     if not found:
         return reply
     if found[2]:

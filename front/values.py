@@ -58,7 +58,7 @@ class Writer:
 
     def enum(self, path: str, told: str) -> str:
         """The name of the enum of the value at a path, by the reply of `get`, or by the description where that is a fault; the empty text where it has none."""
-        if re.fullmatch(r"\S+::\S+ \(-?[0-9]+\)", told):
+        if re.fullmatch(r"(?!\")\S+::\S+ \(-?[0-9]+\)", told):
             return told.partition("::")[0]
         member = self.member(path) if told.startswith("fault ") else None
         return member.value.said("enum").rpartition("::")[2] if member else ""

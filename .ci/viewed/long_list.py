@@ -10,7 +10,7 @@ FIRST, PAGE, LAST, TRIED = 1.0, 0.1, 0.1, 3
 PAGES = 6
 # The most seconds that keys on a text may take; and texts, each with keys: one in which each letter has a width of its own, and one like names of enums.
 LETTER = 0.3
-TEXTS = [("\u00e4" * 1_000_000, "down down right up x")]
+TEXTS = [("\u00e4" * 1_000_000, "down down right up x"), ("::a" * 10_000, 'down down e :"x" enter')]
 
 
 def trials(room: str) -> Iterator[str]:

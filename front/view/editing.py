@@ -27,7 +27,7 @@ SHOWN = 60
 def ask_value(desk: "Desk") -> None:
     """Asks for a new value of the chosen node."""
     told = desk.replies.ask(f"get {desk.state.path}") if desk.state.is_node else ""
-    found = re.fullmatch(r"(\S+::[a-z_]\S*) \(-?\d+\)|\S+::\? \((-?\d+)\)|hex (.*)", told)
+    found = re.fullmatch(r"(?!\")(?:(\S+::[a-z_]\S*) \(-?\d+\)|\S+::\? \((-?\d+)\)|hex (.*))", told)
     text = next((it for it in found.groups() if it is not None), "") if found else told
     if not desk.state.is_node or told.startswith(("object ", "[")):
         desk.state = desk.state.told("nothing to edit here: choose a value, or write over its bytes (Tab)")
