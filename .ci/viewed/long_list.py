@@ -12,6 +12,14 @@ PAGES = 6
 LETTER = 0.3
 TEXTS = [("\u00e4" * 1_000_000, "down down right up x"), ("::a" * 10_000, 'down down e :"x" enter')]
 
+# The last two bytes of a file, which may be faults behind a long list; keys; and the path and the message then.
+GIVEN_UP = "nothing up to /xs/"
+WALKS = [
+    (1, "f", ("/", GIVEN_UP)), (1, "f*5", ("/one", "")), (1, "f*6", ("/two", "")), (1, "/ :one enter", ("/", GIVEN_UP)),
+    (1, "/ :one enter n*4", ("/one", "a name")), (1, "/ :aa enter home f n", ("/xs/0/aa", "a name")), (1, "/ :one enter f n*4", ("/one", "a name")),
+    (5, "f*5", ("/", "no faults")), (5, "down right down f*6", ("/xs/0", "no faults")), (5, "tab F*5", ("/", "no faults")),
+]
+
 
 def trials(room: str) -> Iterator[str]:
     """What takes too long, or is wrong, in a view of a long list; and what it took."""
@@ -26,6 +34,22 @@ def trials(room: str) -> Iterator[str]:
     yield from found
     for text, keys in TEXTS:
         yield written(room, text, keys)
+    yield from walked(room)
+
+
+def walked(room: str) -> Iterator[str]:
+    """Walks that are given up in a long list: the key that is told goes on, finds what is behind the list, and ends where nothing is."""
+    with open(f"{room}/walk.ksy", "w", encoding="utf-8") as file:
+        file.write("meta: {id: t}\nseq:\n  - {id: xs, type: rec, repeat: expr, repeat-expr: 600}\n  - {id: one, type: u1, valid: 5}\n"
+                   "  - {id: two, type: u1, valid: 5}\ntypes:\n  rec:\n    seq:\n      - {id: aa, type: u1}\n")
+    for last, script, wanted in WALKS:
+        with open(f"{room}/walk.bin", "wb") as file:
+            file.write(b"\1" * 600 + bytes([last, last]))
+        with desks.opened(f"{room}/walk.bin", f"{room}/walk.ksy") as desk:
+            desk.most_walked = 500
+            desks.play(desk, script)
+            own = desk.state.path, desk.state.message
+            yield "" if own[0] == wanted[0] and own[1].startswith(wanted[1]) else f"{script} with {last} at the end: {own}"
 
 
 def written(room: str, text: str, keys: str) -> str:

@@ -30,6 +30,8 @@ HEX = "0123456789abcdef"
 QUIET = ("escape", "interrupt", "backspace")
 # Keys that begin a line that is typed. While one is typed, what was given up isn't asked again.
 TYPING = ("g", "/", "s", "i")
+# Keys that go on with a walk that was given up.
+WALKING = ("f", "F", "n")
 FAILURES = (Died, Misread, NoJournal, NotSaved, OSError, Refused, Unwritable)
 
 
@@ -42,7 +44,9 @@ class Desk:
         self.opened, self.notes, self.most_walked = opened, notes, most_walked
         self.replies = Replies(lambda: self.opened.keeper.session, opened.signals, looked)
         self.state = State(rows=rows, columns=columns)
-        self.is_warned, self.status, self.resumed = False, 0, ""
+        self.is_warned, self.status = False, 0
+        # the walk that was given up last, by the key that goes on with it
+        self.given_up: Dict[str, walk.GivenUp] = {}
         # the number of the state that is at OUT
         self.at_out: Optional[int] = 0 if opened.out is not None and opened.saver.is_same(opened.out, opened.file) else None
         left = greetings(opened.keeper, "R takes them up, D removes them")
@@ -94,20 +98,21 @@ class Desk:
         before = self.state
         self.replies.is_given_up = self.replies.is_given_up and (key != "enter" if before.typed else key in TYPING)
         self.state = replace(before, message="")
+        if key not in WALKING:
+            self.given_up = {}
         try:
             self.done(key)
-            self.state = moves.settled(self.state, self.replies, before)
+            self.state, self.given_up = moves.settled(self.state, self.replies, before), {}
         except Interrupted:
             self.give_up()
         except walk.GivenUp as error:
-            self.resumed = error.path
-            self.state = replace(before, typed=None).told(f"nothing up to {error.path}, in {self.most_walked} answers: the same key goes on from there")
+            again = key if key in WALKING else "n"
+            self.given_up = {again.lower(): error}
+            self.state = replace(before, typed=None, sought=self.state.sought).told(f"nothing up to {error.path}, in {self.most_walked} answers: {again} goes on")
         except Spent:
             self.state = self.state.told("given up: too many questions")
         except FAILURES as error:
             self.state = self.state.told(by_keys(str(error)))
-        if key not in ("f", "F", "n"):
-            self.resumed = ""
         self.is_warned = self.is_warned and key in ("q", "ctrl-d", "enter", "resize")
 
     def resize(self, rows: int, columns: int) -> None:

@@ -17,7 +17,7 @@ if TYPE_CHECKING:
 def fault(desk: "Desk") -> None:
     """Goes to the next fault."""
     was = desk.state.path
-    found = walk.next_fault(desk.replies, desk.resumed or was, desk.most_walked)
+    found = walk.next_fault(desk.replies, was, desk.most_walked, desk.given_up.get("f"))
     if found is None:
         is_here = walk.is_own_fault(desk.replies, was)
         desk.state = desk.state.told("no other fault" if is_here else "no faults")
@@ -101,7 +101,7 @@ def is_found(desk: "Desk", sought: Sought) -> bool:
     """Goes to the next thing of a kind; whether there is one."""
     state = desk.state
     if sought.kind == "name":
-        path: Optional[str] = walk.next_named(desk.replies, desk.resumed or state.path, sought.text, desk.most_walked)
+        path: Optional[str] = walk.next_named(desk.replies, state.path, sought.text, desk.most_walked, desk.given_up.get("n"))
         if path is None:
             return False
         desk.go(path)

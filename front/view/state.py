@@ -36,7 +36,7 @@ class Typed:
 
 @dataclass(frozen=True)
 class Sought:
-    """What was searched for last, as which kind, and from which path on the search was given up, if it was."""
+    """What was searched for last, as which kind, and as which bytes."""
 
     text: str
     kind: str

@@ -11,27 +11,26 @@ MOST_ASKED, TOGETHER, PIECE = 400_000, 256, 1 << 18
 
 
 class GivenUp(Exception):
-    """A walk that asked as many questions as it may; the path that it got to."""
+    """A walk that asked as many questions as it may; the path that it got to, and whether it had come to the root by then."""
 
-    def __init__(self, path: str) -> None:
+    def __init__(self, path: str, is_round: bool) -> None:
         super().__init__(path)
-        self.path = path
+        self.path, self.is_round = path, is_round
 
 
-def paths_after(replies: Replies, path: str, most: int = MOST_ASKED) -> Iterator[str]:
-    """All paths below a row of a tree in which all is open, and then those from the root on down to it."""
+def paths_after(replies: Replies, path: str, most: int = MOST_ASKED, given_up: Optional[GivenUp] = None) -> Iterator[str]:
+    """All paths below a row of a tree in which all is open, and then those from the root on down to it; or those of them that a walk didn't get to."""
     tree, until = Tree(replies, None), replies.asked + most
-    for begin, end in ((path, None), ("", path)):
-        at: Optional[str] = begin or "/"
-        if not begin:
-            yield "/"
-        while at is not None and (begin or at != end):
-            if replies.asked > until:
-                raise GivenUp(at)
-            ahead(replies, at)
-            at = tree.next(at, is_open_value(replies, at) and not is_inside_itself(replies, at))
-            if at is not None:
-                yield at
+    at, is_round = (given_up.path, given_up.is_round) if given_up else (path, False)
+    while not is_round or at != path:
+        if replies.asked > until:
+            raise GivenUp(at, is_round)
+        ahead(replies, at)
+        found = tree.next(at, is_open_value(replies, at) and not is_inside_itself(replies, at))
+        if found is None and is_round:
+            return
+        at, is_round = found or "/", is_round or found is None
+        yield at
 
 
 def is_open_value(replies: Replies, path: str) -> bool:
@@ -59,9 +58,9 @@ def ahead(replies: Replies, path: str) -> None:
             replies.ask_all([f"get {front if front != '/' else ''}/{it}" for it in range(int(step), min(int(found[1]), int(step) + TOGETHER))])
 
 
-def next_fault(replies: Replies, path: str, most: int = MOST_ASKED) -> Optional[str]:
+def next_fault(replies: Replies, path: str, most: int = MOST_ASKED, given_up: Optional[GivenUp] = None) -> Optional[str]:
     """The next path below a row, or else from the root on, whose fault arose there, or at a path that the tree hasn't."""
-    for it in paths_after(replies, path, most):
+    for it in paths_after(replies, path, most, given_up):
         if is_own_fault(replies, it):
             return it
     return None
@@ -75,9 +74,9 @@ def is_own_fault(replies: Replies, path: str) -> bool:
     return not Tree(replies, None).has(found[2])
 
 
-def next_named(replies: Replies, path: str, text: str, most: int = MOST_ASKED) -> Optional[str]:
+def next_named(replies: Replies, path: str, text: str, most: int = MOST_ASKED, given_up: Optional[GivenUp] = None) -> Optional[str]:
     """The next path below a row, or else from the root on, whose last step has a text in it."""
-    return next((it for it in paths_after(replies, path, most) if text in it.rpartition("/")[2]), None)
+    return next((it for it in paths_after(replies, path, most, given_up) if text in it.rpartition("/")[2]), None)
 
 
 def next_bytes(replies: Replies, wanted: bytes, place: int) -> Optional[Tuple[int, int]]:
