@@ -317,6 +317,15 @@ def unknown_escapes(_room: str) -> Iterator[str]:
     yield "" if terminal.end() == 0 else f"unknown keys: status {terminal.status}"
 
 
+def sizeless(_room: str) -> Iterator[str]:
+    """A terminal that doesn't tell its size: it is taken for one of 24 rows and 80 columns."""
+    terminal = Terminal(ICON, 0, 0)
+    terminal.reader.resize(24, 80)
+    yield terminal.shown("", "? help  q quit")
+    terminal.type("q")
+    yield "" if terminal.end() == 0 else f"a terminal without a size: status {terminal.status}"
+
+
 def other_locale(room: str) -> Iterator[str]:
     """A locale that this machine hasn't: letters are as in UTF-8."""
     file, ksy = f"{room}/letters.bin", f"{room}/letters.ksy"
@@ -336,7 +345,7 @@ def write(path: str, content: bytes) -> None:
 
 def trials(room: str) -> Iterator[str]:
     """All trials on terminals. No session is left to the next one, but those that end in `broken_off` to `recovered`."""
-    for it in (repaired, without_colour, as_drawn, broken_off, recovered, refused, nameless, unknown_escapes, other_locale):
+    for it in (repaired, without_colour, as_drawn, broken_off, recovered, refused, nameless, unknown_escapes, sizeless, other_locale):
         if it is not recovered:
             fresh.apart(room)
         yield from it(room)

@@ -114,12 +114,12 @@ class Terminal:
         return curses.has_colors()
 
     def size(self) -> Tuple[int, int]:
-        """How many rows and columns the terminal has now."""
+        """How many rows and columns the terminal has now. One that tells none, as on a serial line, has those that curses takes it to have."""
         try:
             found = os.get_terminal_size(1)
         except OSError as error:
             raise Ending(signal.SIGHUP) from error
-        rows, columns = max(1, found.lines), max(1, found.columns)
+        rows, columns = (found.lines, found.columns) if found.lines and found.columns else self.window.getmaxyx()
         if (rows, columns) != self.window.getmaxyx():
             curses.resizeterm(rows, columns)
         return rows, columns
