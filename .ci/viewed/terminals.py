@@ -21,6 +21,8 @@ VIEW = f"{TOP}/bin/ksv-view"
 ICON = [f"{TOP}/examples/ico.bin", f"{TOP}/examples/ico.ksy"]
 # How long a screen is awaited, in seconds, how long nothing may come for it to be whole, and how long the end is awaited.
 PATIENCE, QUIET, END = 60, 0.15, 30
+# A shell that goes on with the view after a line, where that was stopped.
+JOB = '"$0" "$@"; echo stopped; read line; fg'
 # How often a key is pressed that has no name.
 NAMELESS = 6
 # What is told where something takes long, after how many seconds at the most (the best of some), and how often that is looked at.
@@ -42,12 +44,13 @@ SIZES = [(24, 80), (10, 40), (30, 132), (12, 60), (24, 80), (50, 100)]
 class Terminal:
     """A view on a terminal of its own."""
 
-    def __init__(self, words: List[str], rows: int = 24, columns: int = 80, **environ: str) -> None:
+    def __init__(self, words: List[str], rows: int = 24, columns: int = 80, is_job: bool = False, **environ: str) -> None:
         self.reader, self.size, self.status = Reader(rows, columns), (0, 0), None  # type: Reader, Tuple[int, int], Optional[int]
         self.process, self.ours = pty.fork()
         if self.process == 0:
             os.environ.update({"TERM": "xterm", "LC_ALL": "C.UTF-8", **environ})
-            os.execv(sys.executable, [sys.executable, "-B", VIEW, *words])
+            begun = [*(["/bin/sh", "-m", "-c", JOB] if is_job else []), sys.executable, "-B", VIEW, *words]
+            os.execv(begun[0], begun)
         self.sized(rows, columns)
 
     def sized(self, rows: int, columns: int) -> None:
@@ -326,6 +329,18 @@ def sizeless(_room: str) -> Iterator[str]:
     yield "" if terminal.end() == 0 else f"a terminal without a size: status {terminal.status}"
 
 
+def stopped(_room: str) -> Iterator[str]:
+    """A view that is stopped by ctrl-Z gives the terminal back; where the terminal has another size when it goes on, it has that size at once."""
+    terminal = Terminal(ICON, is_job=True)
+    yield terminal.shown("", "? help  q quit")
+    yield terminal.shown("\x1a", "stopped")
+    yield "" if not terminal.reader.is_alternate else "ctrl-Z: the terminal isn't given back"
+    terminal.sized(30, 132)
+    yield terminal.shown("\r", "? help  q quit  f fault  e edit  s save  u undo  Tab bytes  / search  g go to  arrows walk  r read ksy again")
+    terminal.type("q")
+    yield "" if terminal.end() == 0 else f"ctrl-Z: status {terminal.status}"
+
+
 def other_locale(room: str) -> Iterator[str]:
     """A locale that this machine hasn't: letters are as in UTF-8."""
     file, ksy = f"{room}/letters.bin", f"{room}/letters.ksy"
@@ -345,7 +360,7 @@ def write(path: str, content: bytes) -> None:
 
 def trials(room: str) -> Iterator[str]:
     """All trials on terminals. No session is left to the next one, but those that end in `broken_off` to `recovered`."""
-    for it in (repaired, without_colour, as_drawn, broken_off, recovered, refused, nameless, unknown_escapes, sizeless, other_locale):
+    for it in (repaired, without_colour, as_drawn, broken_off, recovered, refused, nameless, unknown_escapes, sizeless, stopped, other_locale):
         if it is not recovered:
             fresh.apart(room)
         yield from it(room)

@@ -29,6 +29,8 @@ LETTERS: Dict[str, str] = {
 }
 # What a terminal sends for a key that its description hasn't, as ctrl-Right on many: some of it would be digits over bytes.
 ESCAPE = re.compile(r"\x1b(?:\[[0-?]*[ -/]*[@-~]|O[0-9;]*[@-~])")
+# After these signals the terminal may have another size: while the view was stopped, none told of it.
+RESIZED = (signal.SIGWINCH, signal.SIGCONT)
 # What each word of a style is, without colours and with them.
 ATTRIBUTES = {
     "chosen": curses.A_REVERSE, "mate": curses.A_BOLD, "cursor": curses.A_REVERSE | curses.A_BOLD, "marked": curses.A_BOLD, "found": curses.A_REVERSE,
@@ -74,7 +76,8 @@ class Terminal:
             self.window.keypad(True)
             self.window.nodelay(True)
             self.begin_colours()
-            signal.signal(signal.SIGWINCH, lambda *_: None)
+            for it in RESIZED:
+                signal.signal(it, lambda *_: None)
             self.signals.patience, self.signals.sign = PATIENCE, self.sign
         except BaseException:
             self.give_back()
@@ -83,7 +86,8 @@ class Terminal:
 
     def __exit__(self, *_: object) -> None:
         self.signals.patience, self.signals.sign = None, lambda: None
-        signal.signal(signal.SIGWINCH, signal.SIG_DFL)
+        for it in RESIZED:
+            signal.signal(it, signal.SIG_DFL)
         self.give_back()
 
     @staticmethod
