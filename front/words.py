@@ -6,7 +6,7 @@ import re
 from dataclasses import dataclass
 from typing import List, Optional, Tuple
 
-ESCAPES = {"\\": b"\\", '"': b'"', "n": b"\n", "r": b"\r", "t": b"\t", "0": b"\0"}
+ESCAPES = {"\\": b"\\", '"': b'"', "n": b"\n", "r": b"\r", "t": b"\t", "b": b"\b", "f": b"\f", "0": b"\0"}
 # The greatest place, count or number that ksv reads, and how many digits it has.
 GREATEST, DIGITS = (1 << 64) - 1, 20
 
@@ -82,7 +82,7 @@ def escaped(line: str, at: int) -> Tuple[bytes, int]:
         if letter == "u" and 0xD800 <= code <= 0xDFFF:
             raise Misread(f"\\u{digits} is no letter by itself")
         return (bytes([code]) if letter == "x" else chr(code).encode()), at + 1 + count
-    raise Misread('in quotes write \\\\ \\" \\n \\r \\t \\0 \\x1f or \\u00e4 for a letter after \\')
+    raise Misread('in quotes write \\\\ \\" \\n \\r \\t \\b \\f \\0 \\x1f or \\u00e4 for a letter after \\')
 
 
 def number(word: Word) -> str:

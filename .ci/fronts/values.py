@@ -12,7 +12,7 @@ UNCLOSED, ESCAPE, SPACE = "a quote isn't closed", "in quotes write", "a space is
 WORDS: List[Tuple[str, object]] = [
     ("", []), (" \t\r", []), ("a", ["a"]), ("a b", ["a", "b"]), ("  a \t\t b\t", ["a", "b"]), ("a\rb\r", ["a", "b"]), ("a\x0bb a\xa0b", ["a\x0bb", "a\xa0b"]), ("a\u2003b", ["a\u2003b"]),
     ('"a b"', [b"a b"]), ('"A  B" c', [b"A  B", "c"]), ('"\t"', [b"\t"]), ('""', [b""]), ('"" ""', [b"", b""]), ('a"b', ['a"b']), ('a"b c"', ['a"b', 'c"']),
-    (r'"\\"', [b"\\"]), (r'"\""', [b'"']), (r'"\n\r\t\0"', [b"\n\r\t\0"]), (r'"\x00\xff\x1F"', [b"\x00\xff\x1f"]), (r'"\u00e4\u0000"', ["\u00e4\0".encode()]), ('"\u00e4\u4e2d"', ["\u00e4\u4e2d".encode()]),
+    (r'"\\"', [b"\\"]), (r'"\""', [b'"']), (r'"\n\r\t\b\f\0"', [b"\n\r\t\b\f\0"]), (r'"\x00\xff\x1F"', [b"\x00\xff\x1f"]), (r'"\u00e4\u0000"', ["\u00e4\0".encode()]), ('"\u00e4\u4e2d"', ["\u00e4\u4e2d".encode()]),
     ('"\udcff"', [b"\xff"]), (r'"\\n"', [b"\\n"]), (r'"\x4142"', [b"A42"]), ("\\n", ["\\n"]), ("'a b'", ["'a", "b'"]), ("# a", ["#", "a"]), ("\0 a", ["\0", "a"]),
     ('"', UNCLOSED), ('"a', UNCLOSED), ('a "b', UNCLOSED), (r'"\"', UNCLOSED), ('"a" "', UNCLOSED), ('"a"b', SPACE), ('"a""b"', SPACE),
     (r'"\a"', ESCAPE), ('"\\', ESCAPE), (r'"\x1"', ESCAPE), (r'"\xg1"', ESCAPE), (r'"\u12"', ESCAPE), (r'"\u123"', ESCAPE), ('"\\x\u0661\u0662"', ESCAPE), (r'"\X41"', ESCAPE), (r'"\ "', ESCAPE), (r'"\'"', ESCAPE),
