@@ -1,13 +1,14 @@
 """Tables of what the parts of the view yield that need no session: rows of cells, typed lines, numbers, layouts of bytes, names in expressions."""
 import struct
-from typing import Iterator, List
+from typing import Iterator, List, Optional, Tuple
 
 from front.texts import columns
 from front.view import about, readings
 from front.view.cells import Span, cut, fitted, flowed, plain, wrapped
+from front.view.draw import last_rows
 from front.view.octets import Grid, between
 from front.view.sources import closing
-from front.view.state import Typed, fronts, parent
+from front.view.state import State, Typed, fronts, parent
 
 CUTS = [("abc", 3, "abc"), ("abcd", 3, "ab~"), ("abcd", 1, "~"), ("abcd", 0, ""), ("", 0, ""), ("a\nb", 20, "a\\u000ab"), ("ab\x1b", 4, "ab\\~"),
         ("中文字", 6, "中文字"), ("中文字", 5, "中文~"), ("中文字", 4, "中~"), ("e\u0301e\u0301x", 2, "e\u0301~"), ("\udcff", 4, "\\xff")]
@@ -21,6 +22,9 @@ FLOWS = [(["aa", "bb", "cc"], 6, ["aa  bb", "cc"]), (["aa", "bb"], 5, ["aa", "bb
 TYPED = [("a b", "ab", 2), ("a b left c", "acb", 2), ("a b home c", "cab", 1), ("a b home delete", "b", 0), ("a b backspace", "a", 1), ("backspace", "", 0),
          ("a left left right right right b", "ab", 2), ("a b left ctrl-u", "b", 0), ("a up tab b", "ab", 2), ("a home end b", "ab", 2), ("ä", "ä", 1),
          ("delete", "", 0)]
+# Typed texts, the place of the cursor in them, and what a row of 12 columns shows of them, with the cursor's column.
+SHOWN = [("abcdefghij", 10, "x: cdefghij ", 11), ("abcdefghij", 0, "x: abcdefgh ", 3), ("中文字符中", 5, "x: 文字符中 ", 11), ("中文字符中", 1, "x: 中文字符 ", 5),
+         ("a中文字符b", 6, "x: 文字符b  ", 10), ("", 0, "x:          ", 3)]
 # The first bytes of a file, a form and an order, and the number: by hand, and by IEEE 754.
 NUMBERS = [("ff", "u1", "le", "255"), ("ff", "s1", "be", "-1"), ("8000", "u2", "be", "32768"), ("8000", "u2", "le", "128"), ("0080", "s2", "le", "-32768"),
            ("01020304", "u4", "be", "16909060"), ("01020304", "u4", "le", "67305985"), ("ffffffff", "s4", "le", "-1"), ("3f800000", "f4", "be", "1"),
@@ -52,6 +56,12 @@ def typed(line: str) -> Typed:
     return found
 
 
+def shown(text: str, at: int) -> Tuple[str, Optional[int]]:
+    """The row of a text that is typed, and the column of the cursor."""
+    rows, column = last_rows(State(columns=12, typed=Typed("x", text, at)), False, 3)
+    return plain(rows[0]), column
+
+
 def different(what: str, pairs: List[tuple]) -> Iterator[str]:
     """For each pair of values nothing, or that they differ."""
     for own, wanted in pairs:
@@ -66,6 +76,7 @@ def trials() -> Iterator[str]:
     yield from different("fitted", [(plain(fitted([Span(it) for it in spans], width)), wanted) for spans, width, wanted in ROWS])
     yield from different("flowed", [(flowed(pieces, width), wanted) for pieces, width, wanted in FLOWS])
     yield from different("typed", [((typed(line).text, typed(line).at), (text, at)) for line, text, at in TYPED])
+    yield from different("shown while typed", [(shown(text, at), (wanted, column)) for text, at, wanted, column in SHOWN])
     offered = Typed("x", "old", 3, True)
     yield from different("offered", [(offered.after("a").text, "a"), (offered.after("left").after("a").text, "olad"), (offered.after("backspace").text, "ol")])
     yield from different("numbers", [(readings.value_of(bytes.fromhex(some), form, order), wanted) for some, form, order, wanted in NUMBERS])

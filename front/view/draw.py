@@ -7,7 +7,7 @@ from front.description import Description
 from front.look import span_of
 from front.texts import columns, visible
 from front.view import about, octets, readings
-from front.view.cells import Row, Span, cut, fitted, wrapped
+from front.view.cells import Row, Span, cut, fitted, held, wrapped
 from front.view.help import BACK, KEYS, TITLE, keys_of, lines_of
 from front.view.octets import Grid
 from front.view.replies import Replies
@@ -202,7 +202,10 @@ def last_rows(state: State, is_calculated: bool, most: int) -> Tuple[List[Row], 
         room = max(1, state.columns - columns(label) - 1)
         text = "".join(it if it.isprintable() else "?" for it in state.typed.text)
         start = max(0, state.typed.at - room)
-        row = fitted([Span(label, "key"), Span(text[start : start + room], "offered" if state.typed.is_offered else "plain")], state.columns)
+        while columns(text[start : state.typed.at]) > room:
+            start += 1
+        shown_text = text[start:][: held(text[start:], room)]
+        row = fitted([Span(label, "key"), Span(shown_text, "offered" if state.typed.is_offered else "plain")], state.columns)
         return [row], min(state.columns - 1, columns(label) + columns(text[start : state.typed.at]))
     if state.message:
         return [fitted([Span(it, "message")], state.columns, "message") for it in wrapped(visible(state.message), state.columns, most)], None
