@@ -342,7 +342,7 @@ def stopped(_room: str) -> Iterator[str]:
 
 
 def other_locale(room: str) -> Iterator[str]:
-    """A locale that this machine hasn't: letters are as in UTF-8."""
+    """A locale that this machine hasn't: letters are as in UTF-8. One that hasn't the letters: each is `?` in as many columns."""
     file, ksy = f"{room}/letters.bin", f"{room}/letters.ksy"
     write(ksy, b"meta: {id: t, encoding: UTF-8}\nseq: [{id: word, type: strz}]\n")
     write(file, "gr\u00fc\u00dfe \u4e2d".encode() + b"\0")
@@ -350,6 +350,10 @@ def other_locale(room: str) -> Iterator[str]:
     yield terminal.shown("", "gr\u00fc\u00dfe \u4e2d")
     terminal.type("q")
     yield "" if terminal.end() == 0 else f"a locale that isn't there: status {terminal.status}"
+    terminal = Terminal([file, ksy], LC_ALL="C")
+    yield terminal.shown("", '      word  "gr??e ??"                 0-c')
+    terminal.type("q")
+    yield "" if terminal.end() == 0 else f"LC_ALL=C: status {terminal.status}"
 
 
 def write(path: str, content: bytes) -> None:

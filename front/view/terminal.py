@@ -1,6 +1,7 @@
 """The view on a terminal, by curses: keys from it, rows of cells to it. Nothing is decided here."""
 import curses
 import fcntl
+import locale
 import os
 import re
 import select
@@ -11,7 +12,8 @@ import time
 from typing import Dict, List, Optional, Tuple, Union
 
 from front.signals import Ending, Interrupted, Signals
-from front.view.cells import Row, Span, fitted, plain
+from front.texts import columns
+from front.view.cells import Row, Span, fitted
 from front.view.desk import Desk
 from front.view.draw import Screen
 
@@ -48,6 +50,22 @@ def named(keys: List[Union[int, str]]) -> List[str]:
     return [it for it in names if it]
 
 
+def spelt(text: str, letters: str) -> str:
+    """A text in the letters of an encoding: one that it hasn't is `?`, in as many columns."""
+    return text if text.isascii() else "".join(it if has_letter(letters, it) else "?" * columns(it) for it in text)
+
+
+def has_letter(letters: str, letter: str) -> bool:
+    """Whether an encoding has a letter; one that isn't known may have each."""
+    try:
+        letter.encode(letters)
+    except UnicodeEncodeError:
+        return False
+    except LookupError:
+        return True
+    return True
+
+
 class NoTerminal(Exception):
     """A terminal that can't be used, and why."""
 
@@ -59,6 +77,8 @@ class Terminal:
         self.signals, self.desk = signals, None  # type: Signals, Optional[Desk]
         self.began, self.last, self.empty = time.monotonic(), 0.0, 0
         self.colours: Dict[str, int] = {}
+        # the encoding of the person's locale
+        self.letters = locale.nl_langinfo(locale.CODESET)
 
     def __enter__(self) -> "Terminal":
         if hasattr(curses, "set_escdelay"):
@@ -210,11 +230,9 @@ class Terminal:
         try:
             self.window.move(line, 0)
             for it in row:
-                self.window.addstr(it.text, self.style(it.style))
+                self.window.addstr(spelt(it.text, self.letters), self.style(it.style))
         except curses.error:
             pass
-        except UnicodeEncodeError:
-            self.put(line, (Span(plain(row).encode("ascii", "replace").decode()),))
 
     def point(self, cursor: Optional[Tuple[int, int]]) -> None:
         """Shows the terminal's cursor, or hides it."""
