@@ -29,7 +29,8 @@ def trials() -> Iterator[str]:
     with tempfile.TemporaryDirectory(prefix="ksv-view-leave-") as room, desks.inside(room):
         fresh.apart(room)
         warned, gone = "edits aren't saved: s saves them, q once more loses them", "left 0 False"
-        rows = [("q", gone), (f"{EDIT} q", warned), (f"{EDIT} q q", gone), (f"{EDIT} q right q", warned), (f"{EDIT} s ctrl-u :OUT enter q", gone),
+        rows = [("q", gone), (f"{EDIT} q", warned), (f"{EDIT} q q", gone), (f"{EDIT} q right q", warned), (f"{EDIT} q enter q", warned),
+                (f"{EDIT} q resize=60x14 resize=80x24 q", gone), (f"{EDIT} s ctrl-u :OUT enter q", gone),
                 (f"{EDIT} s ctrl-u :OUT enter u q", warned), (f"{EDIT} u q", gone), (f"{EDIT} ctrl-d", warned)]
         for script, wanted in rows:
             own = left(script)

@@ -113,7 +113,7 @@ class Desk:
             self.state = self.state.told("given up: too many questions")
         except FAILURES as error:
             self.state = self.state.told(by_keys(str(error)))
-        self.is_warned = self.is_warned and key in ("q", "ctrl-d", "enter", "resize")
+        self.is_warned = self.is_warned and key in ("q", "ctrl-d")
 
     def resize(self, rows: int, columns: int) -> None:
         """Goes on with a screen of another size."""
