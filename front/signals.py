@@ -6,7 +6,7 @@ import os
 import signal
 from contextlib import contextmanager
 from types import FrameType
-from typing import Callable, Iterator, List, Optional
+from typing import Callable, Iterator, List, Optional, Tuple
 
 ENDING = (signal.SIGHUP, signal.SIGTERM)
 
@@ -24,9 +24,10 @@ class Ending(Exception):
 
 
 class Signals:
-    """What signals have asked for since they were looked at."""
+    """What signals have asked for since they were looked at, and which of them ask for the end."""
 
-    def __init__(self) -> None:
+    def __init__(self, ends: Tuple[int, ...] = ENDING) -> None:
+        self._ends = ends
         self.is_interrupted, self.ending, self.is_listening = False, 0, False
         # how long something is waited for, in seconds, until a sign is given that it goes on; and how it is given
         self.patience: Optional[float] = None
@@ -38,7 +39,7 @@ class Signals:
 
     def __enter__(self) -> "Signals":
         signal.set_wakeup_fd(self._told, warn_on_full_buffer=False)
-        for signum in (signal.SIGINT, signal.SIGALRM, *ENDING):
+        for signum in (signal.SIGINT, signal.SIGALRM, *self._ends):
             self._before.append((signum, signal.signal(signum, self._heard)))
         return self
 
@@ -53,7 +54,7 @@ class Signals:
         """Notes a signal; where a person's line is awaited, it ends the waiting."""
         if signum == signal.SIGINT:
             self.is_interrupted = True
-        elif signum in ENDING:
+        elif signum in self._ends:
             self.ending = self.ending or signum
         if self.is_listening:
             self.look()

@@ -341,6 +341,15 @@ def stopped(_room: str) -> Iterator[str]:
     yield "" if terminal.end() == 0 else f"ctrl-Z: status {terminal.status}"
 
 
+def ended_by_key(_room: str) -> Iterator[str]:
+    """A view that is ended by ctrl-\\ gives the terminal back."""
+    terminal = Terminal(ICON)
+    yield terminal.shown("", "? help  q quit")
+    terminal.type("\x1c")
+    status = terminal.end()
+    yield "" if status == 131 and not terminal.reader.is_alternate else f"ctrl-\\: status {status}, the terminal isn't given back"
+
+
 def other_locale(room: str) -> Iterator[str]:
     """A locale that this machine hasn't: letters are as in UTF-8. One that hasn't the letters: each is `?` in as many columns."""
     file, ksy = f"{room}/letters.bin", f"{room}/letters.ksy"
@@ -364,7 +373,7 @@ def write(path: str, content: bytes) -> None:
 
 def trials(room: str) -> Iterator[str]:
     """All trials on terminals. No session is left to the next one, but those that end in `broken_off` to `recovered`."""
-    for it in (repaired, without_colour, as_drawn, broken_off, recovered, refused, nameless, unknown_escapes, sizeless, stopped, other_locale):
+    for it in (repaired, without_colour, as_drawn, broken_off, recovered, refused, nameless, unknown_escapes, sizeless, stopped, ended_by_key, other_locale):
         if it is not recovered:
             fresh.apart(room)
         yield from it(room)

@@ -11,12 +11,14 @@ from typing import List, Optional, Tuple
 from front.edits import edits_of
 from front.opening import Opened, helped, looked_at, open_streams, told, words_of
 from front.session import Died, Refused
-from front.signals import Ending, Interrupted, Signals
+from front.signals import ENDING, Ending, Interrupted, Signals
 from front.view.filing import Leave
 from front.view.help import LINES
 from front.view.desk import Desk
 
 USAGE = "usage: ksv-view FILE KSY [--save OUT]"
+# Signals by which it ends. By ctrl-\ too: otherwise the terminal would keep its other screen, without a cursor.
+ENDS = (*ENDING, signal.SIGQUIT)
 
 
 def viewed(named: Tuple[str, str, Optional[str]], signals: Signals) -> int:
@@ -81,7 +83,7 @@ def main(words: List[str]) -> int:
         return 128 + signal.SIGINT
     if looked:
         return looked
-    with Signals() as signals:
+    with Signals(ENDS) as signals:
         try:
             return viewed(named, signals)
         except OSError as error:
