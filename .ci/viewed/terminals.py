@@ -350,6 +350,20 @@ def ended_by_key(_room: str) -> Iterator[str]:
     yield "" if status == 131 and not terminal.reader.is_alternate else f"ctrl-\\: status {status}, the terminal isn't given back"
 
 
+def repainted(_room: str) -> Iterator[str]:
+    """What something else puts on the terminal goes with ctrl-L; and a terminal that has another size for a moment has all that was cut off."""
+    terminal = Terminal(ICON)
+    wanted = terminal.until(lambda rows: rows[-1].startswith("? help"))
+    terminal.reader.feed(b"\x1b[5;3Helsewhere")
+    terminal.type(SENT["ctrl-l"])
+    yield terminal.is_as(wanted)
+    terminal.sized(5, 20)
+    terminal.sized(24, 80)
+    yield terminal.is_as(wanted)
+    terminal.type("q")
+    yield "" if terminal.end() == 0 else f"repainted: status {terminal.status}"
+
+
 def other_locale(room: str) -> Iterator[str]:
     """A locale that this machine hasn't: letters are as in UTF-8. One that hasn't the letters: each is `?` in as many columns."""
     file, ksy = f"{room}/letters.bin", f"{room}/letters.ksy"
@@ -373,7 +387,9 @@ def write(path: str, content: bytes) -> None:
 
 def trials(room: str) -> Iterator[str]:
     """All trials on terminals. No session is left to the next one, but those that end in `broken_off` to `recovered`."""
-    for it in (repaired, without_colour, as_drawn, broken_off, recovered, refused, nameless, unknown_escapes, sizeless, stopped, ended_by_key, other_locale):
+    every = (repaired, without_colour, as_drawn, broken_off, recovered, refused, nameless, unknown_escapes, sizeless, stopped, ended_by_key, repainted,
+             other_locale)
+    for it in every:
         if it is not recovered:
             fresh.apart(room)
         yield from it(room)

@@ -77,6 +77,8 @@ class Terminal:
         self.signals, self.desk = signals, None  # type: Signals, Optional[Desk]
         self.began, self.last, self.empty = time.monotonic(), 0.0, 0
         self.colours: Dict[str, int] = {}
+        # whether the terminal may have something else on it than what was put there
+        self.is_stale = False
         # the encoding of the person's locale
         self.letters = locale.nl_langinfo(locale.CODESET)
 
@@ -97,7 +99,7 @@ class Terminal:
             self.window.nodelay(True)
             self.begin_colours()
             for it in RESIZED:
-                signal.signal(it, lambda *_: None)
+                signal.signal(it, self.heard)
             self.signals.patience, self.signals.sign = PATIENCE, self.sign
         except BaseException:
             self.give_back()
@@ -155,12 +157,17 @@ class Terminal:
         while True:
             for key in self.keys():
                 self.begin()
+                self.is_stale = self.is_stale or key == "ctrl-l"
                 if key == "resize":
                     desk.resize(*self.size())
                 else:
                     desk.key(key)
             self.begin()
             self.show(desk.screen())
+
+    def heard(self, *_: object) -> None:
+        """Notes that the terminal has another size, or had one: what was cut off there isn't there any more."""
+        self.is_stale = True
 
     def begin(self) -> None:
         """Notes that something begins, of which a sign is given where it takes long."""
@@ -178,11 +185,11 @@ class Terminal:
         while not found:
             try:
                 with self.signals.listening():
-                    ready = [] if self.is_resized() else select.select([0, self.signals.wake], [], [])[0]
+                    ready = [] if self.is_stale or self.is_resized() else select.select([0, self.signals.wake], [], [])[0]
             except Interrupted:
                 return ["interrupt"]
             self.signals.drain()
-            if self.is_resized():
+            if self.is_stale or self.is_resized():
                 found.append("resize")
             if 0 in ready:
                 self.empty = 0 if self.num_waiting() else self.empty + 1
@@ -218,7 +225,10 @@ class Terminal:
         return found
 
     def show(self, screen: Screen) -> None:
-        """Puts a screen on the terminal."""
+        """Puts a screen on the terminal: what changed, or all of it where something else may be there."""
+        is_stale, self.is_stale = self.is_stale, False
+        if is_stale:
+            self.window.redrawwin()
         self.window.erase()
         for line, row in enumerate(screen.rows):
             self.put(line, row)
