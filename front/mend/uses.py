@@ -1,7 +1,7 @@
 """Where the values of members that are lost are used: in what is read, and in what is calculated."""
 from __future__ import annotations
 
-from typing import Dict, Iterable, List, NamedTuple, Set, Tuple
+from typing import Dict, Iterable, List, NamedTuple, Optional, Set, Tuple
 
 from front.hints import tokens
 from front.mend.whole import Body, Expression, Whole, expressions
@@ -18,19 +18,21 @@ class Uses(NamedTuple):
 
 
 def uses(whole: Whole, lost: Iterable[Key]) -> Uses:
-    """The expressions that may use members, by themselves or by what is calculated from them; a name after a point is taken for each member of that name."""
-    by_name: Dict[str, List[Tuple[Expression, bool]]] = {}
+    """The expressions that may use members, by themselves or by what is calculated from them. A name after a point is taken for each member of that name,
+    but right behind a cast for that of its type."""
+    by_name: Dict[str, List[Tuple[Expression, Optional[Body]]]] = {}
     for field in whole.fields:
         for one in expressions(field):
             for it in tokens.names(one.text):
                 if it.kind in ("member", "point", "call") and it.names:
-                    by_name.setdefault(it.names[0], []).append((one, it.kind == "member"))
+                    holder = field.body if it.kind == "member" else field.body.find(it.cast) if it.cast else None
+                    by_name.setdefault(it.names[0], []).append((one, holder))
     seen: Set[Key] = set(lost)
     rest, found, deciding, calculated = list(seen), set(), [], []
     while rest:
         body, name = rest.pop()
-        for one, is_bare in by_name.get(name, []):
-            if is_bare and one.field.body is not body or id(one.node) in found and one.key != "argument":
+        for one, holder in by_name.get(name, []):
+            if holder not in (None, body) or id(one.node) in found and one.key != "argument":
                 continue
             found.add(id(one.node))
             if one.key != "value":
