@@ -4,8 +4,8 @@ from __future__ import annotations
 from typing import List, Optional, Tuple
 
 from front.mend.change import Change, Edit, Found, Mark, Need
-from front.mend.uses import told, uses
-from front.mend.whole import Body, Field, Whole, span
+from front.mend.uses import calculated_marks, told, uses
+from front.mend.whole import Body, Field, Whole, span, told_at
 from front.mend.written import flow_without, without
 
 READ = ("ascii", "utf-8")
@@ -57,7 +57,7 @@ def raw(whole: Whole) -> Found:
     used = uses(whole, lost)
     if used.deciding:
         return Need(f"line {whole.line(used.deciding[0].node.at)}: a text in an encoding that isn't read decides what is read")
-    marks += [Mark(it.node.at, it.field.name, "uses bytes for a text") for it in used.calculated if it.node.mark not in ("|", ">")]
+    marks += calculated_marks(whole, used, "uses bytes for a text")
     return Change("only ASCII and UTF-8 are read: the bytes are, in place of the text", tuple(edits), tuple(marks), told(whole, used, "uses the bytes, and not the text"))
 
 
@@ -68,8 +68,9 @@ def as_bytes(whole: Whole, field: Field, encoding: str) -> Optional[Tuple[List[E
     if is_wide and is_ended and not is_sized:
         return None
     lost = ["type", "encoding"] + (["terminator", "consume", "include"] if is_wide and is_ended else [])
-    first = field.at if field.role == "instance" else next((it.at for it in field.node.pairs if it.key not in lost), field.at)
-    mark = Mark(first, field.name, f"was {field.said('type')} {encoding}")
+    first = None if field.role == "instance" else next((it for it in field.node.pairs if it.key not in lost), None)
+    at = told_at(whole.text, first.at, first.value) if first else field.at
+    mark = Mark(at, field.name, f"was {field.said('type')} {encoding}")
     adds = "terminator: 0" if field.said("type") == "strz" and not is_wide and "terminator" not in field.keys else ""
     if field.node.is_flow:
         return [flow_without(whole.text, field.node, lost, [adds] if adds else [])], [mark]

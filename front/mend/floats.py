@@ -6,7 +6,7 @@ from typing import Dict, List
 
 from front.hints import tokens
 from front.mend.change import Change, Edit, Found, Mark, Need
-from front.mend.uses import told, uses
+from front.mend.uses import calculated_marks, told, uses
 from front.mend.whole import Body, Whole, kinds, span
 from front.mend.written import without
 
@@ -39,7 +39,7 @@ def bits(whole: Whole) -> Found:
     used = uses(whole, lost)
     if used.deciding:
         return Need(f"line {whole.line(used.deciding[0].node.at)}: a float decides what is read")
-    marks += [Mark(it.node.at, it.field.name, "counts with a float's bits") for it in used.calculated if it.node.mark not in ("|", ">")]
+    marks += calculated_marks(whole, used, "counts with a float's bits")
     losses += told(whole, used, "counts with the bits of a float, and not with its value")
     return Change("floats aren't read: their bytes are, as integers", tuple(edits), tuple(marks), tuple(losses))
 

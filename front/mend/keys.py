@@ -8,7 +8,7 @@ from front.hints.kinds import Hint
 from front.hints.node import Node, Pair
 from front.mend.change import Change, Edit, Found, Mark, Need
 from front.mend.said import values
-from front.mend.whole import Field, Whole, keyed
+from front.mend.whole import Field, Whole, keyed, told_at
 from front.mend.written import without
 
 # How many keys that aren't known are looked at in one round.
@@ -53,7 +53,7 @@ def mended(whole: Whole) -> Found:
             written = name_for(hint)
             if written and written not in keyed(node):
                 edits.append(Edit(it.at, it.at + key_length(whole.text, it), written))
-                marks += [Mark(it.at, "", f"was {it.key}")] if not it.value.mark or it.value.mark not in "|>" else []
+                marks += [Mark(told_at(whole.text, it.at, it.value), "", f"was {it.key}")] if not it.value.mark or it.value.mark not in "|>" else []
             elif means_nothing(hint, role, it.key):
                 gone.append(it.key)
         found = without(whole.text, node, gone) if gone else None

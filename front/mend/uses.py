@@ -4,7 +4,8 @@ from __future__ import annotations
 from typing import Dict, Iterable, List, NamedTuple, Optional, Set, Tuple
 
 from front.hints import tokens
-from front.mend.whole import Body, Expression, Whole, expressions
+from front.mend.change import Mark
+from front.mend.whole import Body, Expression, Whole, expressions, told_at
 
 # A member: the type that has it, and its name.
 Key = Tuple[Body, str]
@@ -44,6 +45,11 @@ def uses(whole: Whole, lost: Iterable[Key]) -> Uses:
                 seen.add(key)
                 rest.append(key)
     return Uses(deciding, sorted(calculated, key=lambda it: it.node.at))
+
+
+def calculated_marks(whole: Whole, used: Uses, how: str) -> List[Mark]:
+    """The marks of what is calculated; a block text has none."""
+    return [Mark(told_at(whole.text, it.node.at, it.node), it.field.name, how) for it in used.calculated if it.node.mark not in ("|", ">")]
 
 
 def told(whole: Whole, used: Uses, how: str) -> Tuple[str, ...]:

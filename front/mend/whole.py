@@ -181,3 +181,8 @@ def extent(text: str, node: Node) -> Tuple[int, int]:
     while len(lines) > 1 and (not lines[-1].strip() or node.mark not in ("|", ">") and lines[-1].lstrip().startswith("#")):
         lines.pop()
     return node.at, node.at + len("\n".join(lines).rstrip())
+
+
+def told_at(text: str, at: int, node: Node) -> int:
+    """The place at whose line's end is told what was done to a value, of which the key or another part is at a place: a plain text would end before a comment."""
+    return extent(text, node)[1] if node.kind == "text" and not node.mark else at
