@@ -69,7 +69,7 @@ def as_bytes(whole: Whole, field: Field, encoding: str) -> Optional[Tuple[List[E
         return None
     lost = ["type", "encoding"] + (["terminator", "consume", "include"] if is_wide and is_ended else [])
     first = None if field.role == "instance" else next((it for it in field.node.pairs if it.key not in lost), None)
-    at = told_at(whole.text, first.at, first.value) if first else field.at
+    at = field.node.stop if field.node.is_flow else told_at(whole.text, first.at, first.value) if first else field.at
     mark = Mark(at, field.name, f"was {field.said('type')} {encoding}")
     adds = "terminator: 0" if field.said("type") == "strz" and not is_wide and "terminator" not in field.keys else ""
     if field.node.is_flow:
