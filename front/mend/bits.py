@@ -86,7 +86,7 @@ def of_sequence(whole: Whole, body: Body, is_low: bool) -> Parts:
     """The edits of the fields of `seq`."""
     edits: List[Edit] = []
     marks: List[Mark] = []
-    taken: Set[str] = {it.name for it in body.fields}
+    taken: Set[str] = names_in(body)
     instances: List[Tuple[Chunk, Field, int]] = []
     for chunk in chunks(whole, body, is_low, taken):
         if not chunk.names:
@@ -101,6 +101,12 @@ def of_sequence(whole: Whole, body: Body, is_low: bool) -> Parts:
     if instances:
         edits.append(under_instances(whole, body, instances, is_low))
     return edits, marks, lost(whole, instances)
+
+
+def names_in(body: Body) -> Set[str]:
+    """The names of a type's members, its parameters with them."""
+    params = body.value("params")
+    return {it.name for it in body.fields} | {it.said("id") for it in (params.items if params is not None else [])}
 
 
 def lost(whole: Whole, instances: Sequence[Tuple[Chunk, Field, int]]) -> List[str]:
