@@ -41,15 +41,16 @@ def mended(whole: Whole) -> Found:
     """Keys with the one name that is near, and without those that change no meaning."""
     edits: List[Edit] = []
     marks: List[Mark] = []
-    known: Dict[Tuple[str, str], Hint] = {}
+    known: Dict[Tuple[str, str, str], Hint] = {}
     for node, role in mappings(whole):
         gone = []
         for it in node.pairs if node.kind == "map" else []:
             if schema.is_known(role, it.key) or len(known) >= MOST:
                 continue
-            if (it.key, role) not in known:
-                known[it.key, role] = keys.of_key(it.key, role, node, "") or Hint("", "")
-            hint = known[it.key, role]
+            what = it.key, role, it.value.kind if it.value.kind != "text" or it.value.text else ""
+            if what not in known:
+                known[what] = keys.of_key(it.key, role, node, "", it.value) or Hint("", "")
+            hint = known[what]
             written = name_for(hint)
             if written and written not in keyed(node):
                 edits.append(Edit(it.at, it.at + key_length(whole.text, it), written))
