@@ -206,7 +206,7 @@ def of_operator(formula: Formula, at: int, before: str) -> Optional[Hint]:
         return say("word", word=text[at - 2 : at + 1], near=text[at - 2 : at])
     if rest[:2] in ("=<", "=>"):
         return say("word", word=rest[:2], near=rest[1] + "=")
-    if rest[:1] == "=" and text[max(0, at - 1) : at] != "!" and before:
+    if rest[:1] == "=" and rest[:2] != "==" and text[max(0, at - 1) : at] != "!" and before:
         return say("equals")
     return say("power" if pair == "**" else "division") if pair in ("**", "//") else None
 
