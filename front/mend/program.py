@@ -1,11 +1,11 @@
 """The command `ksv-mend`: the program is asked, and what comes of a description is printed and written."""
 from __future__ import annotations
 
+import contextlib
 import os
 import signal
 import stat
 import subprocess
-import sys
 from typing import List, NamedTuple, Optional, Sequence
 
 from front.hints import refusal
@@ -151,6 +151,26 @@ def report(name: str, mended: Mended) -> str:
     return "".join(found) + f"ksv-mend: {visible(name)}: {changes}, and a person is needed: {refused}\n" + (f"      = {visible(mended.why, 2000)}\n" if mended.why else "")
 
 
+def occupied() -> None:
+    """Opens nothing as standard input, output and error where they are closed: no other file may have their numbers."""
+    number = 0
+    while number <= 2:
+        number = os.open(os.devnull, os.O_RDWR)
+    os.close(number)
+
+
+def tell(text: str, to: int = 1) -> None:
+    """Writes a text to standard output, or to standard error, in UTF-8 as the program does."""
+    content = text.encode()
+    try:
+        while content:
+            content = content[os.write(to, content) :]
+    except BrokenPipeError:
+        raise
+    except OSError as error:
+        raise Failed("output failed") from error
+
+
 def run(words: Words, top: str) -> int:
     """Mends a description; the status."""
     text = read(words.ksy)
@@ -159,27 +179,29 @@ def run(words: Words, top: str) -> int:
     mended = mend(text, program.ask, Library(folder, words.folders))
     if words.out is not None:
         write(words.out, mended.text)
-    sys.stdout.write(report(words.ksy, mended))
-    sys.stdout.flush()
+    tell(report(words.ksy, mended))
     return 0 if mended.refusal is None else 1
 
 
 def main(given: List[str], top: str) -> int:
     """Runs the command of these words; its status."""
-    if given in (["--help"], ["-h"]):
-        sys.stdout.write(HELP)
-        return 0
-    words = words_of(given)
-    if words is None:
-        sys.stderr.write(f"{USAGE}\n")
-        return 2
+    occupied()
+    status, message = 1, ""
     try:
-        return run(words, top)
+        if given in (["--help"], ["-h"]):
+            tell(HELP)
+            return 0
+        words = words_of(given)
+        if words is not None:
+            return run(words, top)
+        status, message = 2, f"{USAGE}\n"
     except Failed as failed:
-        sys.stderr.write(f"ksv-mend: {failed}\n")
+        message = f"ksv-mend: {failed}\n"
     except BrokenPipeError:
-        os.dup2(os.open(os.devnull, os.O_WRONLY), 1)
+        pass
     except KeyboardInterrupt:
         signal.signal(signal.SIGINT, signal.SIG_DFL)
         os.kill(os.getpid(), signal.SIGINT)
-    return 1
+    with contextlib.suppress(OSError, Failed):
+        tell(message, 2)
+    return status
