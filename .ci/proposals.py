@@ -658,6 +658,7 @@ MADE: Dict[str, Made] = {
     "path sign": lambda case: [it.whole_text(case, lambda text: re.sub(r"[$@](?=root|parent)", "_", text) if text[:1] in "$@" else re.sub(r"\A[./]+" +
         case.said["near"].partition(".")[2], case.said["near"], text))],
     "last comma": it.swapped(r",\s*\)", ")"),
+    "cast": it.swapped(r"\.\s*as\s*<[^<>]*>", ""),
     "assigned": lambda case: [it.whole_text(case, lambda text: re.sub(rf"\b{case.said['name']}\s*:=\s*", "", text))],
     "variable": lambda case: [[case.with_row(f"instances: {{{case.said['name']}: {{value: {case.said['value']}}}}}")]],
     "no space": spaced,
@@ -690,7 +691,7 @@ MADE: Dict[str, Made] = {
 }
 # Why nothing is made of a hint: it says a rule and leaves the text of it to a person.
 SAID: Dict[str, str] = {
-    **dict.fromkeys(("fraction", "switched endian", "present place", "io parameter", "cast"), "it takes another way to read what is meant"),
+    **dict.fromkeys(("fraction", "switched endian", "present place", "io parameter"), "it takes another way to read what is meant"),
     **dict.fromkeys(("key", "missing key", "against", "unknown name", "value", "feature", "form", "left out form", "count of arguments", "key place",
         "key twice", "not closed", "indentation alone",
                      "unclear character", "character", "early end", "stream", "limit", "types", "members", "length", "depth", "number", "long", "memory",

@@ -62,7 +62,7 @@ UNSUPPORTED: Dict[str, Kind] = {
     "type end": Kind("S8", "give the type a `size`, in place of it", "`terminator` with a type of the description"),
     "case of text": Kind("S8", "write a type that has the text as its attribute", "`str`, `strz` as a case"),
     "case of bits": Kind("S8", "write a type that has the bits as its attribute", "`b1` to `b64` as a case"),
-    "cast": Kind("S8", "only a type of the description may be named: give the attribute its own type", "`x.as<u1>`"),
+    "cast": Kind("S8", "only a type of the description may be named: leave out the cast, a value keeps its own type", "`x.as<u1>`"),
     "contents": Kind("S8", "write a list of its bytes: `[137]`", "`contents: 137`", "; here `[{number}]`{more}"),
     "zero": Kind("S8 X3", "a number has no zero before it: write `10`, or `0x0a`", "`010`", "; meant in octal, `{number}` is `{octal}`"),
     "size of type": Kind("X3 S4", "write the number of bytes", "`sizeof<t>`, `bitsizeof<t>`, `_sizeof`"),
