@@ -36,6 +36,7 @@ def raw(whole: Whole) -> Found:
     """The bytes of texts whose encoding isn't read."""
     edits: List[Edit] = []
     marks: List[Mark] = []
+    losses: List[str] = []
     lost = []
     for field in whole.fields:
         own, kind = field.said("encoding"), field.said("type")
@@ -43,6 +44,7 @@ def raw(whole: Whole) -> Found:
         if kind in ("str", "strz") and is_unread(encoding):
             found = as_bytes(whole, field, encoding)
             lost.append((field.body, field.name))
+            losses += [f"line {whole.line(field.at)}: `{field.name}` isn't checked any more"] if "valid" in field.keys else []
         else:
             found = without(whole.text, field.node, ["encoding"]) if is_unread(own) else ([], [])
         if not found:
@@ -58,7 +60,8 @@ def raw(whole: Whole) -> Found:
     if used.deciding:
         return Need(f"line {whole.line(used.deciding[0].node.at)}: a text in an encoding that isn't read decides what is read")
     marks += calculated_marks(whole, used, "uses bytes for a text")
-    return Change("only ASCII and UTF-8 are read: the bytes are, in place of the text", tuple(edits), tuple(marks), told(whole, used, "uses the bytes, and not the text"))
+    losses += told(whole, used, "uses the bytes, and not the text")
+    return Change("only ASCII and UTF-8 are read: the bytes are, in place of the text", tuple(edits), tuple(marks), tuple(losses))
 
 
 def as_bytes(whole: Whole, field: Field, encoding: str) -> Optional[Tuple[List[Edit], List[Mark]]]:
@@ -68,18 +71,18 @@ def as_bytes(whole: Whole, field: Field, encoding: str) -> Optional[Tuple[List[E
     if is_wide and is_ended and not is_sized:
         return None
     lost = ["type", "encoding"] + (["terminator", "consume", "include"] if is_wide and is_ended else [])
-    first = None if field.role == "instance" else next((it for it in field.node.pairs if it.key not in lost), None)
+    first = None if field.role == "instance" else next((it for it in field.node.pairs if it.key not in (*lost, "valid")), None)
     at = field.node.stop if field.node.is_flow else told_at(whole.text, first.at, first.value) if first else field.at
     mark = Mark(at, field.name, f"was {field.said('type')} {encoding}")
     adds = "terminator: 0" if field.said("type") == "strz" and not is_wide and "terminator" not in field.keys else ""
     if field.node.is_flow:
-        return [flow_without(whole.text, field.node, lost, [adds] if adds else [])], [mark]
-    place = span(whole.text, field.keys["type"].value)
+        return [flow_without(whole.text, field.node, [*lost, "valid"], [adds] if adds else [])], [mark]
+    place, check = span(whole.text, field.keys["type"].value), without(whole.text, field.node, ["valid"]) or ([], [])
     if adds and place:
         found = without(whole.text, field.node, ["encoding"], False) or ([], [])
-        return [Edit(field.keys["type"].at, place[1], adds), *found[0]], [mark]
+        return [Edit(field.keys["type"].at, place[1], adds), *found[0], *check[0]], [mark, *check[1]]
     found = without(whole.text, field.node, lost, False)
-    return (found[0], [mark]) if found and place else None
+    return ([*found[0], *check[0]], [mark, *check[1]]) if found and place else None
 
 
 def without_meta(whole: Whole, body: Body, key: str) -> Optional[Tuple[List[Edit], List[Mark]]]:
