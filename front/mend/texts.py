@@ -76,6 +76,7 @@ def padded(whole: Whole) -> Found:
         if place is None:
             return Need()
         is_text = "type" not in field.keys or field.said("type") == "str"
+        is_sized = "size" in field.keys or field.said("size-eos") == "true"
         if pad in ("0", "0x00", "0x0") and is_text and not {"terminator", "contents", "value"} & set(field.keys):
             edits.append(Edit(key.at, place[1], f"terminator: {pad}"))
             marks.append(Mark(key.at, field.name, f"was pad-right: {pad}"))
@@ -85,5 +86,5 @@ def padded(whole: Whole) -> Found:
         if not found:
             return Need()
         edits, marks = edits + found[0], marks + found[1]
-        losses += [f"line {whole.line(key.at)}: `{field.name}` keeps the bytes {pad} at its end"] if is_text else []
+        losses += [f"line {whole.line(key.at)}: `{field.name}` keeps the bytes {pad} at its end"] if is_text or is_sized else []
     return Change("`pad-right` isn't read", tuple(edits), tuple(marks), tuple(losses)) if edits else Need()
