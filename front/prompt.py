@@ -77,9 +77,10 @@ def prompted(shell: Shell, signals: Signals) -> None:
             shell.output.write("\n")
         else:
             history.keep()
-            # a text that was pasted may have several lines
+            # a text that was pasted may have several lines; those behind one that is broken off aren't done
             for line in text.split("\n"):
-                shell.line(line)
+                if not shell.line(line):
+                    break
 
 
 def served(shell: Shell, signals: Signals) -> None:

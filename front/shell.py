@@ -84,8 +84,8 @@ class Shell:
         """How a command is written."""
         self.output.show([f"{COMMANDS[word].form}: {COMMANDS[word].what}"])
 
-    def line(self, text: str) -> None:
-        """Does what a line says. What goes wrong is told, and the next line can be read."""
+    def line(self, text: str) -> bool:
+        """Does what a line says; whether nobody broke it off. What goes wrong is told, and the next line can be read."""
         self.signals.is_interrupted = False
         try:
             self.do(text)
@@ -94,6 +94,7 @@ class Shell:
                 raise
             self.output.write("\n")
             self.output.tell("broken off")
+            return False
         except Died as error:
             self.status = 3
             self.output.tell(f"{error}; the next line begins it anew with the edits so far")
@@ -103,6 +104,7 @@ class Shell:
             self.output.show([reason_of(error)])
         except Spent:
             self.output.show([f"  (given up after {MOST_ASKED} questions)"])
+        return True
 
     def do(self, text: str) -> None:
         """Does what a line says."""

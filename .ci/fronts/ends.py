@@ -39,6 +39,16 @@ def lines_at_once(tree: Tree) -> str:
     return ""
 
 
+def lines_broken_off(tree: Tree) -> str:
+    """Of lines that are pasted together, those behind one that is broken off aren't done."""
+    with room_of(tree, {"FILE": SMALL, "KSY": KSY}) as room, contextlib.closing(Terminal(room)) as shell:
+        room.control.arm([(1, signal.SIGINT, 0)])
+        told = shell.ask("bytes 0 1\x16\nset 0 ff")
+        fired = room.control.disarm()[1]
+        after = shell.ask("bytes 0 1")
+        return "" if fired and "broken off" in told and after == f"hex {SMALL[:1].hex()}" else f"{told!r}, then {after!r}, {fired} met"
+
+
 def line_that_ended(line: str, wanted: str) -> Case:
     """A line is refused, and the session goes on with its edits."""
 
@@ -245,6 +255,7 @@ CASES: Dict[str, Case] = {
     **{f"4: the line {line[:20]!r}": line_that_ended(line, wanted) for line, wanted in LINES},
     **{f"more: the line {line[:20]!r}": line_that_ended(line, wanted) for line, wanted in MORE},
     "more: lines at once": lines_at_once,
+    "more: lines at once, broken off": lines_broken_off,
     "4: no memory under hex": no_memory_under_hex,
     "4: output in ASCII": encoded(PYTHONIOENCODING="ascii"),
     "4: output in C": encoded(LC_ALL="C", PYTHONUTF8="0", PYTHONCOERCECLOCALE="0"),
