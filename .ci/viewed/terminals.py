@@ -219,7 +219,9 @@ def broken_off(_room: str) -> Iterator[str]:
     terminal.stop()
     yield terminal.shown("f", SIGN)
     terminal.sized(12, 60)
-    yield terminal.shown("\x03", "/  at 0 22 (0x0 0x16)  object ico")
+    terminal.type("\x03")
+    rows = terminal.until(lambda rows: rows[7].startswith("/  at 0 22"))
+    yield "" if rows[7] == "/  at 0 22 (0x0 0x16)  object ico" else f"another size in a question: {rows}"
     terminal.sized(24, 80)
     yield terminal.shown(SENT["ctrl-l"], "? help  q quit")
     yield "" if min(waited) < SOON else f"the sign came after {' '.join(f'{it:.2f}' for it in waited)} s"
