@@ -678,6 +678,7 @@ MADE: Dict[str, Made] = {
     "dash": it.quoted_row,
     "directive": lambda case: [[case.with_row()]],
     "marker": cut,
+    "marker alone": lambda case: [[case.at(it.where(case)).with_row("---")]],
     "comment begin": lambda case: [[at.with_row(at.row.replace(case.said["sign"], "#", 1)) for at in [case.at(it.where(case))]]],
     "empty": lambda case: [["meta: {id: t}\n"]],
     "comment sign": rows(lambda case: [re.sub(r"(?<=\S)#", " #", case.row)]),

@@ -348,6 +348,7 @@ YAML: Dict[str, Kind] = {
     "flow sign": Kind("Y6 Y8", "between two parts in braces or brackets comes a comma, and not `{sign}`"),
     "directive": Kind("Y6", "leave out the line: a description has no `%` lines"),
     "marker": Kind("Y8 Y6 Y4", "a file has one description: leave out `{sign}` and what comes after it"),
+    "marker alone": Kind("Y8 Y4", "line {line}: write `---` alone, with no space and no comment behind it"),
     "comment begin": Kind("Y8 Y6", "{where}a comment begins with `#`, and not with `{sign}`"),
     "empty": Kind("Y6", "the description is empty: it begins with `meta:`"),
     "sign first": Kind("Y6", "a text that begins with `{sign}` needs quotes"),

@@ -37,6 +37,8 @@ BOUNDS, ITEM_KEYS = ("valid", "min", "max", "eq", "expr"), ("id", "type", "size"
 MAPPED = {"valid": "valid", "type": "switch"}
 STRUCTURES = ("meta", "seq", "types", "instances", "enums", "params", "cases", "valid", "type")
 TEXTS, MARKER = ("doc", "doc-ref", "title", "license"), re.compile(r"(?:---|\.\.\.)(?:[ \t]|\Z)")
+# The line that a description begins with, and spaces or a comment behind it.
+BEGIN = re.compile(r"---[ \t]+(?:#|\r?\Z)")
 KNOWN = frozenset(it for keys in (*schema.KEYS.values(), *schema.IGNORED.values(), *schema.LEFT_OUT.values(), ("doc", "doc-ref")) for it in keys)
 COMMENT_SIGN = re.compile(r"//|/\*|;|--(?!-)|<!--")
 GOOD_ESCAPE = re.compile(r"\\(?:[\"\\/0abtnvfre]|x[\da-fA-F]{2}|u(?![dD][89a-fA-F])[\da-fA-F]{4})")
@@ -80,6 +82,13 @@ def spaces(count: int) -> str:
     return f"{count or 'no'} space{'' if count == 1 else 's'}"
 
 
+def begun(text: str) -> int:
+    """The number of the line that a description begins with, if that is `---` with spaces or a comment behind it; else 0."""
+    rows = text[:LONGEST].lstrip("\ufeff").split("\n")
+    number = next((number for number, it in enumerate(rows, 1) if it.strip() and not it.lstrip().startswith("#")), 0)
+    return number if number and BEGIN.match(rows[number - 1]) else 0
+
+
 # Indentation
 
 
@@ -87,6 +96,9 @@ def indented(text: str, line: Line) -> Optional[Hint]:
     """What to say of a line whose indentation fits no level (Y4)."""
     if MARKER.match(line.text):
         return say("marker", sign=line.text[:3])
+    begin = begun(text)
+    if begin:
+        return say("marker alone", line=begin)
     outline = Outline(text[: lines.start(text, line.number)], LINES)
     if not outline.is_whole or not outline.starts:
         return None
@@ -268,6 +280,9 @@ def no_key(text: str, line: Line) -> Optional[Hint]:
     """What to say where a value is in a key's place (Y8)."""
     if MARKER.match(line.text):
         return say("marker", sign=line.text[:3])
+    begin = begun(text)
+    if begin:
+        return say("marker alone", line=begin)
     above = previous(text, line.number)
     if above and above.opened:
         is_deep = above.opened.kind == "open flow" and len(line.text) - len(line.text.lstrip(" ")) > above.before
