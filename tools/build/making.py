@@ -3,6 +3,7 @@ from __future__ import annotations
 
 import os
 import re
+import signal
 import threading
 import time
 from typing import Callable, Optional
@@ -35,6 +36,8 @@ class Making:
     def __init__(self, plan: Plan, kit: str, room: str, tell: Callable[[str], None]) -> None:
         self.plan, self.prover, self.tell = plan, Prover(kit, room, plan.crates), tell
         self.progress, self.running, self.took = Progress(plan), {}, {}
+        # Crates whose proof was killed and is to begin once more, alone; and the names of all that were.
+        self.killed, self.again = [], set()
         self.start, self.ended, self.lock = time.monotonic(), threading.Event(), threading.Lock()
 
     def made(self) -> str:
@@ -62,7 +65,11 @@ class Making:
         return ""
 
     def begin(self) -> None:
-        """Begins all proofs that can run now."""
+        """Begins all proofs that can run now. One that was killed runs alone, so until then no other begins."""
+        if self.killed:
+            if not self.running:
+                self.started(self.killed.pop(0), 1)
+            return
         while True:
             chosen = self.plan.next(self.progress.proved, {name: it.jobs for name, it in self.running.items()})
             if not chosen:
@@ -76,17 +83,13 @@ class Making:
             self.running[crate.name] = proof
 
     def is_again(self, ended: Proof) -> bool:
-        """Whether a proof that was killed beside others, most likely for memory, is begun once more: alone with what still runs, on one processor."""
-        if ended.process.returncode != -9 or (ended.jobs == 1 and not self.running):
+        """Whether a proof that was killed beside others, most likely for memory, is to begin once more, alone and on one processor."""
+        name = ended.crate.name
+        if ended.process.returncode != -signal.SIGKILL or name in self.again or (ended.jobs == 1 and not self.running):
             return False
-        self.tell(f"the proof of {ended.crate.name} was killed, most likely for memory: once more, when the others have ended")
-        while self.running:
-            other, took = self.prover.wait([*self.running.values()])
-            with self.lock:
-                del self.running[other.crate.name]
-            if not self.prover.fault(other):
-                self.note(other.crate, took)
-        self.started(ended.crate, 1)
+        self.tell(f"the proof of {name} was killed, most likely for memory: once more, when the others have ended")
+        self.again.add(name)
+        self.killed.append(ended.crate)
         return True
 
     def note(self, crate: Crate, took: Took) -> None:

@@ -94,18 +94,21 @@ class Prover:
         return Proof(crate, process, log, jobs, time.monotonic())
 
     def wait(self, running: list[Proof]) -> tuple[Proof, Took]:
-        """Waits until one of the proofs ends; what it took."""
+        """Waits until one of the proofs ends, and ends what it began and left; what it took."""
         by_number = {it.process.pid: it for it in running}
         while True:
             for number, it in by_number.items():
                 found, status, used = os.wait4(number, os.WNOHANG)
                 if found:
+                    kill(number)
                     it.process.returncode = os.waitstatus_to_exitcode(status)
                     return it, Took(used.ru_utime + used.ru_stime, time.monotonic() - it.begun, used.ru_maxrss // 1024)
             time.sleep(0.05)
 
     def fault(self, it: Proof) -> str:
         """Why an ended proof doesn't count; empty where its crate is proved and built."""
+        if it.process.returncode == -signal.SIGKILL:
+            return f"{it.crate.name} isn't proved: its prover was killed, most likely for memory, of which it takes some {it.crate.memory} MiB; end other programs, and call again"
         if it.process.returncode:
             return f"{it.crate.name} isn't proved (status {it.process.returncode})"
         if not PROVED.search(it.said()):
@@ -123,12 +126,17 @@ class Prover:
         return "" if ran.returncode else program
 
 
+def kill(group: int) -> None:
+    """Ends the processes of a group, where there are any."""
+    try:
+        os.killpg(group, signal.SIGKILL)
+    except ProcessLookupError:
+        pass
+
+
 def end(running: list[Proof]) -> None:
     """Ends proofs that still run, with all that they began."""
     for it in running:
         if it.process.returncode is None:
-            try:
-                os.killpg(it.process.pid, signal.SIGKILL)
-            except ProcessLookupError:
-                pass
+            kill(it.process.pid)
             it.process.wait()
