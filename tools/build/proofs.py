@@ -6,7 +6,6 @@ import re
 import shutil
 import signal
 import subprocess
-import sys
 import time
 from dataclasses import dataclass
 
@@ -115,15 +114,16 @@ class Prover:
             return f"{it.crate.name}: the prover's last line isn't one that says that all is proved"
         return "" if os.path.exists(self.made(it.crate)) else f"{it.crate.name} is proved, and nothing was built"
 
+    def program(self, crate: Crate) -> str:
+        """Where a linked program lies."""
+        return f"{self.room}/crates/{crate.name}/out/{crate.name}"
+
     def link(self, crate: Crate) -> str:
-        """Links a program's object file; where the program lies, empty where that fails."""
-        made, program = self.made(crate), f"{self.room}/crates/{crate.name}/out/{crate.name}"
-        words = [f"{self.kit}/bin/rattle-link", "--target", TARGET, "--toolchain", f"{self.kit}/toolchain", "-o", program, made]
+        """Links a program's object file; why that fails, with what the linker said, empty where it doesn't."""
+        words = [f"{self.kit}/bin/rattle-link", "--target", TARGET, "--toolchain", f"{self.kit}/toolchain", "-o", self.program(crate), self.made(crate)]
         words += [f"{self.kit}/c/libos_c.a", f"{self.kit}/c/liblibc_c.a"]
         ran = subprocess.run(words, stdin=subprocess.DEVNULL, stdout=subprocess.PIPE, stderr=subprocess.STDOUT, errors="replace", check=False)
-        if ran.returncode:
-            print(ran.stdout, file=sys.stderr, end="")
-        return "" if ran.returncode else program
+        return f"{ran.stdout}\n{crate.name} can't be linked (status {ran.returncode})" if ran.returncode else ""
 
 
 def kill(group: int) -> None:
