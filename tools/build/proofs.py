@@ -107,7 +107,8 @@ class Prover:
     def fault(self, it: Proof) -> str:
         """Why an ended proof doesn't count; empty where its crate is proved and built."""
         if it.process.returncode == -signal.SIGKILL:
-            return f"{it.crate.name} isn't proved: its prover was killed, most likely for memory, of which it takes some {it.crate.memory} MiB; end other programs, and call again"
+            why = f"its prover was killed, most likely for memory, of which it takes some {it.crate.memory} MiB; end other programs, and call again"
+            return f"{it.crate.name} isn't proved: {why}"
         if it.process.returncode:
             return f"{it.crate.name} isn't proved (status {it.process.returncode})"
         if not PROVED.search(it.said()):
