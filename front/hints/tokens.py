@@ -48,12 +48,11 @@ def bad_escape(text: str) -> str:
 
 class Name(NamedTuple):
     """A name in an expression: a `member` of the object, a `path` with `::`, a name after a `point`, a `call` with so many arguments, or the type of a
-    `cast`; of a name right behind a cast also the names of that type."""
+    `cast`."""
 
     kind: str
     names: List[str]
     count: int = 0
-    cast: Sequence[str] = ()
 
 
 def names(text: str) -> List[Name]:
@@ -77,8 +76,7 @@ def names(text: str) -> List[Name]:
                 at += 2
             found.append(Name("cast", path))
         elif before == ".":
-            cast = found[-1].names if found and found[-1].kind == "cast" and at > 1 and tokens[at - 2].text == ">" else ()
-            found.append(Name("call", path, arguments(tokens, at + 1), cast) if after == "(" else Name("point", path, 0, cast))
+            found.append(Name("call", path, arguments(tokens, at + 1)) if after == "(" else Name("point", path))
         else:
             found.append(Name("path" if len(path) > 1 else "member", path))
         at += 1

@@ -3,8 +3,8 @@ from __future__ import annotations
 
 from typing import Dict, Iterable, List, NamedTuple, Optional, Set, Tuple
 
-from front.hints import tokens
 from front.mend.change import Mark
+from front.mend.holders import Holders
 from front.mend.whole import Body, Expression, Whole, expressions, told_at
 
 # A member: the type that has it, and its name.
@@ -19,16 +19,14 @@ class Uses(NamedTuple):
 
 
 def uses(whole: Whole, lost: Iterable[Key]) -> Uses:
-    """The expressions that may use members, by themselves or by what is calculated from them. A name after a point is taken for each member of that name,
-    but right behind a cast for that of its type; the element that may be the last one is `_`."""
+    """The expressions that may use members, by themselves or by what is calculated from them. A name after a point is taken for each member of that name where
+    it can't be told which type has it; the element that may be the last one is `_`."""
     by_name: Dict[str, List[Tuple[Expression, Optional[Body]]]] = {}
+    holders = Holders(whole)
     for field in whole.fields:
         for one in expressions(field):
-            for it in tokens.names(one.text):
-                if it.kind in ("member", "point", "call") and it.names:
-                    holder = field.body if it.kind == "member" else field.body.find(it.cast) if it.cast else None
-                    name = field.name if it.names == ["_"] and one.key == "repeat-until" else it.names[0]
-                    by_name.setdefault(name, []).append((one, holder))
+            for name, holder in holders.named(one):
+                by_name.setdefault(name, []).append((one, holder))
     seen: Set[Key] = set(lost)
     rest, found, deciding, calculated = list(seen), set(), [], []
     while rest:
