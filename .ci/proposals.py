@@ -562,6 +562,7 @@ MADE: Dict[str, Made] = {
     "enum point": lambda case: [it.value(case, "enum", case.said["near"])],
     "text wanted": it.set_to("{key}", "a"),
     "padding of none": it.leave_out("pad-right"),
+    "imports of none": it.leave_out("imports"),
     "number prefix": lambda case: [it.whole_text(case, lambda text: re.sub(r"0[XBOo][0-9a-fA-F]+|\b[01]+[bB]\b", case.said["near"], text, count=1))],
     "capital member": it.words("{word}", "{near}"),
     "capital text": it.words("{word}", '"{word}"'),

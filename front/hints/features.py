@@ -60,7 +60,7 @@ def of_meta(place: Place) -> Optional[Hint]:
     """A key of `meta`."""
     key, value = place.key, place.value
     if key in ("imports", "ks-opaque-types"):
-        return say("imports")
+        return say("imports of none" if key == "imports" and value.kind != "map" and not value.items and not value.text else "imports")
     if key == "endian" and value.kind == "map":
         return say("switched endian")
     if key == "bit-endian" and value.text == "le":

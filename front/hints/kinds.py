@@ -215,6 +215,7 @@ VALUES: Dict[str, Kind] = {
     "description": Kind("S6", "a description is a mapping: it begins with `meta:`"),
     "value": Kind("S6", "a value on this line isn't what its key has: see REFERENCE, \"Keys of a description\""),
     "padding of none": Kind("S8", "`pad-right`: leave it out, {why}"),
+    "imports of none": Kind("S8", "`imports` names no file: leave it out"),
     "stream": Kind("S8", "`_io` is only there in `_io.size`, `_io.pos` and `_io.eof`, and as the whole of an `io`"),
     "feature": Kind("S8", "see REFERENCE, \"Unsupported\""),
     "types": Kind("S9", "a description has at most 1,024 types, with the root"),

@@ -44,11 +44,12 @@ def put_in(whole: Whole, library: Library) -> Found:
         texts = [block(whole, it) for it in taken]
         if sum(map(len, texts)) + len(whole.text) > MOST:
             raise Stop("with all that it imports it would have more than 262,144 bytes")
-        edits, marks = place(whole, texts, *gone)
+        edits, marks = place(whole, texts, *gone) if texts else gone
     except Stop as stop:
         return Need(str(stop))
     losses = tuple(f"`{it.whole.root.name}` of {it.file.name} is the type `{it.name}` here" for it in taken if it.name != it.whole.root.name)
-    return Change("no other file is read: the imported types are put in", tuple(edits), tuple(marks), losses)
+    reason = "no other file is read: the imported types are put in" if texts else "`imports` names no file"
+    return Change(reason, tuple(edits), tuple(marks), losses)
 
 
 def without_words(whole: Whole, key: str) -> Optional[Change]:
@@ -63,7 +64,7 @@ def without_words(whole: Whole, key: str) -> Optional[Change]:
 
 def names_of(node: Optional[Node]) -> List[str]:
     """The names that an `imports` has."""
-    return [] if node is None else [it.text for it in node.items] if node.kind == "list" else [node.text]
+    return [] if node is None else [it.text for it in node.items] if node.kind == "list" else [node.text] if node.text else []
 
 
 def collected(whole: Whole, library: Library) -> List[Taken]:

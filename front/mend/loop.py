@@ -79,7 +79,7 @@ def of_hint(text: str, refusal: Refusal, hint: Hint, library: Library) -> tuple:
         found = CHANGES[hint.kind](whole)
     elif hint.kind in NAMES:
         found = names.near(whole, refusal.line, hint)
-    elif hint.kind == "imports":
+    elif hint.kind in ("imports", "imports of none"):
         found = imports.put_in(whole, library)
     try:
         return (found, applied(text, found)) if isinstance(found, Change) else (found, text)
