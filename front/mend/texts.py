@@ -6,7 +6,7 @@ from typing import List
 
 from front.hints.outline import COMMENT, STOP
 from front.mend.change import Change, Edit, Found, Mark, Need
-from front.mend.whole import Whole, keyed, span
+from front.mend.whole import Field, Whole, keyed, span
 from front.mend.written import without
 
 # What chooses a case as it is: a number, a truth value, a text, a member of an enum, or `_`.
@@ -62,6 +62,12 @@ def contents(whole: Whole) -> Found:
     return Change("the bytes of `contents` are a list", tuple(edits), tuple(marks)) if edits else Need()
 
 
+def is_ended(field: Field, pad: str) -> bool:
+    """Whether a text ends before the first of the bytes that fill it up, by its terminator."""
+    byte, end = (int(it, 16 if "x" in it else 10) if NUMBER.match(it) else -1 for it in (pad, field.said("terminator") or "0"))
+    return byte == end and field.said("include") != "true" and ("terminator" in field.keys or field.said("type") == "strz")
+
+
 def padded(whole: Whole) -> Found:
     """Texts that are filled up with a byte: they end before the first zero byte, or keep the bytes that fill them."""
     edits: List[Edit] = []
@@ -86,5 +92,5 @@ def padded(whole: Whole) -> Found:
         if not found:
             return Need()
         edits, marks = edits + found[0], marks + found[1]
-        losses += [f"line {whole.line(key.at)}: `{field.name}` keeps the bytes {pad} at its end"] if is_text or is_sized else []
+        losses += [f"line {whole.line(key.at)}: `{field.name}` keeps the bytes {pad} at its end"] if is_sized and not is_ended(field, pad) else []
     return Change("`pad-right` isn't read", tuple(edits), tuple(marks), tuple(losses)) if edits else Need()
