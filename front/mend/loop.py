@@ -11,7 +11,7 @@ from typing import Callable, Dict, List, NamedTuple, Optional
 from front.hints import advice
 from front.hints.kinds import Hint
 from front.hints.refusal import Refusal
-from front.mend import arrays, bits, encodings, enums, floats, imports, keys, names, texts
+from front.mend import arrays, bits, casts, encodings, enums, floats, imports, keys, names, texts
 from front.mend.change import Change, Found, Need, Overlap, applied, shown
 from front.mend.library import MOST, Library
 from front.mend.whole import LINES, Whole
@@ -24,7 +24,7 @@ Ask = Callable[[str], Optional[Refusal]]
 CHANGES: Dict[str, Callable[[Whole], Found]] = {
     "float": floats.bits, "fraction": floats.fractions, "utf8": encodings.renamed, "encoding": encodings.raw, "low bits": bits.low, "array": arrays.one_by_one,
     "in-enum": enums.members, "choice": texts.quoted, "colon": texts.quoted, "first letter": texts.quoted, "case text": texts.cases, "contents": texts.contents,
-    "padding": texts.padded, "padding of none": texts.padded, "checked list": arrays.one_by_one,
+    "padding": texts.padded, "padding of none": texts.padded, "checked list": arrays.one_by_one, "cast": casts.left_out,
     **dict.fromkeys(("near key", "key as written", "other word", "unread key", "unknown key"), keys.mended),
 }
 # Those of the names of a line.
