@@ -101,10 +101,15 @@ def shown(text: str, change: Change) -> str:
         new = "".join([*parts, text[at:stop]]).split("\n")
         old, new, same = trimmed(old, new)
         found.append(f"@@ -{line + same},{len(old)} +{line + same + more},{len(new)} @@")
-        found += [f"-{visible(it)}" for it in old] + [f"+{visible(it)}" for it in new]
+        found += [row("-", it) for it in old] + [row("+", it) for it in new]
         more += len(new) - len(old)
         at = begin
     return "".join(f"{it}\n" for it in found)
+
+
+def row(sign: str, line: str) -> str:
+    """A line of a diff, without the end that it has."""
+    return sign + visible(line.rstrip("\r"))
 
 
 def trimmed(old: List[str], new: List[str]) -> Tuple[List[str], List[str], int]:

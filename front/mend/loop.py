@@ -6,6 +6,7 @@ none of another kind. Besides, the lines that are read in all rounds together ar
 """
 from __future__ import annotations
 
+import re
 from typing import Callable, Dict, List, NamedTuple, Optional
 
 from front.hints import advice
@@ -65,8 +66,13 @@ def mend(text: str, ask: Ask, library: Library) -> Mended:
             why = found.why if isinstance(found, Need) else ""
             return Mended(text, steps, refusal, f"{hint.text}{'; ' if hint.text and why else ''}{why}".replace("`", ""))
         steps.append(Step(found.reason.replace("`", ""), shown(text, found), [it.replace("`", "") for it in found.losses]))
-        text = changed
+        text = ended_alike(changed, text)
     return Mended(text, steps, ask(text), "too many changes")
+
+
+def ended_alike(text: str, before: str) -> str:
+    """A changed text with the line ends that it had before, where all were CR LF."""
+    return re.sub(r"(?<!\r)\n", "\r\n", text) if 0 < before.count("\n") == before.count("\r\n") else text
 
 
 def of_hint(text: str, refusal: Refusal, hint: Hint, library: Library) -> tuple:
