@@ -12,7 +12,7 @@ from typing import Callable, Dict, List, NamedTuple, Optional
 from front.hints import advice
 from front.hints.kinds import Hint
 from front.hints.refusal import Refusal
-from front.mend import arrays, bits, casts, encodings, enums, floats, imports, keys, names, texts
+from front.mend import arrays, bits, casts, checks, encodings, enums, floats, imports, keys, names, texts
 from front.mend.change import Change, Found, Need, Overlap, applied, shown
 from front.mend.library import MOST, Library
 from front.mend.whole import LINES, Whole
@@ -56,7 +56,12 @@ def mend(text: str, ask: Ask, library: Library) -> Mended:
     for _ in range(ROUNDS):
         refusal = ask(text)
         if refusal is None:
-            return Mended(text, steps, None, "")
+            found, changed = of_loaded(text)
+            if changed == text:
+                return Mended(text, steps, None, "")
+            steps.append(Step(found.reason.replace("`", ""), shown(text, found), []))
+            text = ended_alike(changed, text)
+            continue
         work += text.count("\n") + len(text) // 40 + 1
         if len(text) > MOST or work > WORK:
             return Mended(text, steps, refusal, "the description is too long to be changed without one")
@@ -73,6 +78,13 @@ def mend(text: str, ask: Ask, library: Library) -> Mended:
 def ended_alike(text: str, before: str) -> str:
     """A changed text with the line ends that it had before, where all were CR LF."""
     return re.sub(r"(?<!\r)\n", "\r\n", text) if 0 < before.count("\n") == before.count("\r\n") else text
+
+
+def of_loaded(text: str) -> tuple:
+    """The change of a text that loads, of checks that would be a circle, with the text that it makes; or none, with the text as it is."""
+    whole = Whole(text) if len(text) <= MOST else None
+    found: Found = checks.own(whole) if whole and whole.outline.is_whole else Need()
+    return (found, applied(text, found)) if isinstance(found, Change) else (found, text)
 
 
 def of_hint(text: str, refusal: Refusal, hint: Hint, library: Library) -> tuple:
