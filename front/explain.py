@@ -4,6 +4,7 @@ import re
 from typing import Callable, List, Optional
 
 from front.description import Description, Member
+from front.hints.tokens import names
 from front.look import Explorer
 from front.lost import Lost
 from front.mistaken import Mistaken, Room, room_at, room_of
@@ -55,8 +56,17 @@ class Explainer:
             value = self.said(path, "value") if where == "calculated" else ""
             valid = self.said(path, "valid") if kind == "invalid" else ""
             valid = "" if valid in ("", value) else f"; {valid}" if "valid: " in valid else f"; valid: {valid}"
-            return [f"  ({path} is {where}{': ' if value else ''}{value}{valid})"]
+            circle = self.circle(path) if kind == "circle" else ""
+            return [f"  ({path} is {where}{': ' if value else ''}{value}{valid}{circle})"]
         return [f"  ({self.window(path)}the file has {self.explorer.session.size()} bytes)"] if kind == "end-of-bytes" else []
+
+    def circle(self, path: str) -> str:
+        """That the check of what is at a path names it, where it does: that is a circle."""
+        member, name = self.member(path), re.sub(r"(?:/\d+)+$", "", path).rpartition("/")[2]
+        check = member.value.get("valid") if member else None
+        texts = [] if check is None else [one.text for it in check.pairs for one in (it.value.items or [it.value])] or [check.text]
+        own = next((text for text in texts if any(it.kind == "member" and it.names == [name] for it in names(text))), "")
+        return f"; its check names it, which is `_` in `expr`: {' '.join(own.split())}" if own else ""
 
     def window(self, path: str) -> str:
         """Where the innermost thing around a path that has an end is, if there is one that has: the bytes may end there."""
