@@ -233,6 +233,13 @@ def commented(case: Case) -> Texts:
     return [case.with_row(f"{before.rstrip()}{closing[0] if closing else ''} # {after}")]
 
 
+def uncommented(case: Case) -> Texts:
+    """What is in quotes behind `#` as a comment, at the end of the line; a block text without it."""
+    if "block" in case.said["where"]:
+        return it.whole_text(case, lambda text: re.sub(r"(?m)\s*#[^\n]*", "", text).strip())
+    return commented(case._replace(said={**case.said, "sign": "#"}))
+
+
 def below_key(case: Case) -> List[Texts]:
     """The item of a list on the line below its key, and what follows beside it."""
     front, words, _ = it.plain_row(case.row)
@@ -595,6 +602,7 @@ MADE: Dict[str, Made] = {
     "range": lambda case: [it.whole_text(case, lambda text: "1 <= 2 and 2 <= 3")],
     "word": lambda case: [operator(case)],
     "comment mark": lambda case: [commented(case)],
+    "comment inside": lambda case: [uncommented(case)],
     "end sign": lambda case: [[case.with_row(case.row.rstrip()[:-1])]] if case.code == "Y8" else [it.whole_text(case,
         lambda text: text.rstrip().rstrip(";,?").strip())],
     "counted up": lambda case: [it.whole_text(case, lambda text: text.rstrip()[:-2] + " " + case.said["near"])],

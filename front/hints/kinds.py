@@ -261,6 +261,7 @@ EXPRESSIONS: Dict[str, Kind] = {
     "range": Kind("X1", "an expression has no range: write `a <= x and x <= b`"),
     "two points": Kind("X1", "after a point comes a name: leave out one `.`"),
     "colon point": Kind("X1", "what an object has is written with a point: `{near}`"),
+    "comment inside": Kind("X1", "`#` begins no comment here: {where}"),
     "comment mark": Kind("X1 S6", "a comment begins with ` #`, and not with `{sign}`{where}"),
     "end sign": Kind("X1 X2 Y8", "an expression has no `{sign}` behind it: leave it out"),
     "counted up": Kind("X2", "`{sign}` is no operator: write `{near}`"),

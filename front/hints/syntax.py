@@ -61,7 +61,7 @@ def unexpected(formula: Formula, at: int) -> Hint:
     """What to say of a character that can't come where it is (X1)."""
     text, key = formula.text, formula.key
     by_key = {"case": of_case, "valid": of_check, "type": of_type}
-    if hint := of_lone(text, at):
+    if hint := of_lone(formula, at):
         return hint
     if key in by_key and (hint := by_key[key](formula, text[at:])):
         return hint
@@ -86,12 +86,18 @@ def is_prose(formula: Formula) -> bool:
     return not any(it in known or it[0].isdigit() for it in words) and (len(words) > 1 or not words)
 
 
-def of_lone(text: str, at: int) -> Optional[Hint]:
-    """What to say of a text with a quote alone, or a comment without a space before it; None where it is something else."""
+def of_lone(formula: Formula, at: int) -> Optional[Hint]:
+    """What to say of a text with a quote alone, or a comment that is none; None where it is something else."""
+    text, mark = formula.text, formula.node.mark
     rest = [it for it in tokens.read(text[at:]) if it.kind == "other" and it.text in "'\""]
+    if mark in ("|", ">") and re.match(r"#\s", text[at:]):
+        return say("comment inside", where="a block text has none")
     if rest and len(rest) % 2:
         return say("lone quote", sign=rest[0].text)
-    return say("comment sign") if text[at] == "#" and text[:at].strip() and not re.match(r"#[0-9A-Fa-f]+\b", text[at:]) else None
+    if text[at] != "#" or not text[:at].strip() or re.match(r"#[0-9A-Fa-f]+\b", text[at:]):
+        return None
+    closing = "brace" if formula.place.around.is_flow else "quote"
+    return say("comment inside", where=f"it comes behind the closing {closing}") if mark in ("'", '"') else say("comment sign")
 
 
 def of_check(formula: Formula, rest: str) -> Optional[Hint]:
