@@ -45,11 +45,12 @@ def bits(whole: Whole) -> Found:
 
 
 def fractions(whole: Whole) -> Found:
-    """What is calculated with a fraction is taken out, where nothing else uses it."""
+    """What is calculated with a fraction is taken out, and what is calculated from that, where nothing that is read uses it."""
     lost = [it for it in whole.fields if it.role == "value" and FRACTION.search(it.said("value")) and not quoted_only(it.said("value"))]
     used = uses(whole, [(it.body, it.name) for it in lost])
-    gone = {id(it.node) for it in lost}
-    others = [it for it in used.deciding + used.calculated if id(it.field.node) not in gone]
+    gone = {id(it.node) for it in lost} | {id(it.field.node) for it in used.calculated}
+    lost = [it for it in whole.fields if id(it.node) in gone]
+    others = [it for it in used.deciding if id(it.field.node) not in gone]
     if not lost or others:
         return Need(f"line {whole.line(others[0].node.at)} uses what is calculated with a fraction" if others else "")
     edits: List[Edit] = []

@@ -121,7 +121,7 @@ def fields(body: Body) -> Iterator[Field]:
     for it in found.items if found is not None and found.kind == "list" else []:
         keys = keyed(it)
         yield Field(keys["id"].value.text if "id" in keys else "", it.at, it, keys, "attribute", body)
-    for key, it in keyed(body.value("instances")).items():
+    for key, it in reversed(keyed(body.value("instances")).items()):
         keys = keyed(it.value)
         yield Field(key, it.at, it.value, keys, "value" if "value" in keys else "instance", body)
 
