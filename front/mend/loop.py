@@ -12,7 +12,7 @@ from typing import Callable, Dict, List, NamedTuple, Optional
 from front.hints import advice
 from front.hints.kinds import Hint
 from front.hints.refusal import Refusal
-from front.mend import arrays, bits, casts, checks, encodings, enums, floats, imports, keys, names, texts
+from front.mend import arrays, bits, casts, checks, encodings, enums, floats, imports, keys, names, sizes, texts
 from front.mend.change import Change, Found, Need, Overlap, applied, shown
 from front.mend.library import MOST, Library
 from front.mend.whole import LINES, Whole
@@ -25,7 +25,7 @@ Ask = Callable[[str], Optional[Refusal]]
 CHANGES: Dict[str, Callable[[Whole], Found]] = {
     "float": floats.bits, "fraction": floats.fractions, "utf8": encodings.renamed, "encoding": encodings.raw, "low bits": bits.low, "array": arrays.one_by_one,
     "in-enum": enums.members, "choice": texts.quoted, "colon": texts.quoted, "first letter": texts.quoted, "case text": texts.cases, "contents": texts.contents,
-    "padding": texts.padded, "padding of none": texts.padded, "checked list": arrays.one_by_one, "cast": casts.left_out,
+    "padding": texts.padded, "padding of none": texts.padded, "checked list": arrays.one_by_one, "cast": casts.left_out, "size of type": sizes.known,
     **dict.fromkeys(("near key", "key as written", "other word", "unread key", "unknown key"), keys.mended),
 }
 # Those of the names of a line.
@@ -81,10 +81,13 @@ def ended_alike(text: str, before: str) -> str:
 
 
 def of_loaded(text: str) -> tuple:
-    """The change of a text that loads, of checks that would be a circle, with the text that it makes; or none, with the text as it is."""
+    """The change of a text that loads and would have faults that it is known how to avoid, with the text that it makes; or none, with the text as it is."""
     whole = Whole(text) if len(text) <= MOST else None
-    found: Found = checks.own(whole) if whole and whole.outline.is_whole else Need()
-    return (found, applied(text, found)) if isinstance(found, Change) else (found, text)
+    for of_faulty in (checks.own, sizes.known) if whole and whole.outline.is_whole else ():
+        found = of_faulty(whole)
+        if isinstance(found, Change):
+            return found, applied(text, found)
+    return Need(), text
 
 
 def of_hint(text: str, refusal: Refusal, hint: Hint, library: Library) -> tuple:
