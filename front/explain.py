@@ -10,6 +10,9 @@ from front.lost import Lost
 from front.mistaken import Mistaken, Room, room_at, room_of
 from front.words import sent_words
 
+# The faults of an expression that says where something is, or how much, and the keys of such expressions.
+PLACED = ("bad-type", "overflow", "zero-divisor", "bad-index", "bad-size", "bad-number", "no-such", "no-parent")
+KEYS = ("if", "pos", "io", "size", "repeat-expr", "repeat-until")
 # The most names of members that are offered for one that isn't there.
 OFFERED = 12
 
@@ -58,7 +61,20 @@ class Explainer:
             valid = "" if valid in ("", value) else f"; {valid}" if "valid: " in valid else f"; valid: {valid}"
             circle = self.circle(path) if kind == "circle" else ""
             return [f"  ({path} is {where}{': ' if value else ''}{value}{valid}{circle})"]
-        return [f"  ({self.window(path)}the file has {self.explorer.session.size()} bytes)"] if kind == "end-of-bytes" else []
+        if kind == "end-of-bytes":
+            return [f"  ({self.window(path)}the file has {self.explorer.session.size()} bytes)"]
+        made = "" if kind not in PLACED or kind == "bad-index" and re.search(r"/\d+\Z", path) else self.made(path)
+        return [f"  ({path} has {made})"] if made else []
+
+    def made(self, path: str) -> str:
+        """The expressions that say whether something is at a path, where it is and how much; nothing where that can't be told."""
+        member = self.member(path)
+        if member is None or member.value.is_flow:
+            return member.text("type") if member else ""
+        kind = member.value.get("type")
+        switch = kind.said("switch-on") if kind and kind.kind == "map" else ""
+        said = [("switch-on", switch), *((key, member.text(key)) for key in KEYS), ("type", member.text("type") if "(" in member.text("type") and not switch else "")]
+        return "; ".join(f"{key}: {' '.join(text.split())}" for key, text in said if text)
 
     def circle(self, path: str) -> str:
         """That the check of what is at a path names it, where it does: that is a circle."""
