@@ -35,7 +35,7 @@ class Explainer:
             said = Mistaken(self.explorer.session.size, self.room, self.value).said(told, line) if self.is_terminal else ""
             return [f"  ({said})"] if said else []
         if (told == "error: bad path" or found and found[1] == "no-such") and len(words) > 1:
-            return self.lost(words[1]) if self.is_terminal else []
+            return self.lost(found[2] if found else words[1]) if self.is_terminal else []
         return self.fault(found[1], found[2]) if found else []
 
     def value(self, path: str) -> str:
