@@ -73,7 +73,8 @@ class Explainer:
             return member.text("type") if member else ""
         kind = member.value.get("type")
         switch = kind.said("switch-on") if kind and kind.kind == "map" else ""
-        said = [("switch-on", switch), *((key, member.text(key)) for key in KEYS), ("type", member.text("type") if "(" in member.text("type") and not switch else "")]
+        with_arguments = member.text("type") if "(" in member.text("type") and not switch else ""
+        said = [("switch-on", switch), *((key, member.text(key)) for key in KEYS), ("type", with_arguments)]
         return "; ".join(f"{key}: {' '.join(text.split())}" for key, text in said if text)
 
     def circle(self, path: str) -> str:
