@@ -4,6 +4,7 @@ pub use Rattle.std.proofs.Common.{append_assoc, arith, if◌then◌else◌, ◌�
 pub use Rattle.std.proofs.lemmas.Bool.{and_parts}
 pub use Rattle.std.proofs.lemmas.List.{map-append, append-nil}
 pub use Rattle.std.proofs.lemmas.Result.{err_from_is_err_and}
+pub use Rattle.std.proofs.lemmas.Grind.{common_steps}
 pub use Rattle.std.specs.Prelude.{◌==◌, take_while, IsUtf8, encode_utf8}
 pub use Rattle.ksv_expr_tree.specs.Tree.{Tree, literal, unary, binary, choice, call, index, cast, Arguments, no_arguments, argument, view}
 pub use Rattle.ksv_expr_tree.specs.Tree.{arguments_of, string}

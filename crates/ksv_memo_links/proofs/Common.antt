@@ -8,6 +8,7 @@ pub use Rattle.std.proofs.lemmas.List.{set-set, take_all, get_or_default, get_or
 pub use Rattle.std.proofs.lemmas.List.{length-set, set-get_or, get_or_append_left, length-map, get_or-map, get_or_read}
 pub use Rattle.std.proofs.lemmas.List.Elements.{Contains-append_left, Contains-append_right, Contains-push}
 pub use Rattle.std.proofs.lemmas.List.Sums.{sum_by-cons, sum_by-set}
+pub use Rattle.std.proofs.lemmas.Grind.{common_steps}
 pub use Rattle.std.specs.List.{AllPairs}
 pub use Rattle.ksv_bytes.specs.declared.uses.Change.{Change}
 pub use Rattle.ksv_bytes.specs.declared.uses.Use.{Use}

@@ -7,6 +7,7 @@ pub use Rattle.std.proofs.lemmas.List.{get_or_append_left, length-map, length_pu
 pub use Rattle.std.proofs.lemmas.List.{get_or_default}
 pub use Rattle.std.proofs.lemmas.Option.{slice_get-map, slice_get-get_or, slice_get_within, get_or_from_slice_get}
 pub use Rattle.std.proofs.lemmas.Result.{on_ok_weaker}
+pub use Rattle.std.proofs.lemmas.Grind.{common_steps}
 pub use Rattle.std.specs.List.{list_any}
 pub use Rattle.std.specs.Option.{option_map}
 pub use Rattle.ksv_expr_value.specs.declared.step.Step.{Step}

@@ -1,8 +1,7 @@
 -- A number put into a page of a table, whose descent doesn't take its index.
-use Rattle.ksv_places.proofs.Common.{◌≡◌, inl, inr, ℕ, ◌-◌, ◌≤◌, false, List, [], length, get_or, set, ◌∙◌, ap, arith}
+use Rattle.ksv_places.proofs.Common.{◌≡◌, inl, inr, ℕ, ◌-◌, ◌≤◌, false, List, [], length, get_or, set, ◌∙◌, ap, arith, common_steps}
 use Rattle.ksv_places.proofs.Common.{nat_tests, number_at, part_at, first_of_both, table_at, Pages, IsPut, IsApart, IsPartOf, refl, cases_eq}
 use Rattle.std.proofs.Common.{◌/◌, ◌%◌}
-use Rattle.std.proofs.lemmas.Grind.{common_steps}
 use Rattle.std.proofs.lemmas.List.{get_or_past}
 use Rattle.ksv_places.specs.Table.{descent_at, takes, page_at, Downwards}
 use Rattle.ksv_places.proofs.Replacing as parts

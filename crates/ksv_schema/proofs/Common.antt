@@ -4,6 +4,7 @@ pub use Rattle.std.proofs.Common.{length, get_or, drop, add-one, drop-cons, ◌+
 pub use Rattle.std.proofs.lemmas.Bool.{not-false, and_parts}
 pub use Rattle.std.proofs.lemmas.Bool.Decides.{nat_tests}
 pub use Rattle.std.proofs.lemmas.List.{drop_all, map-append}
+pub use Rattle.std.proofs.lemmas.Grind.{common_steps}
 pub use Rattle.std.specs.List.{list_all, flat_map}
 pub use Rattle.std.specs.Option.{option_map_or}
 pub use Rattle.std.specs.Prelude.{nat_lt, ◌==◌, codes, not, is_some, option_and_then, ◌||◌, ◌&&◌, slice_get}

@@ -2,6 +2,7 @@
 pub use Rattle.std.proofs.Common.{◌≡◌, ℕ, Bool, true, false, List, [], ◌∷◌, ◌++◌, length, arith, map, Option, None, refl, sym, ap, subst, ◌∙◌, zero, suc, ◌+◌}
 pub use Rattle.std.proofs.Common.{◌-◌, ◌*◌, ◌≤◌, ◌<◌, ◌≢◌, Some, append_assoc, ◌⊎◌, inl, inr, cond}
 pub use Rattle.std.proofs.lemmas.List.{append-nil}
+pub use Rattle.std.proofs.lemmas.Grind.{common_steps}
 pub use Rattle.std.specs.Prelude.{◌==◌, ◌&&◌, nat_lt}
 pub use Rattle.std.specs.Str.{bytes_eq}
 pub use Rattle.ksv_yaml_scan.proofs.Choices.{at_true, at_false, pick_true, pick_false}

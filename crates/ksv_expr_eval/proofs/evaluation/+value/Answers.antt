@@ -1,3 +1,4 @@
+use Rattle.ksv_basics.proofs.Running.{run_bind}
 -- Each form is evaluated as its meaning says, and a call of a method by how many arguments it has.
 use Rattle.std.proofs.Common.{◌≡◌, ◌≤◌, [], ◌∷◌, length, ◌⊎◌, inl, inr, ap, sym, ◌∙◌, arith}
 use Rattle.ksv_expr_eval.proofs.Cases.{of_literal, of_name, of_special, of_member, of_unary, of_binary, of_logical, of_choice, of_field, of_special_field}
@@ -70,3 +71,66 @@ value-returns-in-Index g t c = rw (c.in-Index.is, of_index, ← c.deref-in-Index
 
 pub value-returns-in-Cast : goal.value-returns-in-Cast
 value-returns-in-Cast g t c = grind (arith, of_cast)
+
+pub call_behind-returns-in_err-first : goal.call_behind-returns-in_err-first
+call_behind-returns-in_err-first g t c = grind (arith, run_bind)
+
+pub call_behind-returns-in_err-second : goal.call_behind-returns-in_err-second
+call_behind-returns-in_err-second g t c = grind (arith, run_bind)
+
+pub call_behind-returns : goal.call_behind-returns
+call_behind-returns g t c = grind (arith, run_bind)
+
+pub call_with_one-returns-in_err-object : goal.call_with_one-returns-in_err-object
+call_with_one-returns-in_err-object g t c = grind (arith, run_bind)
+
+pub call_with_one-returns-in_err-argument : goal.call_with_one-returns-in_err-argument
+call_with_one-returns-in_err-argument g t c = grind (arith, run_bind)
+
+pub call_with_one-returns : goal.call_with_one-returns
+call_with_one-returns g t c = grind (arith, run_bind)
+
+pub call_with_two-returns-in_err-object : goal.call_with_two-returns-in_err-object
+call_with_two-returns-in_err-object g t c = grind (arith, run_bind)
+
+pub call_with_two-returns : goal.call_with_two-returns
+call_with_two-returns g t c = grind (arith, run_bind)
+
+pub cast_expr-returns-in_err-object : goal.cast_expr-returns-in_err-object
+cast_expr-returns-in_err-object g t c = grind (arith, run_bind)
+
+pub cast_expr-returns : goal.cast_expr-returns
+cast_expr-returns g t c = grind (arith, run_bind)
+
+pub field_expr-returns-in_err-object : goal.field_expr-returns-in_err-object
+field_expr-returns-in_err-object g t c = grind (arith, run_bind)
+
+pub field_expr-returns : goal.field_expr-returns
+field_expr-returns g t c = grind (arith, run_bind)
+
+pub index_expr-returns-in_err-list : goal.index_expr-returns-in_err-list
+index_expr-returns-in_err-list g t c = grind (arith, run_bind)
+
+pub index_expr-returns-in_err-place : goal.index_expr-returns-in_err-place
+index_expr-returns-in_err-place g t c = grind (arith, run_bind)
+
+pub index_expr-returns : goal.index_expr-returns
+index_expr-returns g t c = grind (arith, run_bind)
+
+pub special_field_expr-returns-in_err-object : goal.special_field_expr-returns-in_err-object
+special_field_expr-returns-in_err-object g t c = grind (arith, run_bind)
+
+pub special_field_expr-returns : goal.special_field_expr-returns
+special_field_expr-returns g t c = grind (arith, run_bind)
+
+pub truth_of-returns-in_err-value : goal.truth_of-returns-in_err-value
+truth_of-returns-in_err-value g t c = grind (arith, run_bind)
+
+pub truth_of-returns : goal.truth_of-returns
+truth_of-returns g t c = grind (arith, run_bind)
+
+pub unary_expr-returns-in_err-operand : goal.unary_expr-returns-in_err-operand
+unary_expr-returns-in_err-operand g t c = grind (arith, run_bind)
+
+pub unary_expr-returns : goal.unary_expr-returns
+unary_expr-returns g t c = grind (arith, run_bind)

@@ -1,4 +1,4 @@
-use Rattle.ksv_expr_syntax.proofs.Common.{◌≡◌, List, ℕ, [], ◌∷◌, ◌++◌, map, string_bytes, arith, ap, ◌∙◌, map-append, lexemes}
+use Rattle.ksv_expr_syntax.proofs.Common.{◌≡◌, List, ℕ, [], ◌∷◌, ◌++◌, map, string_bytes, arith, ap, ◌∙◌, map-append, lexemes, common_steps}
 use Rattle.ksv_expr_syntax.proofs.Loops.{path_goes_on}
 use Rattle.ksv_expr_syntax.proofs.cursor.path.Goals as goal
 
@@ -13,3 +13,6 @@ names-preserved c =
       same = c.names.invariant.same;
       shorter = omega (arith, c.names.invariant.shorter, c.in-Some.ensures.shorter, c.in-Some-behind.ensures.shorter);
     }
+
+pub returns-in_default-behind-clause-is : goal.returns-in_default-behind-clause-is
+returns-in_default-behind-clause-is c = grind (arith, common_steps)

@@ -1,4 +1,5 @@
-use Rattle.ksv_memo.proofs.Common.{◌≡◌, ap, refl, sym, subst, inl, inr, Some, Opens, Replies, nodes}
+use Rattle.std.proofs.lemmas.Grind.{pieces}
+use Rattle.ksv_memo.proofs.Common.{◌≡◌, ap, refl, sym, subst, inl, inr, Some, Opens, Replies, nodes, arith}
 use Rattle.ksv_memo.specs.Nodes.{KeepsNode, is_there}
 use Rattle.ksv_memo_rules.specs.Folds.{first_of}
 use Rattle.ksv_memo.specs.Folding.{FailsToLend, LendsTo, IsRun, viewed, with_folded}
@@ -87,3 +88,6 @@ returns-in_ok-lend-in-Ok-None-clause-run g c =
 pub returns-in_ok-lend-in-Ok-None-clause-ok : goal.returns-in_ok-lend-in-Ok-None-clause-ok
 returns-in_ok-lend-in-Ok-None-clause-ok g c =
     inl (lent g (goal.at.returns-in_ok-lend-in-Ok-None-clause-ok g c).After-lend c.in_ok-lend-in-Ok-None.ensures.ok).1
+
+pub returns-in_default-clause-run : goal.returns-in_default-clause-run
+returns-in_default-clause-run g c = search (pieces, arith) depth 5 fits 300

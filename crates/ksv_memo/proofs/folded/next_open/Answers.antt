@@ -1,4 +1,4 @@
-use Rattle.ksv_memo.proofs.Common.{ℕ, List, Result, sym, subst, nodes}
+use Rattle.ksv_memo.proofs.Common.{ℕ, List, Result, sym, subst, nodes, arith, common_steps}
 use Rattle.ksv_memo.specs.Nodes.{Nodes}
 use Rattle.ksv_memo.specs.Folding.{IsRun}
 use Rattle.ksv_memo.proofs.Absorbing.{far-run, first-now, next-is, right-next, told-now}
@@ -37,3 +37,6 @@ returns-clause-run g c =
     (sym c.foldable-count.ensures.nodes)
     (far-run q g.R.Fold.Folds.fold run (nodes c.args.table.now) c.requires.run c.args.answer.now c.requires.reached c.in_ok-place.place
     c.in_ok-place.ensures.some c.min-run.result c.min-run.ensures)
+
+pub returns-clause-none : goal.returns-clause-none
+returns-clause-none g c = grind (arith, common_steps)

@@ -1,4 +1,4 @@
-use Rattle.ksv_memo.proofs.Common.{◌≤◌, subst, arith, Frame}
+use Rattle.ksv_memo.proofs.Common.{◌≤◌, subst, arith, Frame, common_steps}
 use Rattle.ksv_memo.specs.Folding.{IsNoneBelow}
 use Rattle.ksv_memo.proofs.Leasts.{next_lower, below_own, below_none}
 use Rattle.ksv_memo.proofs.frames.least_place.Goals.{in-Some, in-None}
@@ -29,3 +29,6 @@ loop-frame-preserved g c =
                 (below_none f c.match-place_in.least c.frame-item.result.node (omega arith) w.in-None.ensures.none)),
           )
     ]
+
+pub returns-clause-apart : goal.returns-clause-apart
+returns-clause-apart g c = grind (arith, common_steps)

@@ -1,4 +1,5 @@
-use Rattle.ksv_memo.proofs.Common.{sym, subst, refl, ◌∙◌, zip, IsDistinct}
+use Rattle.std.proofs.lemmas.Grind.{elements}
+use Rattle.ksv_memo.proofs.Common.{sym, subst, refl, ◌∙◌, zip, IsDistinct, arith}
 use Rattle.std.proofs.lemmas.Map.Made.{keys_of-zip}
 use Rattle.ksv_memo_rules.specs.declared.replies.Slot.TheVariants.{Value, Fault}
 use Rattle.ksv_memo.proofs.Finding.{kept_there}
@@ -53,3 +54,9 @@ returns-in-Value-clause-unique g c = subst (IsDistinct g.N.PartialEq.eq)
 pub returns-in-Fault-clause-unique : goal.returns-in-Fault-clause-unique
 returns-in-Fault-clause-unique g c = subst (IsDistinct g.N.PartialEq.eq)
     (sym (keys_of-zip (g.P.Places.nodes c.find.new.self) c.args.slots.now (cc))) c.in-Some.ensures.unique
+
+pub offset_bounds-slots-place : goal.offset_bounds-slots-place
+offset_bounds-slots-place g c = grind (arith, elements)
+
+pub bounds-slots-place : goal.bounds-slots-place
+bounds-slots-place g c = grind (arith, elements)

@@ -1,4 +1,5 @@
-use Rattle.ksv_memo.proofs.Common.{[], ◌∷◌, arith}
+use Rattle.std.proofs.lemmas.Grind.{elements}
+use Rattle.ksv_memo.proofs.Common.{[], ◌∷◌, arith, common_steps}
 use Rattle.ksv_memo.proofs.Emptying.{taken-none, taken-more, taken-all}
 use Rattle.ksv_memo.proofs.table.empty_taken.Goals as goal
 
@@ -19,3 +20,9 @@ returns g c =
     let h = c.loop-slot.invariant in
     taken-all _ _ _ _ _ _ _
     _ h.1 c.in_default.ensures.none
+
+pub empty-requires : goal.empty-requires
+empty-requires g c = grind (arith, elements)
+
+pub loop-slot-smaller : goal.loop-slot-smaller
+loop-slot-smaller g c = grind (arith, common_steps)

@@ -1,5 +1,5 @@
 use Rattle.ksv_memo_links.proofs.Common.{◌≡◌, ℕ, ◌+◌, ◌<◌, List, [], ◌∷◌, ◌++◌, length, map, take, get_or, sym, ◌∙◌, ap, map-append, append-nil, Use, Bytes}
-use Rattle.ksv_memo_links.proofs.Common.{pages_in, list_of_page}
+use Rattle.ksv_memo_links.proofs.Common.{pages_in, list_of_page, arith, common_steps}
 use Rattle.std.proofs.lemmas.List.{take_more}
 use Rattle.std.proofs.lemmas.Grind.{flat_map-append}
 use Rattle.ksv_memo_links.specs.Touching.{pages_of}
@@ -20,3 +20,6 @@ loop-used-preserved c =
     ∙ ap (λ ns. ns ++ map list_of_page (pages_of (get_or us i (Bytes 0 0)))) c.loop-used.invariant
     ∙ sym (map-append list_of_page (pages_in (take i us)) (pages_of (get_or us i (Bytes 0 0))))
     ∙ ap (map list_of_page) (sym (pages-more us i c.loop-used-test.true))
+
+pub returns : goal.returns
+returns c = grind (arith, common_steps)

@@ -1,4 +1,5 @@
-use Rattle.ksv_questions.proofs.Common.{Node, bytes_of, desc_of}
+use Rattle.std.proofs.lemmas.Grind.{common_steps}
+use Rattle.ksv_questions.proofs.Common.{Node, bytes_of, desc_of, arith}
 use Rattle.std.specs.declared.alloc.AllocError.{AllocError}
 use Rattle.ksv_questions.specs.Code.{plain_answer}
 use Rattle.ksv_questions.proofs.AskLemmas.{asked_is, hears, heard_one}
@@ -13,3 +14,9 @@ returns g c =
     (asked_is d b n c.in_ok-answer.answer c.in_ok-answer.ensures.answer) c.heard.ensures
     (heard_one d b n AllocError c.args.engine.now c.ask.new.self c.in_ok-answer.answer c.in_ok-answer.ensures.answer c.in_ok-answer.ensures.right
     c.in_ok-answer.ensures.kept c.in_ok-answer.ensures.turns))
+
+pub returns-in_err-path : goal.returns-in_err-path
+returns-in_err-path g c = grind (arith, common_steps)
+
+pub returns-in_err-answer : goal.returns-in_err-answer
+returns-in_err-answer g c = grind (arith, common_steps)

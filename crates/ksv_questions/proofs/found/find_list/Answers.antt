@@ -1,4 +1,5 @@
-use Rattle.ksv_questions.proofs.Common.{◌∙◌, None, subst, sym, Runs, bytes_of, desc_of, found_of, find_list}
+use Rattle.std.proofs.lemmas.Grind.{common_steps}
+use Rattle.ksv_questions.proofs.Common.{◌∙◌, None, subst, sym, Runs, bytes_of, desc_of, found_of, find_list, arith}
 use Rattle.ksv_questions.proofs.Steps.{runs_settled}
 use Rattle.ksv_questions.proofs.found.find_list.Goals as goal
 
@@ -16,3 +17,6 @@ returns-in-None g c =
     subst (λ o. Runs d b (find_list d c.args.list.now o) (λ r. found_of r) c.args.engine.now c.args.engine.now c.uncounted.result)
     (sym c.in-None.is ∙ c.in_ok-first.ensures)
     (runs_settled d b (find_list d c.args.list.now None) (λ r. found_of r) c.args.engine.now c.uncounted.result c.requires c.uncounted.ensures)
+
+pub returns-in_err-first : goal.returns-in_err-first
+returns-in_err-first g c = grind (arith, common_steps)

@@ -1,4 +1,4 @@
-use Rattle.ksv_schema_names.proofs.Common.{refl, ap, ◌∙◌, [], ◌∷◌, ◌++◌, map, pair, row_of}
+use Rattle.ksv_schema_names.proofs.Common.{refl, ap, ◌∙◌, [], ◌∷◌, ◌++◌, map, pair, row_of, arith, common_steps}
 use Rattle.std.proofs.lemmas.List.{map-append}
 use Rattle.ksv_schema_names.specs.Rows.{named_row}
 use Rattle.ksv_schema_names.proofs.Made.{added}
@@ -10,3 +10,6 @@ loop-name-preserved c =
     (ap (map row_of) c.in_ok-push.ensures.items ∙ map-append row_of c.loop-name.rows.items (c.named_row.result ∷ [])
     ∙ ap (λ r. map row_of c.loop-name.rows.items ++ r ∷ []) c.named_row.ensures)
     c.loop-name.invariant
+
+pub returns : goal.returns
+returns c = grind (arith, common_steps)

@@ -1,4 +1,5 @@
-use Rattle.std.proofs.Common.{◌∙◌, ◌++◌, [], ◌∷◌, Err, Ok, ap, get_or, take}
+use Rattle.std.proofs.lemmas.Grind.{common_steps}
+use Rattle.std.proofs.Common.{◌∙◌, ◌++◌, [], ◌∷◌, Err, Ok, ap, get_or, take, arith}
 use Rattle.ksv_session.specs.Explored.{description_of}
 use Rattle.ksv_session.specs.Runs.{took}
 use Rattle.ksv_session.proofs.AnswerLemmas.{fed_at, fed_false, fed_true, more_taken, not_line_end}
@@ -51,3 +52,6 @@ loop-byte-preserved g c = elim c.if-byte-eq10.branch [
     ap description_of w.session-is ∙ c.loop-byte.invariant.2,
   )
 ]
+
+pub returns-clause-goes : goal.returns-clause-goes
+returns-clause-goes g c = grind (arith, common_steps)

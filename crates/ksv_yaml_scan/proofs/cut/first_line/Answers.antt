@@ -1,6 +1,5 @@
-use Rattle.ksv_yaml_scan.proofs.Common.{◌≡◌, ℕ, ◌+◌, List, [], ◌∷◌, length, take, drop, ap, sym, ◌∙◌, arith, true, false, cut_lines}
+use Rattle.ksv_yaml_scan.proofs.Common.{◌≡◌, ℕ, ◌+◌, List, [], ◌∷◌, length, take, drop, ap, sym, ◌∙◌, arith, true, false, cut_lines, common_steps}
 use Rattle.std.proofs.Common.{◌-◌, length-drop}
-use Rattle.std.proofs.lemmas.Grind.{common_steps}
 use Rattle.std.proofs.lemmas.List.{take_all}
 use Rattle.ksv_yaml_scan.proofs.Cutting.{raw, cut_first, cut_only}
 use Rattle.ksv_yaml_scan.proofs.cut.first_line.Goals as goal

@@ -1,5 +1,4 @@
-use Rattle.ksv_yaml_scan.proofs.Common.{sym, arith}
-use Rattle.std.proofs.lemmas.Grind.{common_steps}
+use Rattle.ksv_yaml_scan.proofs.Common.{sym, arith, common_steps}
 use Rattle.ksv_yaml_scan.proofs.Spaces.{shown_comment, shown_other, shown_nothing}
 use Rattle.ksv_yaml_scan.proofs.white.shown.Goals as goal
 

@@ -1,3 +1,4 @@
+use Rattle.std.proofs.lemmas.Grind.{common_steps}
 use Rattle.std.proofs.Common.{◌∙◌, ◌<◌, ◌≤◌, not, sym, ap, subst, arith}
 use Rattle.ksv_folds.proofs.Retold.{told_few, sized_told}
 use Rattle.ksv_folds.proofs.plain_list.PlainList.retell_sized.Goals as goal
@@ -23,3 +24,6 @@ returns c =
     c.told_elements-told.ensures.all (omega arith) (told_few p told c.args.kept c.requires.says c.told_elements-told.ensures.told (omega arith))
     (subst (λ n. told < p.most → told < n) (sym c.close_if.ensures.most) c.renew.ensures.more)
     (subst (λ n. told ≤ n) (sym c.close_if.ensures.most) c.renew.ensures.some)
+
+pub renew-requires-clause-few : goal.renew-requires-clause-few
+renew-requires-clause-few c = grind (arith, common_steps)

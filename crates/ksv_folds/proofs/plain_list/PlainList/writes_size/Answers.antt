@@ -1,3 +1,4 @@
+use Rattle.std.proofs.lemmas.Grind.{common_steps}
 use Rattle.std.proofs.Common.{◌≡◌, ◌∙◌, ◌+◌, ap, arith, suc}
 use Rattle.ksv_folds.proofs.Rooms.{edge_up, edge_within}
 use Rattle.ksv_folds.proofs.plain_list.PlainList.writes_size.Goals as goal
@@ -23,3 +24,6 @@ parts-requires-clause-inside c =
     let next : c.sizer-field.result + 1 ≡ suc (sizer p) = omega (arith, field) in
     let to = c.edge_at-to.ensures.value ∙ ap (edge_of p c.args.element) next in
     let within = c.requires.within in omega (arith, up, to, within)
+
+pub integer_value-requires : goal.integer_value-requires
+integer_value-requires c = grind (arith, common_steps)

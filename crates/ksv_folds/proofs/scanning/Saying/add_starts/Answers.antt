@@ -1,3 +1,4 @@
+use Rattle.std.proofs.lemmas.Grind.{common_steps, elements}
 use Rattle.std.proofs.Common.{◌≡◌, ◌∙◌, ◌-◌, ◌++◌, ◌∷◌, [], not, ap, sym, arith, length, if◌then◌else◌}
 use Rattle.std.specs.Result.{is_ok}
 use Rattle.std.proofs.Common.{true}
@@ -20,3 +21,9 @@ loop-self-preserved c =
     let test = c.loop-self-test.true in
     add_one c.args.self.size c.args.limit c.args.starts.now.items ss c.push.new.self.items next items c.requires.some (omega arith)
     (let le = c.in-Some.ensures.0 in omega (arith, last, le)) c.in-Some.ensures.1 c.loop-self.invariant
+
+pub loop-self-init : goal.loop-self-init
+loop-self-init c = grind (arith, common_steps)
+
+pub end_of-requires : goal.end_of-requires
+end_of-requires c = grind (arith, elements)

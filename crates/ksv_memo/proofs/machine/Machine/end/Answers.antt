@@ -1,4 +1,4 @@
-use Rattle.ksv_memo.proofs.Common.{◌∙◌, ℕ, List, Result, nodes}
+use Rattle.ksv_memo.proofs.Common.{◌∙◌, ℕ, List, Result, nodes, arith, common_steps}
 use Rattle.ksv_memo.proofs.Turns.{on_err_always}
 use Rattle.ksv_memo.proofs.Taking.{Asking, asking, closes_last, closes_left}
 use Rattle.ksv_memo.proofs.machine.Machine.end.Given
@@ -19,3 +19,6 @@ returns-clause-ok g c =
     let old = c.args.self.now.table in
     closes_last (asks g c.args.rules.now c.args.bytes.now) old.kept old.opened _ _ (nodes c.close.new.self)
     c.requires.reached c.in_ok-close.ensures.ok c.requires.alone (c.in_ok-reply.ensures ∙ c.lend.ensures)
+
+pub returns-in_err-reply-clause-err : goal.returns-in_err-reply-clause-err
+returns-in_err-reply-clause-err g c = grind (arith, common_steps)

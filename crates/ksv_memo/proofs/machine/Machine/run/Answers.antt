@@ -1,4 +1,4 @@
-use Rattle.ksv_memo.proofs.Common.{rules, List, ℕ, Result, ◌∙◌, ap, sym, subst, Need, Done, IsRight, nodes}
+use Rattle.ksv_memo.proofs.Common.{rules, List, ℕ, Result, ◌∙◌, ap, sym, subst, Need, Done, IsRight, nodes, arith, common_steps}
 use Rattle.ksv_memo_rules.specs.Right.{counted}
 use Rattle.std.proofs.lemmas.Result.{IfOk-weaker, on_err_weaker}
 use Rattle.ksv_memo.proofs.Turns.{on_err_always}
@@ -157,3 +157,9 @@ returns-in-Err-ask g c =
 -- what the closed node has reached
 pub close-requires : goal.close-requires
 close-requires g c = reached (asks g c.args.rules.now c.args.bytes.now) (done g (goal.at.close-requires g c).In-Ok-Done)
+
+pub returns-in_err-known-clause-left : goal.returns-in_err-known-clause-left
+returns-in_err-known-clause-left g c = grind (arith, common_steps)
+
+pub returns-in-Err-clause-left : goal.returns-in-Err-clause-left
+returns-in-Err-clause-left g c = grind (arith, common_steps)

@@ -1,4 +1,4 @@
-use Rattle.ksv_memo.proofs.Common.{◌∙◌, ◌++◌, ◌∷◌, [], ap, sym, list_any, zip}
+use Rattle.ksv_memo.proofs.Common.{◌∙◌, ◌++◌, ◌∷◌, [], ap, sym, list_any, zip, arith, common_steps}
 use Rattle.ksv_memo_rules.specs.declared.replies.Slot.TheVariants.{Open}
 use Rattle.ksv_memo.proofs.Zipping.{any-zip, push-zip}
 use Rattle.ksv_memo.proofs.slots.Slots.add.Goals as goal
@@ -17,3 +17,6 @@ returns-clause-ok g c =
     let slots = c.push_reserved.ensures.items ∙ ap (λ ss. ss ++ Open ∷ []) c.reserve.ensures.items in
     (λ i. zip (c.in_ok-add.ensures.ok i) (slots i)) ∙ push-zip (g.P.Places.nodes t.places) t.slots.items c.args.node.now Open c.self.invariant
     ∙ ap (λ v. v.entries ++ (c.args.node.now, Open) ∷ []) c.self.view_is
+
+pub invariant_of-self-2 : goal.invariant_of-self-2
+invariant_of-self-2 g c = grind (arith, common_steps)

@@ -1,3 +1,4 @@
+use Rattle.ksv_memo.proofs.Common.{common_steps, arith}
 use Rattle.ksv_memo.proofs.Common.{◌≤◌, ◌∙◌, ap, refl, sym, subst, length, slice_get_within, EndsWith, IsKept, entries_of, opens_of, Closes, MayKeep, nodes}
 use Rattle.std.proofs.Common.{◌==◌}
 use Rattle.ksv_memo.proofs.Laying.{All-drop}
@@ -109,3 +110,9 @@ returns-in_err-hear-clause-waiting g c =
     c.in_err-hear.ensures.err))
 
 -- c
+
+pub slice_bounds-uses-start : goal.slice_bounds-uses-start
+slice_bounds-uses-start g c = grind (arith, common_steps)
+
+pub slice_bounds-asked-start : goal.slice_bounds-asked-start
+slice_bounds-asked-start g c = grind (arith, common_steps)

@@ -1,4 +1,4 @@
-use Rattle.ksv_memo.proofs.Common.{◌∙◌, ap, nodes_in, on}
+use Rattle.ksv_memo.proofs.Common.{◌∙◌, ap, nodes_in, on, arith, common_steps}
 use Rattle.ksv_memo.proofs.Topping.{called-laid, called-nodes}
 use Rattle.ksv_memo.proofs.table.Table.turn.Goals as goal
 
@@ -13,3 +13,6 @@ pub returns-clause-waiting : goal.returns-clause-waiting
 returns-clause-waiting g c =
     called-nodes c.self.inside.slots.entries c.self.inside.frames c.run_last.new.frames c.run_last.ensures.frames c.run_last.ensures.asked
     ∙ ap (λ v. nodes_in v.opened) c.self.view_is
+
+pub returns-clause-step : goal.returns-clause-step
+returns-clause-step g c = grind (arith, common_steps)

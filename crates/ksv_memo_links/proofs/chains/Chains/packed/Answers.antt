@@ -1,4 +1,4 @@
-use Rattle.ksv_memo_links.proofs.Common.{◌≡◌, ◌<◌, [], length, get_or, sym, ◌∙◌, ap, subst, arith, get_or_past, row}
+use Rattle.ksv_memo_links.proofs.Common.{◌≡◌, ◌<◌, [], length, get_or, sym, ◌∙◌, ap, subst, arith, get_or_past, row, common_steps}
 use Rattle.ksv_memo_links.proofs.Linking.{named-length}
 use Rattle.ksv_memo_links.proofs.Items.{lists-length}
 use Rattle.ksv_memo_links.proofs.Packing.{copied-more, copied-all, list-there}
@@ -76,3 +76,6 @@ returns-clause-named c =
     let b = ap length c.as_slice-owners.ensures.value in
     let t = c.loop-owner-test.false in
     copied-all c.loop-owner.invariant.copied (omega arith)
+
+pub copy_row-requires : goal.copy_row-requires
+copy_row-requires c = grind (arith, common_steps)

@@ -1,4 +1,4 @@
-use Rattle.ksv_memo_links.proofs.Common.{refl, sym, ◌∙◌, arith, Parts}
+use Rattle.ksv_memo_links.proofs.Common.{refl, sym, ◌∙◌, arith, Parts, common_steps}
 use Rattle.ksv_memo_links.proofs.Keeping.{same_whole, filled_whole}
 use Rattle.ksv_memo_links.proofs.parts.Parts.keep.Goals as goal
 
@@ -26,3 +26,6 @@ returns-clause-ok c =
       in_uses = omega arith;
       waits = c.keep.ensures.work ∙ sym c.requires.idle;
     }
+
+pub fill-requires-clause-asked_in : goal.fill-requires-clause-asked_in
+fill-requires-clause-asked_in c = grind (arith, common_steps)

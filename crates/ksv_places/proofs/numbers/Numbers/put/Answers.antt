@@ -1,5 +1,4 @@
-use Rattle.ksv_places.proofs.Common.{◌≡◌, ℕ, ◌<◌, ◌∙◌, List, length, set, arith, get_or-set_same, get_or-set_other, number_at, IsPut}
-use Rattle.std.proofs.lemmas.Grind.{common_steps}
+use Rattle.ksv_places.proofs.Common.{◌≡◌, ℕ, ◌<◌, ◌∙◌, List, length, set, arith, get_or-set_same, get_or-set_other, number_at, IsPut, common_steps}
 use Rattle.ksv_places.proofs.numbers.Numbers.put.Goals as goal
 use Rattle.ksv_places.proofs.numbers.Numbers.put.Goals.{then-len-index-2+in_ok-resize, else-len-index-2}
 

@@ -1,5 +1,4 @@
-use Rattle.ksv_schema.proofs.Common.{◌∙◌, arith, pair, constant}
-use Rattle.std.proofs.lemmas.Grind.{common_steps}
+use Rattle.ksv_schema.proofs.Common.{◌∙◌, arith, pair, constant, common_steps}
 use Rattle.ksv_schema_names.specs.Enums.{number_of, id_of, is_numbered, is_named}
 use Rattle.ksv_schema.specs.Description.{is_number_again, is_id_again}
 use Rattle.ksv_schema.specs.Plain.{has_number, has_id}

@@ -1,4 +1,6 @@
-use Rattle.ksv_schema.proofs.Common.{map, option_map, codes, entry_at, pair, view, must, expression}
+use Rattle.ksv_desc.proofs.Dots as Dots
+use Rattle.ksv_schema.proofs.Noted as Noted
+use Rattle.ksv_schema.proofs.Common.{map, option_map, codes, entry_at, pair, view, must, expression, arith}
 use Rattle.ksv_desc.specs.Description.{ParseInstance}
 use Rattle.ksv_desc.specs.Pieces.{plain_field}
 use Rattle.ksv_schema.specs.declared.keys.forms.MappingKind.TheVariants as kinds
@@ -18,3 +20,7 @@ returns-in-Some c =
     (perhaps (expression h sites.Stream) (entry_at (codes "io") es)) (own_field h kinds.ParseInstance c.args.line es)
     view (λ e. option_map view e) plain_field _ _ _ _ _ _ _ _ _ c.in_ok-at.ensures (rw c.in-Some.is at c.in_ok-read.ensures)
     (rw c.find.ensures at c.in_ok-place.ensures) (rw c.find-2.ensures at c.perhaps_expression-stream.ensures) c.own_field-field.ensures
+
+pub returns-in-None : goal.returns-in-None
+unfolding parse_instance
+returns-in-None c = grind (arith, Noted.steps, Dots.steps)

@@ -1,0 +1,16 @@
+use Rattle.ksv_rule_meaning.specs.Choosing.{first_case}
+use Rattle.std.proofs.Common.{arith}
+use Rattle.std.proofs.lemmas.Grind.{common_steps}
+use Rattle.ksv_rules.proofs.choosing.matching_case.Goals as goal
+
+pub returns-then-is_case_of : goal.returns-then-is_case_of
+unfolding first_case
+returns-then-is_case_of c = grind (arith, common_steps)
+
+pub loop-case-preserved : goal.loop-case-preserved
+unfolding first_case
+loop-case-preserved c = grind (arith, common_steps)
+
+pub returns : goal.returns
+unfolding first_case
+returns c = grind (arith, common_steps)

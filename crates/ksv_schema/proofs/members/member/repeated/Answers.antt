@@ -1,0 +1,13 @@
+use Rattle.ksv_schema.proofs.Common.{arith}
+use Rattle.ksv_schema.specs.Members.{repeated}
+use Rattle.ksv_desc.proofs.Dots as Dots
+use Rattle.ksv_schema.proofs.Noted as Noted
+use Rattle.ksv_schema.proofs.members.member.repeated.Goals as goal
+
+pub returns-in-Some : goal.returns-in-Some
+unfolding repeated
+returns-in-Some c = grind (arith, Noted.steps, Dots.steps)
+
+pub returns-in-None : goal.returns-in-None
+unfolding repeated
+returns-in-None c = grind (arith, Noted.steps, Dots.steps)
